@@ -1,0 +1,20 @@
+-- `leaves::float::of_bits` meets its contract: the test finds the NaN's patterns. Assumes nothing.
+use borrow.Author.Needs.{needs}
+use mathlib.Core.Path.{sym}
+use lib.Ieee.{ofBits, div}
+use Rattle.leaves.proofs.Patterns.{above-inf, up-to-inf}
+use Rattle.leaves.proofs.float.of_bits.Statement.{statement}
+use Rattle.leaves.proofs.float.of_bits.Tie as tie
+
+float-from-bits-result : tie.Need-float-from-bits-result
+float-from-bits-result c = up-to-inf (c .before .args .bits) (search needs)
+
+returns : tie.Need-returns
+unfolding div ofBits
+returns c = sym (above-inf (c .before .args .bits) (search needs))
+
+returns-2 : tie.Need-returns-2
+returns-2 c = search needs
+
+pub of-bits-spec : {M : Type 1} → statement M
+of-bits-spec = tie.close (tie.spec float-from-bits-result returns returns-2)

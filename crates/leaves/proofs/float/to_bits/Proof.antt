@@ -1,0 +1,22 @@
+-- `leaves::float::to_bits` meets its contract: only the NaN differs from itself. Assumes nothing.
+use borrow.Author.Needs.{needs}
+use mathlib.Core.Path.{sym, ap, subst}
+use lib.Dec.{T}
+use lib.Ieee.{binary32, toBits}
+use lib.Ieee.Compare.{differs-from-itself}
+use Rattle.leaves.proofs.Patterns.{same-not-nan}
+use Rattle.leaves.proofs.float.to_bits.Statement.{statement}
+use Rattle.leaves.proofs.float.to_bits.Tie as tie
+
+float-to-bits-result : tie.Need-float-to-bits-result
+float-to-bits-result c = same-not-nan _ (c .if1 .left)
+
+returns : tie.Need-returns
+unfolding toBits
+returns c = sym (ap (toBits binary32) (differs-from-itself _ (subst T (sym (c .if1 .taken)) tt)))
+
+returns-2 : tie.Need-returns-2
+returns-2 c = search needs
+
+pub to-bits-spec : {M : Type 1} → statement M
+to-bits-spec = tie.close (tie.spec float-to-bits-result returns returns-2)

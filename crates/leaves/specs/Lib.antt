@@ -1,0 +1,11 @@
+-- What the contracts of the leaves cite, and the worked values.
+pub mod Words
+pub mod Parts
+pub mod Bytes
+pub mod Floats
+pub mod Floors
+pub mod Lengths
+pub mod Position
+pub mod Series
+pub mod Sine
+pub mod Worked

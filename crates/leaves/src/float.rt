@@ -1,0 +1,42 @@
+// A float's 32-bit pattern, read and written. Every pattern of a NaN is read as the one NaN, and
+// the NaN is written as hex 7FC00000.
+ghost use mathlib.Core.Path.{_≡_};
+ghost use Prim.Native.Nat.{_+_, _*_, _≤_};
+ghost use lib.ListN.{length};
+ghost use lib.Ieee.{binary32, ofBits, toBits};
+ghost use Rattle.leaves.specs.Words.{words};
+ghost use Rattle.leaves.specs.Floats.{floatAt, setFloat};
+use crate::bytes::put_word;
+use crate::bytes::word_at;
+
+pub fn of_bits(bits: u32) -> f32
+    ensures { λ r. ⌜ r ≡ ofBits binary32 bits ⌝ }
+{
+    if bits % 0x8000_0000 > 0x7f80_0000 {
+        0.0 / 0.0
+    } else {
+        f32::from_bits(bits)
+    }
+}
+
+pub fn to_bits(x: f32) -> u32
+    ensures { λ r. ⌜ r ≡ toBits binary32 x ⌝ }
+{
+    if x != x { 0x7fc0_0000 } else { f32::to_bits(x) }
+}
+
+// The float at word k.
+pub fn load(mem: &[u8], k: usize) -> f32
+    requires { ⌜ 4 * k + 4 ≤ length (now mem) ⌝ }
+    ensures { λ r. ⌜ r ≡ floatAt (words (now (mem .entry))) k ⌝ }
+{
+    of_bits(word_at(mem, k))
+}
+
+// Stores a float at word k.
+pub fn store(mem: &mut [u8], k: usize, x: f32)
+    requires { ⌜ 4 * k + 4 ≤ length (now mem) ⌝ }
+    ensures { λ _. ⌜ words (now (mem .exit)) ≡ setFloat (words (now (mem .entry))) k x ⌝ }
+{
+    put_word(mem, k, to_bits(x));
+}

@@ -1,0 +1,7 @@
+// The leaves of the plate tank: numbers and floats in lent bytes, the sine, lengths from
+// milliseconds, and where a modulated all-pass reads.
+pub mod bytes;
+pub mod float;
+pub mod lengths;
+pub mod position;
+pub mod sine;
