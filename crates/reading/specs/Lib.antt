@@ -1,0 +1,15 @@
+pub mod Table
+pub mod Order
+pub mod Visit
+pub mod Board
+pub mod Calls
+pub mod Blocks
+pub mod Reading
+pub mod Keeps
+pub mod Time
+pub mod Encode
+pub mod Ring
+pub mod Places
+pub mod Flat
+pub mod Tail
+pub mod Memory
