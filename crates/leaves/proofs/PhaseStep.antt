@@ -1,13 +1,12 @@
 -- A phase from 0 to 1 stays there at every frequency from 0 to 44,100, and a phase of exactly 1 is one of its states. Assumes nothing.
 -- f / 44100 is at most 1, so the sum is at most 2, and a sum above 1 is at most 1 once 1 is taken off. Rounding keeps each bound.
-use mathlib.Core.Path.{_≡_, refl, subst}
+use mathlib.Core.Path.{_≡_, refl}
 use mathlib.Core.Bool.{Bool, true, false, cond, false≢true}
-use Prim.Native.Nat.{ℕ, _*_, _≤_, _<_}
+use Prim.Native.Nat.{_*_, _≤_, _<_}
 use native.Mathlib.Omega.{arith}
 use lib.Dec.{T, ltb, lit<, lit≤}
 use borrow.Author.Tests.{ltb-true, ltb-false}
-use lib.IntN.{pos}
-use lib.Ieee.{Float, nan, inf, fin, binary32, up, down, round, sum, add, sub, neg, div, lt, fits}
+use lib.Ieee.{Float, nan, inf, fin, binary32, up, down, sum, add, sub, neg, div, lt, fits}
 use lib.Ieee.Fits.{down-pos, add-fits, sub-fits, cond-fits}
 use Rattle.leaves.specs.Floors.{whole, zeroF, within, Upto}
 use Rattle.leaves.specs.Phase.{increment, turnedBack, advance, phaseAfter}

@@ -2,10 +2,9 @@
 use mathlib.Core.Path.{_≡_, refl, ap, _∙_}
 use mathlib.Core.Bool.{Bool, true, false, cond, false≢true}
 use Prim.Native.Nat.{ℕ, _+_, _-_, _*_, _^_, _≤_, _<_}
-use native.Mathlib.Nat.{le-trans, le-of-eq, zero-mul, add-mul, mul-assoc, mul-comm, mul-le-mul-right, mul-pos}
+use native.Mathlib.Nat.{le-trans, le-of-eq, add-mul, mul-assoc, mul-comm, mul-le-mul-right, mul-pos}
 use native.Mathlib.Omega.{arith}
 use lib.Dec.{ltb}
-use lib.IntN.{ℤ}
 use lib.Ieee.{Float, nan, inf, fin, binary32, up, down, round, sum, add}
 use lib.Ieee.Fits.{down-pos}
 use Rattle.leaves.specs.Floors.{Upto}
