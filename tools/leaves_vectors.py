@@ -8,7 +8,7 @@ with two words for each. The answers are worked out here from document 01 alone,
 import struct
 import sys
 from fractions import Fraction
-from math import floor
+from math import exp, floor, pi
 
 NAN = 0x7FC0_0000
 INF = 0x7F80_0000
@@ -109,6 +109,9 @@ def within(x, most):
 
 ONE, THOUSAND, RATE = bits(1.0), bits(1000.0), bits(44100.0)
 
+# near enough: neither lies close to half-way between two floats (one_pole_constants.py)
+B_SEVEN_FIFTHS, B_ONE_FIFTH = bits(exp(-7 * pi / 5)), bits(exp(-pi / 5))
+
 
 def sine(phase):
     if not within(phase, ONE):
@@ -186,7 +189,7 @@ def answer(leaf, a, b, c):
         return phase_step(a, b)
     if leaf == 7:
         return one_pole(a, b, c)
-    return 0x3C49_8223, 0x3F08_92AD
+    return B_SEVEN_FIFTHS, B_ONE_FIFTH
 
 
 # ---- the questions
@@ -218,13 +221,13 @@ def questions():
         yield 3, w, 0, 0
         yield 4, w, 0, 0
     for n in (1, 2, 210, 4410, 132300, 132301):
-        for w in odd + [bits(1e-9), bits(n / 44.1), bits(1e30)] + [part(n / 44.1) for _ in range(12)]:
+        for w in odd + [bits(1e-9), bits(1e-10), bits(n / 44.1), bits(1e30)] + [part(n / 44.1) for _ in range(12)]:
             yield 5, w, n, 0
     for p, f in ((0, RATE), (ONE, RATE), (ONE, 0), (SIGN, SIGN), (bits(0.5), bits(22050.0)), (ONE - 1, 1), (ONE - 1, bits(440.0))):
         yield 6, p, f, 0
     for _ in range(32):
         yield 6, part(1.0), part(44100.0), 0
-    for b in (0x3C49_8223, 0x3F08_92AD, 0, ONE, bits(-0.5)):
+    for b in (B_SEVEN_FIFTHS, B_ONE_FIFTH, 0, ONE, bits(-0.5)):
         for y1, x in ((0, 0), (SIGN, SIGN), (INF, 0), (NAN, ONE), (ONE, bits(-1.0)), (1, 1), (part(2.0), part(1.0)), (part(1e-3), part(1e3))):
             yield 7, b, y1, x
     yield 8, 0, 0, 0

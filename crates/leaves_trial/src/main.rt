@@ -71,7 +71,10 @@ fn answer(leaf: u32, a: u32, b: u32, c: u32) -> Line {
         5 => position(of_bits(a), b),
         6 => phase(of_bits(a), of_bits(b)),
         7 => pole(of_bits(a), of_bits(b), of_bits(c)),
-        8 => Line(leaves::onepole::B_SEVEN_FIFTHS, leaves::onepole::B_ONE_FIFTH),
+        8 => Line(
+            leaves::onepole::B_SEVEN_FIFTHS,
+            leaves::onepole::B_ONE_FIFTH,
+        ),
         _ => OUTSIDE,
     }
 }
