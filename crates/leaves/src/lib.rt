@@ -1,7 +1,9 @@
-// The leaves of the plate tank: numbers and floats in lent bytes, the sine, lengths from
-// milliseconds, and where a modulated all-pass reads.
+// The leaves of the plate tank: numbers and floats in lent bytes, the one-pole, the oscillator's
+// phase and sine, lengths from milliseconds, and where a modulated all-pass reads.
 pub mod bytes;
 pub mod float;
 pub mod lengths;
+pub mod onepole;
+pub mod phase;
 pub mod position;
 pub mod sine;
