@@ -1,1 +1,4 @@
 pub mod Kind
+pub mod Iter
+pub mod Rule
+pub mod Cell
