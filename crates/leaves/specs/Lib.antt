@@ -4,6 +4,8 @@ pub mod Parts
 pub mod Bytes
 pub mod Floats
 pub mod Floors
+pub mod OnePole
+pub mod Phase
 pub mod Lengths
 pub mod Position
 pub mod Series
