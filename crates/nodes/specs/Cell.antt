@@ -5,7 +5,7 @@ use mathlib.Core.List.{List, [], _∷_, _++_}
 use lib.ListN.{length, getD, set, take, drop, replicate}
 use lib.Dec.{eqb, ltb}
 use lib.Ieee.{Float, binary32, ofBits, toBits}
-use Rattle.leaves.specs.Floors.{whole, zeroF, within}
+use Rattle.leaves.specs.Floors.{whole, zeroF, within, finiteF}
 use Rattle.nodes.specs.Kind.{channelsOf, lineOf, finite, inBand}
 use Rattle.nodes.specs.Iter.{iter}
 use Rattle.nodes.specs.Rule.{Brought, Frame, State, sampleBy, stateBy}
@@ -62,6 +62,19 @@ takesNumber (Delay n) = false
 takesNumber (AllPass n f) = true
 takesNumber (OnePole f) = false
 takesNumber (Sine f) = true
+
+-- a value is in the range of the number of a node that takes one
+unfoldable pub valueFits : NodeKind → Float → Bool
+valueFits Pass x = false
+valueFits Sum x = false
+valueFits Destination x = false
+valueFits Balance x = false
+valueFits (Mul f) x = finiteF x
+valueFits (Add f) x = finiteF x
+valueFits (Delay n) x = false
+valueFits (AllPass n f) x = finiteF x
+valueFits (OnePole f) x = false
+valueFits (Sine f) x = within (whole 11025 2) x
 
 unfoldable pub numberFits : NodeKind → ℕ → Bool
 numberFits Pass w = eqb w 0
@@ -122,3 +135,7 @@ stepCell k N bs i c = record {
 -- the N samples of a block; `bs i` is what the wires bring at place i
 unfoldable pub runCell : NodeKind → ℕ → (ℕ → Brought) → Cell → Cell
 runCell k N bs c = iter (stepCell k N bs) N c
+
+-- the values of a cell after a block run, from its values before
+abbrev pub runValues : NodeKind → ℕ → (ℕ → Brought) → List ℕ → List ℕ
+runValues k N bs ws = valuesOf (runCell k N bs (cellOf N k ws))
