@@ -1,8 +1,8 @@
 -- A phase from 0 to 1 stays there at every frequency from 0 to 44,100, and a phase of exactly 1 is one of its states. Assumes nothing.
 -- f / 44100 is at most 1, so the sum is at most 2, and a sum above 1 is at most 1 once 1 is taken off. Rounding keeps each bound.
-use mathlib.Core.Path.{_≡_, refl}
+use mathlib.Core.Path.{_≡_, refl, ap, _∙_}
 use mathlib.Core.Bool.{Bool, true, false, cond, false≢true}
-use Prim.Native.Nat.{_*_, _≤_, _<_}
+use Prim.Native.Nat.{ℕ, zero, suc, _*_, _<_}
 use native.Mathlib.Omega.{arith}
 use lib.Dec.{T, ltb, lit<, lit≤}
 use borrow.Author.Tests.{ltb-true, ltb-false}
@@ -10,6 +10,7 @@ use lib.Ieee.{Float, nan, inf, fin, binary32, up, down, sum, add, sub, neg, div,
 use lib.Ieee.Fits.{down-pos, add-fits, sub-fits, cond-fits}
 use Rattle.leaves.specs.Floors.{whole, zeroF, within, Upto}
 use Rattle.leaves.specs.Phase.{increment, turnedBack, advance, phaseAfter}
+use Rattle.leaves.specs.Worked.{worked}
 use Rattle.leaves.proofs.Floors.{minus-zero-upto, within-upto, upto-within, quotient-upto}
 use Rattle.leaves.proofs.Sums.{larger-first, sum-upto}
 
@@ -57,12 +58,18 @@ phase-fits f p =
     let x = add binary32 p (increment f) in
     cond-fits binary32 (lt (whole 1 0) x) (sub binary32 x (whole 1 0)) x (sub-fits binary32 x (whole 1 0)) (add-fits binary32 p (increment f))
 
--- ---- exactly 1: at 44,100 the phase goes 0, 1, 1, ..
+-- ---- exactly 1
 
-pub one-reached : phaseAfter (whole 11025 2) zeroF ≡ whole 1 0
-unfolding increment advance div add sub lt
-one-reached = refl
+-- the phase from 0, after k samples at 44,100
+abbrev pub fullRate : ℕ → Float
+fullRate zero = zeroF
+fullRate (suc k) = phaseAfter (whole 11025 2) (fullRate k)
 
-pub one-stays : phaseAfter (whole 11025 2) (whole 1 0) ≡ whole 1 0
-unfolding increment advance div add sub lt
-one-stays = refl
+full : increment (whole 11025 2) ≡ whole 1 0
+unfolding increment div
+full = refl
+
+-- it goes 0, 1, 1, ..
+pub one-stays : (k : ℕ) → fullRate (suc k) ≡ whole 1 0
+one-stays zero = ap (advance zeroF) full ∙ worked .phase-one
+one-stays (suc k) = ap (phaseAfter (whole 11025 2)) (one-stays k) ∙ ap (advance (whole 1 0)) full ∙ worked .phase-one-stays

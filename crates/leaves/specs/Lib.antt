@@ -9,5 +9,6 @@ pub mod Phase
 pub mod Lengths
 pub mod Position
 pub mod Series
+pub mod Exponential
 pub mod Sine
 pub mod Worked

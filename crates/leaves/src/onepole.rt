@@ -2,6 +2,11 @@
 ghost use mathlib.Core.Path.{_≡_};
 ghost use Rattle.leaves.specs.OnePole.{onePoleOf, onePoleStep};
 
+// The plate's b, as patterns: the floats nearest e^(-7π/5) and e^(-π/5) (specs/Exponential).
+pub const B_SEVEN_FIFTHS: u32 = 0x3c49_8223;
+
+pub const B_ONE_FIFTH: u32 = 0x3f08_92ad;
+
 pub struct OnePole {
     pub a: f32,
     pub b: f32,
