@@ -1,0 +1,6 @@
+-- What the contracts of `graph` cite: document 01's boards, judge and calls.
+pub mod Answer
+pub mod Record
+pub mod Sources
+pub mod Board
+pub mod Judge

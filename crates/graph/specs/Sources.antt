@@ -1,0 +1,28 @@
+-- A node's sources (document 01, the table of types): distinct ones count, by first wire; first and second are the sources of the first
+-- and second wire. Definitions only.
+use Prim.Native.Nat.{ℕ}
+use mathlib.Core.Bool.{cond}
+use mathlib.Core.List.{List, [], _∷_, _++_}
+use lib.ListN.{getD}
+use Rattle.reading.specs.Table.{mem}
+use Rattle.reading.specs.Order.{Wire, sources}
+
+-- one source more, unless it is there already
+abbrev pub addNew : List ℕ → ℕ → List ℕ
+addNew l x = cond (mem x l) l (l ++ (x ∷ []))
+
+abbrev pub addAll : List ℕ → List ℕ → List ℕ
+addAll l [] = l
+addAll l (x ∷ xs) = addAll (addNew l x) xs
+
+-- each number of a list once, where it first stands
+unfoldable pub distinct : List ℕ → List ℕ
+distinct xs = addAll [] xs
+
+-- the distinct sources of node v, by first wire
+abbrev pub distinctSources : List Wire → ℕ → List ℕ
+distinctSources ws v = distinct (sources ws v)
+
+-- the source of the second wire into v
+abbrev pub secondSource : List Wire → ℕ → ℕ
+secondSource ws v = getD (sources ws v) 1 0
