@@ -5,3 +5,4 @@ pub mod Sources
 pub mod Board
 pub mod Judge
 pub mod Wires
+pub mod Phases
