@@ -11,7 +11,7 @@ use Rattle.leaves.specs.Bytes.{u16At}
 use Rattle.graph.specs.Record.{cut, inOrder, sized, foundOf, foundAt}
 use Rattle.graph.specs.declared.record.Found.{Found}
 use Rattle.graph.specs.declared.record.Found.the-variants.{Head, Node, Wire, End, Refused}
-use Rattle.graph.proofs.Choice.{pick, both, false-is-not-true}
+use Rattle.graph.proofs.Choice.{pick, both, neither}
 
 -- in n bytes, at an offset, after a record of kind `last`
 abbrev pub Room : ℕ → ℕ → ℕ → Found → Type 0
@@ -52,11 +52,6 @@ module _ (n at last : ℕ) where
       pick (Room n at last) (eqb k 2) _ _ (λ e. sized-room z 14 Node (λ q. (omega arith, after .0, omega (arith, eqb-true k 2 e))))
       (λ _. pick (Room n at last) (eqb k 3) _ _ (λ _. sized-room z 8 Wire (λ q. (omega arith, after .0)))
       (λ _. sized-room z 4 End (λ q. (omega arith, after .0)))))
-
--- neither of two tests
-neither : (a b : Bool) → (a || b) ≡ false → (a ≡ false) × (b ≡ false)
-neither true b e = false-is-not-true e refl
-neither false b e = (refl, e)
 
 pub found-room : (s : List ℕ) (at last : ℕ) → Room (length s) at last (foundAt s at last)
 unfolding foundAt

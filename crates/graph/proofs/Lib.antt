@@ -7,3 +7,4 @@ pub mod Wiring
 pub mod Answers
 pub mod Parts
 pub mod Loops
+pub mod Tabling

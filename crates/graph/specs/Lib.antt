@@ -6,3 +6,4 @@ pub mod Board
 pub mod Judge
 pub mod Wires
 pub mod Phases
+pub mod Gather

@@ -3,3 +3,4 @@
 pub mod answer;
 pub mod board;
 pub mod record;
+pub mod sources;
