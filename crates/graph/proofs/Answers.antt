@@ -1,6 +1,6 @@
 -- A reading or the refusal that an answer gives. Assumes nothing.
 use Prim.Native.Nat.{ℕ, _<_}
-use mathlib.Core.Path.{_≡_, subst}
+use mathlib.Core.Path.{_≡_}
 use native.Mathlib.Omega.{arith}
 use borrow.Author.Tests.{ne-eqb}
 use Rattle.graph.specs.Answer.{answer}
@@ -15,3 +15,9 @@ pub refused-as : {a : Answer} {n w : ℕ} (r : Reading) → a ≡ answer n w →
 refused-as {a} {n} {w} r e h =
     let some : n ≡ 0 → ⊥ = λ z. omega arith in
     rw (e, ne-eqb n 0 some)
+
+pub or-accepts : (a : Answer) (r : Reading) → a .number ≡ 0 → orRefused a r ≡ r
+or-accepts a r e = rw e
+
+pub or-refuses : (a : Answer) (r : Reading) → (a .number ≡ 0 → ⊥) → orRefused a r ≡ refused (a .number) (a .place)
+or-refuses a r other = rw (ne-eqb (a .number) 0 other)

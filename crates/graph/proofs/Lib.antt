@@ -8,3 +8,4 @@ pub mod Answers
 pub mod Parts
 pub mod Loops
 pub mod Tabling
+pub mod Joined

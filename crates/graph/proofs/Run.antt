@@ -7,7 +7,16 @@ use native.Mathlib.Omega.{arith}
 use lib.ListN.{length}
 use Rattle.graph.specs.Board.{Parsed, Reading, going, refused, whole, headed, stepOf, run, readRecords}
 
+abbrev pub Done : Reading → Type 0
+Done (going at last p) = ⊥
+Done (refused k w) = Unit {0}
+Done (whole p) = Unit {0}
+
 module _ (s : List ℕ) where
+  pub run-one : (r : Reading) → run 1 s r ≡ stepOf s r
+  unfolding run
+  run-one r = refl
+
   pub run-suc : (n : ℕ) (r : Reading) → run (suc n) s r ≡ run n s (stepOf s r)
   unfolding run
   run-suc n r = refl
@@ -24,11 +33,6 @@ module _ (s : List ℕ) where
   run-next (suc n) r = run-next n (stepOf s r)
 
   -- a reading that is done stays as it is
-  abbrev pub Done : Reading → Type 0
-  Done (going at last p) = ⊥
-  Done (refused k w) = Unit {0}
-  Done (whole p) = Unit {0}
-
   run-done : (n : ℕ) (r : Reading) → Done r → run n s r ≡ r
   unfolding run stepOf
   run-done zero r d = refl

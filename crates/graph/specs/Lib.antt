@@ -7,3 +7,4 @@ pub mod Judge
 pub mod Wires
 pub mod Phases
 pub mod Gather
+pub mod Read

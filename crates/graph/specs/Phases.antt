@@ -36,6 +36,10 @@ noded N i ns = record { size = N; input = i; nodes = ns; wires = [] }
 abbrev pub wired : Parsed → List Wire → Parsed
 wired p ws = record { size = p .size; input = p .input; nodes = p .nodes; wires = ws }
 
+-- the board that the three parts make
+abbrev pub madeOf : Head → Nodes → Wires → Parsed
+madeOf h n w = wired (noded (h .size) (h .input) (take (n .count) (n .nodes))) (wiresOf (w .sources) (w .targets) (w .count))
+
 -- ---- one record of each part: what it says, or that the part is over, or a refusal's number
 
 abbrev pub nodeBody : ℕ → ℕ → Rule → NodeRead

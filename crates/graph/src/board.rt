@@ -5,11 +5,13 @@ ghost use Prim.Native.Nat.{_+_, _*_, _≤_, _<_};
 ghost use lib.ListN.{length};
 ghost use Rattle.leaves.specs.Bytes.{u16At};
 ghost use Rattle.graph.specs.Record.{foundAt};
-ghost use Rattle.graph.specs.Board.{Parsed, going, refused, whole, headed, placed, nodeFits, wireFits, headBy, endBy, stepOf};
-ghost use Rattle.graph.specs.Phases.{orRefused, nodeRead, wireRead, HeadRead, NodesRead, WiresRead};
+ghost use Rattle.graph.specs.Board.{Parsed, going, refused, whole, headed, placed, nodeFits, wireFits, headBy, endBy, stepOf, readRecords};
+ghost use Rattle.graph.specs.Phases.{orRefused, nodeRead, wireRead, madeOf, HeadRead, NodesRead, WiresRead};
+ghost use Rattle.graph.specs.Read.{Read};
 use crate::answer::Answer;
 use crate::record::Found;
 use crate::record::found_at;
+use crate::sources::table_of;
 use leaves::bytes::u16_at;
 use leaves::bytes::u32_at;
 use nodes::kind::NodeKind;
@@ -43,6 +45,23 @@ pub struct Wires {
     pub sources: [u8; 128],
     pub targets: [u8; 128],
     pub next: usize,
+}
+
+// The board as read. Where it is refused by checks 1 to 5 there are no nodes and no wires. `values` are
+// those of all cells; counts, lists and seconds are the table of sources.
+pub struct Board {
+    pub refused: Answer,
+    pub size: usize,
+    pub input: usize,
+    pub count: usize,
+    pub nodes: [NodeRecord; 64],
+    pub values: usize,
+    pub wires: usize,
+    pub sources: [u8; 128],
+    pub targets: [u8; 128],
+    pub counts: [u8; 64],
+    pub lists: [u8; 512],
+    pub seconds: [u8; 64],
 }
 
 // One record of the nodes or of the wires: what it says, or that the part is over, or a refusal.
@@ -285,4 +304,85 @@ pub fn read_end(s: &[u8], at: usize) -> Answer
     } else {
         Answer::new(1, at + 4)
     }
+}
+
+// A refused board, empty.
+fn refusal(answer: Answer) -> Board
+    requires { ⌜ 0 < answer .number ⌝ }
+    ensures { λ r. ⌜ Read (refused (answer .number) (answer .place)) r ⌝ }
+{
+    let nodes = [NodeRecord {
+        kind: NodeKind::Pass,
+        channels: 0,
+        cell: 0,
+    }; 64];
+    let wires = [0u8; 128];
+    let counts = [0u8; 64];
+    let lists = [0u8; 512];
+    Board {
+        refused: answer,
+        size: 0,
+        input: 0,
+        count: 0,
+        nodes,
+        values: 0,
+        wires: 0,
+        sources: wires,
+        targets: wires,
+        counts,
+        lists,
+        seconds: counts,
+    }
+}
+
+// The end record, and the board that the parts make.
+fn read_last(s: &[u8], head: Head, read: Nodes, wired: Wires) -> Board
+    requires { ⌜ (head .size ≤ 128) × (head .input < 65536) ⌝ }
+    requires { ⌜ NodesRead (now s) (head .size) read ⌝ }
+    requires { ⌜ WiresRead (now s) (read .next) (read .count) wired ⌝ }
+    ensures { λ r. ⌜ Read (endBy (now (s .entry)) (wired .next) (madeOf head read wired)) r ⌝ }
+{
+    let nodes = read.nodes;
+    let sources = wired.sources;
+    let targets = wired.targets;
+    let table = table_of(&sources, &targets, wired.count);
+    let counts = table.counts;
+    let lists = table.lists;
+    let seconds = table.seconds;
+    Board {
+        refused: read_end(s, wired.next),
+        size: head.size,
+        input: head.input,
+        count: read.count,
+        nodes,
+        values: read.values,
+        wires: wired.count,
+        sources,
+        targets,
+        counts,
+        lists,
+        seconds,
+    }
+}
+
+// The board that the records make, or the first refusal: checks 1 to 5.
+pub fn read_records(s: &[u8]) -> Board
+    ensures { λ r. ⌜ Read (readRecords (now (s .entry))) r ⌝ }
+{
+    let head = read_head(s);
+    let headless = head.refused;
+    if headless.number != 0 {
+        return refusal(headless);
+    }
+    let read = read_nodes(s, head.size);
+    let unread = read.refused;
+    if unread.number != 0 {
+        return refusal(unread);
+    }
+    let wired = read_wires(s, read.next, read.count);
+    let unwired = wired.refused;
+    if unwired.number != 0 {
+        return refusal(unwired);
+    }
+    read_last(s, head, read, wired)
 }

@@ -2,5 +2,6 @@
 // are known here only by the promises of the crate `nodes`.
 pub mod answer;
 pub mod board;
+pub mod judge;
 pub mod record;
 pub mod sources;
