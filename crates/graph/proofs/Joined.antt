@@ -13,7 +13,7 @@ use Rattle.graph.specs.Sources.{Tabled}
 use Rattle.graph.specs.Wires.{wiresOf}
 use Rattle.graph.specs.Board.{Parsed, Reading, going, refused, whole, headed, headBy, endBy, takeFound, stepOf, run, readRecords}
 use Rattle.graph.specs.Phases.{orRefused, noded, madeOf, HeadRead, NodesRead, WiresRead}
-use Rattle.graph.specs.Read.{Read}
+use Rattle.graph.specs.Read.{Sound, Read}
 use Rattle.graph.specs.declared.answer.Answer.{Answer}
 use Rattle.graph.specs.declared.record.Found.{Found}
 use Rattle.graph.specs.declared.record.Found.the-variants as found
@@ -166,4 +166,35 @@ made-read s h n w counts lists seconds a small nodes wires table e = record {
     targets-in = wires .targets-in;
     table = table;
   };
+}
+
+-- a board with another answer
+pub sound-answered : (b : Board) (a : Answer) → Sound b
+    → Sound (record {
+      refused = a;
+      size = b .size;
+      input = b .input;
+      count = b .count;
+      nodes = b .nodes;
+      values = b .values;
+      wires = b .wires;
+      sources = b .sources;
+      targets = b .targets;
+      counts = b .counts;
+      lists = b .lists;
+      seconds = b .seconds;
+    })
+sound-answered b a h = record {
+  nodes-long = h .nodes-long;
+  sources-long = h .sources-long;
+  targets-long = h .targets-long;
+  few-nodes = h .few-nodes;
+  few-wires = h .few-wires;
+  small-size = h .small-size;
+  small-input = h .small-input;
+  values-sum = h .values-sum;
+  few-values = h .few-values;
+  sources-in = h .sources-in;
+  targets-in = h .targets-in;
+  table = h .table;
 }

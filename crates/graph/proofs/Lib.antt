@@ -9,3 +9,4 @@ pub mod Parts
 pub mod Loops
 pub mod Tabling
 pub mod Joined
+pub mod Six

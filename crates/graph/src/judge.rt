@@ -8,14 +8,9 @@ ghost use Rattle.graph.specs.Read.{parsedOf, Sound, Read};
 use crate::answer::Answer;
 use crate::board::Board;
 use crate::board::read_records;
+use crate::sources::wide;
 use nodes::kind::is_pass;
 use nodes::kind::sources_fit;
-
-fn wide(x: u8) -> usize
-    ensures { λ r. ⌜ r ≡ x ⌝ }
-{
-    x as usize
-}
 
 // The input node is a pass without wires in.
 fn input_fits(board: Board) -> bool

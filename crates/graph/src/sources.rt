@@ -15,7 +15,7 @@ pub struct Table {
     pub seconds: [u8; 64],
 }
 
-fn wide(x: u8) -> usize
+pub fn wide(x: u8) -> usize
     ensures { λ r. ⌜ r ≡ x ⌝ }
 {
     x as usize
