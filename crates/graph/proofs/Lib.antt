@@ -1,0 +1,12 @@
+pub mod Choice
+pub mod Sums
+pub mod Fits
+pub mod Found
+pub mod Run
+pub mod Wiring
+pub mod Answers
+pub mod Parts
+pub mod Loops
+pub mod Tabling
+pub mod Joined
+pub mod Six
