@@ -4,3 +4,5 @@ pub mod Record
 pub mod Sources
 pub mod Board
 pub mod Judge
+pub mod Wires
+pub mod Visit

@@ -1,0 +1,3 @@
+-- Laws that the proofs of `graph` cite, and theorems for its callers.
+pub mod Repeats
+pub mod Going
