@@ -1,3 +1,6 @@
 -- Laws that the proofs of `graph` cite, and theorems for its callers.
 pub mod Repeats
 pub mod Going
+pub mod Listed
+pub mod Late
+pub mod Placing

@@ -6,3 +6,5 @@ pub mod Board
 pub mod Judge
 pub mod Wires
 pub mod Visit
+pub mod Listed
+pub mod Late

@@ -4,7 +4,10 @@ ghost use mathlib.Core.List.{List};
 ghost use Prim.Native.Nat.{ℕ, _+_, _<_, _≤_};
 ghost use lib.ListN.{length, take};
 ghost use Rattle.reading.specs.Order.{Wire};
-ghost use Rattle.graph.specs.Visit.{visitingList, Lists, Table, Gathered, Ready, Visited};
+ghost use Rattle.graph.specs.Board.{wire};
+ghost use Rattle.graph.specs.Wires.{wiresOf};
+ghost use Rattle.graph.specs.Visit.{visitingList, Nodes, Lists, Table, Gathered, Ready, Visited};
+ghost use Rattle.graph.specs.Late.{isLate, lateWires, Placed};
 
 pub fn wide(x: u8) -> usize
     ensures { λ r. ⌜ r ≡ x ⌝ }
@@ -56,4 +59,51 @@ pub fn visiting_list(counts: &[u8; 64], lists: &[u8; 512]) -> Order
     let mut nodes = [0u8; 64];
     let count = visit(0, counts, lists, &mut marks, &mut nodes, 0);
     Order { nodes, count }
+}
+
+// Each node's place in a list; `count` for a node that is not in it.
+pub fn places(nodes: &[u8; 64], count: usize) -> [u8; 64]
+    requires { ⌜ (length (now nodes) ≡ 64) × (count ≤ 64) × Nodes (now nodes) count ⌝ }
+    ensures { λ r. ⌜ Placed (take count (now (nodes .entry))) r ⌝ }
+{
+    let mut r = [count as u8; 64];
+    let mut i = count;
+    while 0 < i {
+        i -= 1;
+        let v = wide(nodes[i]);
+        r[v] = i as u8;
+    }
+    r
+}
+
+// Whether a wire is late in the list of `count` nodes whose places are given.
+pub fn is_late(places: &[u8; 64], count: usize, source: usize, target: usize) -> bool
+    requires { ⌜ (source < 64) × (target < 64) ⌝ }
+    ensures { λ r. ⌜ ((l : List ℕ) → length l ≡ count → Placed l (now (places .entry)) → r ≡ isLate l (wire source target)) ⌝ }
+{
+    let s = wide(places[source]);
+    let t = wide(places[target]);
+    ((s < count) & (t < count)) & !(s < t)
+}
+
+// How many of the wires are late in the list of `count` nodes whose places are given.
+fn late_count(
+    sources: &[u8; 128],
+    targets: &[u8; 128],
+    wires: usize,
+    places: &[u8; 64],
+    count: usize,
+) -> usize
+    requires { ⌜ (wires ≤ 128) × Nodes (now sources) wires × Nodes (now targets) wires ⌝ }
+    ensures { λ r. ⌜ ((l : List ℕ) → length l ≡ count → Placed l (now (places .entry)) → r ≡ length (lateWires l (wiresOf (now (sources .entry)) (now (targets .entry)) wires))) ⌝ }
+{
+    let mut n = 0;
+    let mut i = 0;
+    while i < wires {
+        if is_late(places, count, wide(sources[i]), wide(targets[i])) {
+            n += 1;
+        }
+        i += 1;
+    }
+    n
 }
