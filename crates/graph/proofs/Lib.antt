@@ -4,3 +4,5 @@ pub mod Going
 pub mod Listed
 pub mod Late
 pub mod Placing
+pub mod Lines
+pub mod VisitCases

@@ -8,3 +8,4 @@ pub mod Wires
 pub mod Visit
 pub mod Listed
 pub mod Late
+pub mod Tail

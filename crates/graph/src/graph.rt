@@ -87,7 +87,7 @@ pub fn is_late(places: &[u8; 64], count: usize, source: usize, target: usize) ->
 }
 
 // How many of the wires are late in the list of `count` nodes whose places are given.
-fn late_count(
+pub fn late_count(
     sources: &[u8; 128],
     targets: &[u8; 128],
     wires: usize,

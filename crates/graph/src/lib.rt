@@ -3,3 +3,4 @@
 pub mod answer;
 pub mod graph;
 pub mod record;
+pub mod tail;
