@@ -17,8 +17,9 @@ use Rattle.reading.specs.Order.{Wire, before, earlier}
 use Rattle.reading.proofs.Table.{mem-head, mem-other}
 use Rattle.reading.proofs.Order.{before-head, before-other}
 use Rattle.graph.specs.Board.{wire}
-use Rattle.graph.specs.Wires.{wiresFrom, wiresOf}
+use Rattle.graph.specs.Wires.{wiresOf}
 use Rattle.graph.specs.Late.{isLate, lateWires, place, Placed}
+use Rattle.graph.proofs.Wiring.{wires-snoc}
 
 -- ---- places
 
@@ -70,10 +71,6 @@ late-found l r n s t p q size placed in-s in-t is-p is-q =
 
 -- ---- one wire more
 
-wires-snoc : (ss ts : List ℕ) (a n : ℕ) → wiresFrom ss ts a (suc n) ≡ wiresFrom ss ts a n ++ (wire (getD ss (a + n) 0) (getD ts (a + n) 0) ∷ [])
-wires-snoc ss ts a zero = rw add-zero
-wires-snoc ss ts a (suc n) = ap (λ (x : List Wire). wire (getD ss a 0) (getD ts a 0) ∷ x) (wires-snoc ss ts (suc a) n ∙ rw (suc-add, add-suc))
-
 late-append : (l : List ℕ) (xs : List Wire) (w : Wire) → lateWires l (xs ++ (w ∷ [])) ≡ lateWires l xs ++ cond (isLate l w) (w ∷ []) []
 unfolding lateWires
 late-append l [] w = refl
@@ -87,5 +84,5 @@ late-append l (x ∷ xs) w = ap (λ (ys : List Wire). cond (isLate l x) (x ∷ y
 pub late-more : (l ss ts : List ℕ) (i s t : ℕ) (b : Bool) → s ≡ getD ss i 0 → t ≡ getD ts i 0 → isLate l (wire s t) ≡ b
     → lateWires l (wiresOf ss ts (i + 1)) ≡ lateWires l (wiresOf ss ts i) ++ cond b (wire s t ∷ []) []
 late-more l ss ts i s t b p q e =
-    ap (lateWires l) (rw add-one (wires-snoc ss ts 0 i ∙ rw (zero-add, ← p, ← q)))
+    ap (lateWires l) (wires-snoc ss ts i ∙ rw (← p, ← q))
     ∙ late-append l (wiresOf ss ts i) (wire s t) ∙ ap (λ (c : Bool). lateWires l (wiresOf ss ts i) ++ cond c (wire s t ∷ []) []) e
