@@ -1,0 +1,3 @@
+-- Laws that the proofs of `order` cite.
+pub mod Decimal
+pub mod Writing
