@@ -2,8 +2,8 @@
 use mathlib.Core.Path.{_≡_, refl, sym, ap, _∙_}
 use mathlib.Core.List.{List, [], _∷_, _++_, append-nil, append-assoc}
 use mathlib.Core.Bool.{Bool, true, false, cond}
-use Prim.Native.Nat.{ℕ, _+_, _*_, _<_, _≤_}
-use native.Mathlib.Nat.{add-zero}
+use Prim.Native.Nat.{ℕ, zero, suc, _+_, _*_, _<_, _≤_, suc-le-suc}
+use native.Mathlib.Nat.{add-zero, not-suc-le-zero, le-of-suc-le-suc}
 use native.Mathlib.Numerals.{add-one}
 use native.Mathlib.Omega.{arith}
 use lib.ListN.{length, getD, set, take, length-set, length-append}
@@ -50,6 +50,15 @@ all-one v = append-nil (spaced v)
 pub all-snoc : (l : List ℕ) (i v : ℕ) → v ≡ getD l i 0 → i < length l → spacedAll (take (i + 1) l) ≡ spacedAll (take i l) ++ spaced v
 all-snoc l i v is h =
     ap spacedAll (take-snoc l i h ∙ rw is) ∙ all-append (take i l) (v ∷ []) ∙ ap (λ (x : List ℕ). spacedAll (take i l) ++ x) (all-one v)
+
+-- a node takes at most 3 bytes
+pub all-short : (l : List ℕ) (n : ℕ) → n ≤ length l → ((i : ℕ) → i < n → getD l i 0 < 64) → length (spacedAll (take n l)) ≤ 3 * n
+unfolding spacedAll
+all-short l zero h below = omega arith
+all-short [] (suc n) h below = absurd (not-suc-le-zero h)
+all-short (x ∷ l) (suc n) h below =
+    let rest = all-short l n (le-of-suc-le-suc h) (λ i b. below (suc i) (suc-le-suc b)) in
+    omega (arith, length-append (spaced x) (spacedAll (take n l)), node-short x (below 0 (omega arith)))
 
 -- ---- lines
 

@@ -8,10 +8,10 @@ ghost use Rattle.graph.specs.Wires.{wiresOf};
 ghost use Rattle.graph.specs.Visit.{visitingList, Nodes, Table, Gathered};
 ghost use Rattle.graph.specs.Late.{lateWires, Placed};
 ghost use Rattle.order.specs.Text.{number, spaced, spacedAll, line, orderWord, lateWord, refusedWord, lateLines, orderText, Wrote};
-use graph::graph::wide;
-use graph::graph::visiting_list;
-use graph::graph::places;
 use graph::graph::is_late;
+use graph::graph::places;
+use graph::graph::visiting_list;
+use graph::graph::wide;
 
 fn put(out: &mut [u8], at: usize, byte: u8) -> usize
     requires { ⌜ at < length (now out) ⌝ }

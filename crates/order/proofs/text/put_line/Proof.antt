@@ -24,11 +24,17 @@ put-spaced-requires-2 c κs =
     let second = c .before .before .before in
     let first = second .before .before .before .before in
     let start = first .before .before .before .before in
-    let a = start .args in
-    (
+    let a = start .args in (
       start .pre .1,
-      omega (arith, line-length (a .word .now) (a .a) (a .b), start .pre .2, first .put-word .ensures .next, first .put-word .ensures .size,
-        second .put-spaced .ensures .next, second .put-spaced .ensures .size),
+      omega (
+        arith,
+        line-length (a .word .now) (a .a) (a .b),
+        start .pre .2,
+        first .put-word .ensures .next,
+        first .put-word .ensures .size,
+        second .put-spaced .ensures .next,
+        second .put-spaced .ensures .size,
+      ),
     )
 
 put-requires : tie.Need-put-requires
@@ -38,8 +44,17 @@ put-requires c κs =
     let first = second .before .before .before .before in
     let start = first .before .before .before .before in
     let a = start .args in
-    omega (arith, line-length (a .word .now) (a .a) (a .b), start .pre .2, first .put-word .ensures .next, first .put-word .ensures .size,
-      second .put-spaced .ensures .next, second .put-spaced .ensures .size, third .put-spaced2 .ensures .next, third .put-spaced2 .ensures .size)
+    omega (
+      arith,
+      line-length (a .word .now) (a .a) (a .b),
+      start .pre .2,
+      first .put-word .ensures .next,
+      first .put-word .ensures .size,
+      second .put-spaced .ensures .next,
+      second .put-spaced .ensures .size,
+      third .put-spaced2 .ensures .next,
+      third .put-spaced2 .ensures .size,
+    )
 
 same-length : tie.Need-same-length
 same-length c = search needs
