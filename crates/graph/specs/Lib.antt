@@ -9,3 +9,4 @@ pub mod Visit
 pub mod Listed
 pub mod Late
 pub mod Tail
+pub mod Walks

@@ -2,15 +2,14 @@
 use mathlib.Core.Path.{_≡_, refl}
 use mathlib.Core.List.{[], _∷_}
 use Rattle.graph.specs.Board.{refused}
-use Rattle.graph.specs.Visit.{visitingList}
 use Rattle.graph.specs.Late.{lateWires, isLate}
-use Rattle.graph.proofs.VisitCases.{printed}
+use Rattle.graph.specs.Walks.{printed, printedList}
 use Rattle.order.specs.Text.{orderText, textOf, spacedAll, spaced, number, line, lateLines}
 
 -- "order 1 4 2 3 0" and "late 3 4", each with its line's end
-pub printed-text : orderText (visitingList printed) printed ≡
+pub printed-text : orderText printedList printed ≡
     111 ∷ 114 ∷ 100 ∷ 101 ∷ 114 ∷ 32 ∷ 49 ∷ 32 ∷ 52 ∷ 32 ∷ 50 ∷ 32 ∷ 51 ∷ 32 ∷ 48 ∷ 10 ∷ 108 ∷ 97 ∷ 116 ∷ 101 ∷ 32 ∷ 51 ∷ 32 ∷ 52 ∷ 10 ∷ []
-unfolding orderText spacedAll spaced number line lateLines visitingList lateWires isLate
+unfolding orderText spacedAll spaced number line lateLines lateWires isLate
 printed-text = refl
 
 -- "refused 5 1064"

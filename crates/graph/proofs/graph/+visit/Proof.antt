@@ -133,7 +133,9 @@ list-room t c =
     omega (arith, marked-one t start, c .before .loop .inv .total, start .pre .1 .room)
 
 visit-element-write-list : (t : ℕ) → visit-lts.Need-element-write-list (wide-reads.Asked, wide-reads.Learnt, visit-below t, visit.Post) (visit-at t) visit.Post visit-Inv-loop visit-μ-loop
-visit-element-write-list t c = list-room t c
+visit-element-write-list t c =
+    let start = c .before .before .before .before in
+    omega (arith, marked-one t start, c .before .loop .inv .total, start .pre .1 .room)
 
 visit-add-result : (t : ℕ) → visit-lts.Need-add-result (wide-reads.Asked, wide-reads.Learnt, visit-below t, visit.Post) (visit-at t) visit.Post visit-Inv-loop visit-μ-loop
 visit-add-result t c = omega (arith, list-room t c)

@@ -41,7 +41,7 @@ mul-node : tie.Need-mul-node Inv-loop μ-loop
 mul-node c = omega (arith, listed-node c)
 
 array-copy-out-node : tie.Need-array-copy-out-node Inv-loop μ-loop
-array-copy-out-node c = listed-node c
+array-copy-out-node c = omega (arith, listed-node c)
 
 delays-requires : tie.Need-delays-requires Inv-loop μ-loop
 delays-requires c κs = tt
