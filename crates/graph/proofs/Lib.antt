@@ -3,7 +3,7 @@ pub mod Wiring
 pub mod Repeats
 pub mod Going
 pub mod Listed
-pub mod Gathering
+pub mod Wired
 pub mod Late
 pub mod Placing
 pub mod Lines
