@@ -10,3 +10,13 @@ pub mod Loops
 pub mod Tabling
 pub mod Joined
 pub mod Six
+-- Laws that the proofs of `graph` cite, and theorems for its callers.
+pub mod Wiring
+pub mod Repeats
+pub mod Going
+pub mod Listed
+pub mod Wired
+pub mod Late
+pub mod Placing
+pub mod Lines
+pub mod VisitCases

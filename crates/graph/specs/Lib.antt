@@ -8,3 +8,8 @@ pub mod Wires
 pub mod Phases
 pub mod Gather
 pub mod Read
+pub mod Visit
+pub mod Listed
+pub mod Late
+pub mod Tail
+pub mod Walks

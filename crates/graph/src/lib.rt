@@ -5,3 +5,6 @@ pub mod board;
 pub mod judge;
 pub mod record;
 pub mod sources;
+pub mod graph;
+pub mod record;
+pub mod tail;
