@@ -4,3 +4,4 @@ pub mod Record
 pub mod Sources
 pub mod Board
 pub mod Judge
+pub mod Write

@@ -1,0 +1,3 @@
+pub mod RoundRule
+pub mod RoundBytes
+pub mod RoundRecords
