@@ -1,3 +1,5 @@
 pub mod RoundRule
 pub mod RoundBytes
 pub mod RoundRecords
+pub mod RoundRun
+pub mod RoundBack
