@@ -3,3 +3,5 @@ pub mod RoundBytes
 pub mod RoundRecords
 pub mod RoundRun
 pub mod RoundBack
+pub mod RoundObeys
+pub mod RoundSources

@@ -203,3 +203,51 @@ module _ (s : List ℕ) (h : Bytes s) (q : Parsed) where
   nodes-left zero at last p low r = going-is-not-whole at last p q r
   nodes-left (suc n) at last p low r =
       nodes-step s h q n at p (wires-left n) last low (λ at p. nodes-left n at 2 p (omega arith)) (foundAt s at last) (found-told s at last _ refl) r
+
+-- ---- a board whose records are read whole
+
+pub record Written (s : List ℕ) (q : Parsed) : Type 0 where
+  pub card : Card
+  pub bytes : s ≡ writeBoard card
+  pub result : parsedOf card ≡ q
+  pub size-fits : sizeFits (card .size) ≡ true
+  pub nodes-fit : NodesFit 0 0 (card .nodes)
+  pub wires-fit : WiresFit (length (parsedOf card .nodes)) 0 (card .wires)
+
+module _ (s : List ℕ) (h : Bytes s) (q : Parsed) (n : ℕ) where
+  head-left : Stands s 1 8 → run n s (headBy 0 (u16At s 4) (u16At s 6)) ≡ whole q → Written s q
+  unfolding writeBoard
+  head-left t = go (sizeFits N) refl
+    where
+      N : ℕ
+      N = u16At s 4
+
+      i : ℕ
+      i = u16At s 6
+
+      more : sizeFits N ≡ true → Left s 8 (headed N i) q → Written s q
+      more e r = record {
+        card = record { size = N; input = i; nodes = r .nodes; wires = r .wires };
+        bytes = pair-split s h 1 N i t refl refl ∙ ap (λ (x : List ℕ). headBytes N i ++ x) (r .bytes);
+        result = r .result;
+        size-fits = e;
+        nodes-fit = r .nodes-fit;
+        wires-fit = r .wires-fit;
+      }
+
+      go : (b : Bool) → sizeFits N ≡ b → run n s (cond b (going 8 1 (headed N i)) (refused 3 0)) ≡ whole q → Written s q
+      go true e r = more e (nodes-left s h q n 8 1 (headed N i) (omega arith) r)
+      go false e r = never n s 3 0 q r
+
+  -- the first record is a head
+  head-step : (f : Found) → Told s 0 f → run n s (takeFound s 0 (headed 0 0) f) ≡ whole q → Written s q
+  unfolding takeFound
+  head-step Head t r = head-left (t .0) r
+  head-step Node t r = absurd (omega arith)
+  head-step found.Wire t r = absurd (omega arith)
+  head-step End t r = absurd (omega arith)
+  head-step (Refused k) t r = never n s k 0 q r
+
+pub records-written : (s : List ℕ) → Bytes s → (q : Parsed) → readRecords s ≡ whole q → Written s q
+unfolding readRecords run stepOf
+records-written s h q r = head-step s h q (length s) (foundAt s 0 0) (found-told s 0 0 _ refl) r

@@ -13,8 +13,8 @@ use Rattle.nodes.specs.Kind.{inBand, lineOf, channelsOf, cellSize, fewest, most
 use Rattle.nodes.specs.declared.kind.NodeKind.{NodeKind}
 use Rattle.nodes.specs.declared.kind.NodeKind.the-variants.{Pass, Sum, Destination, Balance, Mul, Add, Delay, AllPass, OnePole, Sine}
 use Rattle.nodes.specs.declared.kind.NodeRecord.{NodeRecord}
-use Rattle.reading.specs.Order.{Wire}
-use Rattle.graph.specs.Sources.{distinctSources}
+use Rattle.reading.specs.Table.{mem}
+use Rattle.reading.specs.Order.{Wire, Once}
 use Rattle.graph.specs.Board.{Parsed}
 
 -- a node as its record describes it: type, whole number n, bits of the float f
@@ -94,6 +94,13 @@ parsedOf c = record { size = c .size; input = c .input; nodes = recordsFrom (c .
 abbrev pub Each : {A : Type 0} → (ℕ → A → Type 0) → A → List A → Type 0
 Each P z xs = (i : ℕ) → i < length xs → P i (getD xs i z)
 
+-- what stands past the end: no type has the number 0
+abbrev pub noNode : NodeCard
+noNode = record { type = 0; n = 0; f = 0 }
+
+abbrev pub noWire : Wire
+noWire = record { source = 0; target = 0 }
+
 -- a float's bits are finite, a line's length is 1 to 132,300
 abbrev pub Finite : ℕ → Type 0
 Finite f = f % 2147483648 < 0x7f80_0000
@@ -122,24 +129,26 @@ pub record NodeObeys (i : ℕ) (d : NodeCard) : Type 0 where
   pub float-fits : d .f < 4294967296
   pub destination : (d .type ≡ 3) ↔ (i ≡ 0)
 
--- node i has as many distinct sources as its type takes
+-- one of the wires leads from node x to node i
+pub record Leads (ws : List Wire) (x i : ℕ) : Type 0 where
+  pub place : ℕ
+  pub there : place < length ws
+  pub source-is : (getD ws place noWire) .source ≡ x
+  pub target-is : (getD ws place noWire) .target ≡ i
+
+-- node i has as many distinct sources as its type takes: they are those of a list that has each of them once
 pub record SourcesObey (ws : List Wire) (i : ℕ) (d : NodeCard) : Type 0 where
-  pub least : fewest (kindOf d) ≤ length (distinctSources ws i)
-  pub most-of : length (distinctSources ws i) ≤ most (kindOf d)
+  pub sources : List ℕ
+  pub once : Once sources
+  pub same : (x : ℕ) → (mem x sources ≡ true) ↔ Leads ws x i
+  pub least-sources : fewest (kindOf d) ≤ length sources
+  pub most-sources : length sources ≤ most (kindOf d)
 
--- a wire joins two nodes of the board, and none leads into the input node
-pub record WireObeys (c : Card) (w : Wire) : Type 0 where
-  pub source-there : w .source < length (c .nodes)
-  pub target-there : w .target < length (c .nodes)
+-- a wire of a board with so many nodes joins two of them
+pub record WireObeys (count : ℕ) (w : Wire) : Type 0 where
+  pub source-there : w .source < count
+  pub target-there : w .target < count
   pub apart : w .source ≡ w .target → ⊥
-  pub not-input : w .target ≡ c .input → ⊥
-
--- what stands past the end: no type has the number 0
-abbrev pub noNode : NodeCard
-noNode = record { type = 0; n = 0; f = 0 }
-
-abbrev pub noWire : Wire
-noWire = record { source = 0; target = 0 }
 
 -- the values of all lines together
 abbrev pub linesOfCards : List NodeCard → ℕ
@@ -154,6 +163,7 @@ pub record Obeys (c : Card) : Type 0 where
   pub nodes : Each NodeObeys noNode (c .nodes)
   pub few-lines : linesOfCards (c .nodes) ≤ 262144
   pub few-wires : length (c .wires) ≤ 128
-  pub wires : Each (λ j. WireObeys c) noWire (c .wires)
+  pub wires : Each (λ j. WireObeys (length (c .nodes))) noWire (c .wires)
   pub sources : Each (SourcesObey (c .wires)) noNode (c .nodes)
   pub input-pass : (getD (c .nodes) (c .input) noNode) .type ≡ 1
+  pub input-free : Each (λ j w. w .target ≡ c .input → ⊥) noWire (c .wires)
