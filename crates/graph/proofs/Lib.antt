@@ -5,3 +5,5 @@ pub mod RoundRun
 pub mod RoundBack
 pub mod RoundObeys
 pub mod RoundSources
+pub mod RoundSix
+pub mod Round

@@ -189,7 +189,7 @@ module _ (s : List ℕ) (h : Bytes s) (q : Parsed) (n : ℕ) where
         nodes-step End t r = no-more-nodes (end-left (t .0) r)
         nodes-step (Refused k) t r = never n s k at q r
 
-going-is-not-whole : {A : Type 0} (at last : ℕ) (p q : Parsed) → going at last p ≡ whole q → A
+pub going-is-not-whole : {A : Type 0} (at last : ℕ) (p q : Parsed) → going at last p ≡ whole q → A
 going-is-not-whole at last p q e = let z : _≡_ {A = ℕ} 0 1 = cc in absurd (omega arith)
 
 module _ (s : List ℕ) (h : Bytes s) (q : Parsed) where
