@@ -6,4 +6,6 @@ pub mod RoundBack
 pub mod RoundObeys
 pub mod RoundSources
 pub mod RoundSix
+pub mod RoundRefused
 pub mod Round
+pub mod RoundWorked

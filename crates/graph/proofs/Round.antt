@@ -3,8 +3,9 @@
 -- (`read-write`). So a reader that refuses a board of document 01, or accepts any other, does not meet `readBoard`. Assumes nothing.
 use Prim.Native.Nat.{ℕ, zero, suc, _<_}
 use mathlib.Core.Path.{_≡_, refl, sym, ap, subst, _∙_}
+use mathlib.Core.Logic.{_↔_}
 use mathlib.Core.List.{List, [], _∷_}
-use mathlib.Core.Bool.{true, and-eq-true-iff}
+use mathlib.Core.Bool.{and-eq-true-iff}
 use native.Mathlib.Omega.{arith}
 use borrow.Author.Tests.{leb-true, le-leb}
 use lib.ListN.{length, getD}
@@ -12,13 +13,15 @@ use lib.Dec.{leb}
 use Rattle.leaves.specs.Words.{Bytes}
 use Rattle.reading.specs.Order.{Wire}
 use Rattle.graph.specs.Answer.{answer}
-use Rattle.graph.specs.Board.{Parsed, Reading, going, refused, whole, memoryLength, sizeFits, readRecords}
+use Rattle.graph.specs.Board.{Parsed, Reading, going, refused, whole, memoryLength, readRecords}
 use Rattle.graph.specs.Judge.{checkSix, thenSix, readBoard, answerBy, judgeOf}
-use Rattle.graph.specs.Write.{NodeCard, Card, writeBoard, parsedOf, NodeObeys, WireObeys, SourcesObey, noNode, noWire, linesOfCards, Obeys}
-use Rattle.graph.proofs.RoundRun.{NodesFit, WiresFit, records-read}
+use Rattle.graph.specs.Write.{NodeCard, Card, writeBoard, parsedOf, NodeObeys, WireObeys, SourcesObey, noNode, noWire, Obeys}
+use Rattle.graph.specs.declared.answer.Answer.{Answer}
+use Rattle.graph.proofs.RoundRun.{WiresFit, records-read}
 use Rattle.graph.proofs.RoundBack.{Written, records-written, going-is-not-whole}
 use Rattle.graph.proofs.RoundObeys.{EachFrom, each-from, from-each, nodes-fit, nodes-told, wires-fit, wires-told}
 use Rattle.graph.proofs.RoundSix.{Free, Six, records-length, refused-is-not-whole, six-in, six-told}
+use Rattle.graph.proofs.RoundRefused.{Numbered, read-numbered}
 
 -- ---- a card that obeys is read
 
@@ -105,3 +108,14 @@ read-write s h p = go (readRecords s) refl
     go (going at last x) e q = going-is-not-whole at last x p q
     go (refused n w) e q = refused-is-not-whole n w p q
     go (whole x) e q = accepted s p x (records-written s h x e) q
+
+-- ---- the judge's number is 0 for the boards that are written by the rules, and for no others
+
+pub judge-exact : (s : List ℕ) → Bytes s → ((judgeOf s) .number ≡ 0) ↔ ((c : Card) × Obeys c × (s ≡ writeBoard c))
+unfolding judgeOf
+judge-exact s h = (go (readBoard s) refl (read-numbered s), λ w. ap (λ (x : List ℕ). (judgeOf x) .number) (w .2) ∙ ap (λ (a : Answer). a .number) (judge-written (w .0) (w .1)))
+  where
+    go : (r : Reading) → readBoard s ≡ r → Numbered r → (answerBy memoryLength r) .number ≡ 0 → (c : Card) × Obeys c × (s ≡ writeBoard c)
+    go (going at last p) e n z = absurd (omega arith)
+    go (refused k w) e n z = absurd (omega arith)
+    go (whole p) e n z = let a = read-write s h p e in (a .card, a .obeys, a .bytes)

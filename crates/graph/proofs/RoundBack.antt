@@ -1,6 +1,6 @@
 -- Bytes whose records are read whole are the bytes written for a card, of which the reader asks no more (`records-written`).
 -- Assumes nothing.
-use Prim.Native.Nat.{ℕ, zero, suc, _+_, _≤_, _<_}
+use Prim.Native.Nat.{ℕ, zero, suc, _+_, _≤_}
 use mathlib.Core.Path.{_≡_, refl, sym, ap, subst, _∙_}
 use mathlib.Core.List.{List, [], _∷_, _++_}
 use mathlib.Core.Bool.{Bool, true, false, cond}
@@ -17,7 +17,7 @@ use Rattle.nodes.specs.declared.kind.Rule.{Rule}
 use Rattle.nodes.specs.declared.kind.Rule.the-variants.{Is, Broken}
 use Rattle.reading.specs.Order.{Wire}
 use Rattle.graph.specs.Record.{foundAt}
-use Rattle.graph.specs.Board.{Parsed, Reading, going, refused, whole, wire, headed, withNode, withWire, linesOf, sizeFits, nodeFits, wireFits, nodeBy, wireBy, endBy, headBy, takeFound, stepOf, run, readRecords}
+use Rattle.graph.specs.Board.{Parsed, going, refused, whole, wire, headed, withNode, withWire, linesOf, sizeFits, nodeFits, wireFits, nodeBy, wireBy, endBy, headBy, takeFound, stepOf, run, readRecords}
 use Rattle.graph.specs.Write.{NodeCard, Card, u16Bytes, u32Bytes, headBytes, nodeBytes, wireBytes, endBytes, nodesBytes, wiresBytes, writeBoard, kindOf, parsedOf}
 use Rattle.graph.specs.declared.record.Found.{Found}
 use Rattle.graph.specs.declared.record.Found.the-variants.{Head, Node, End, Refused}
@@ -25,7 +25,7 @@ use Rattle.graph.specs.declared.record.Found.the-variants as found
 use Rattle.graph.proofs.RoundBytes.{u16-on, u32-on, bytes-on, u16-small, u32-small, u16-split, u32-split}
 use Rattle.graph.proofs.RoundRule.{kind-told}
 use Rattle.graph.proofs.RoundRecords.{Stands, Told, found-told}
-use Rattle.graph.proofs.RoundRun.{addNodes, addWires, one-node, one-wire, no-node, no-wire, NodeFits, NodesFit, WireFits, WiresFit, next-nodes, next-wires, run-whole, never}
+use Rattle.graph.proofs.RoundRun.{addNodes, addWires, one-node, one-wire, no-node, no-wire, NodesFit, WiresFit, next-nodes, next-wires, run-whole, never}
 
 -- ---- the bytes of a record, from the numbers that stand in it
 
@@ -127,12 +127,13 @@ module _ (s : List ℕ) (h : Bytes s) (q : Parsed) (n : ℕ) where
           more e r = record {
             wires = wire x y ∷ r .wires;
             bytes = joined (wireBytes (wire x y)) (wiresBytes (r .wires) ++ endBytes) 8
-              (pair-split (drop at s) (bytes-on s at h) 3 x y t (sym (u16-on s at 4 (at + 4) refl)) (sym (u16-on s at 6 (at + 6) refl)))
-              (r .bytes);
+                (pair-split (drop at s) (bytes-on s at h) 3 x y t (sym (u16-on s at 4 (at + 4) refl)) (sym (u16-on s at 6 (at + 6) refl)))
+                (r .bytes);
             result = sym (one-wire p (wire x y) (r .wires)) ∙ r .result;
-            wires-fit =
-              (record { source-small = u16-small s (at + 4) h; target-small = u16-small s (at + 6) h; fits = e },
-              subst (λ (A : Type 0). A) (sym (next-wires p (wire x y) (length (p .nodes)) (r .wires))) (r .wires-fit));
+            wires-fit = (
+              record { source-small = u16-small s (at + 4) h; target-small = u16-small s (at + 6) h; fits = e },
+              subst (λ (A : Type 0). A) (sym (next-wires p (wire x y) (length (p .nodes)) (r .wires))) (r .wires-fit),
+            );
           }
 
           go : (b : Bool) → wireFits (length (p .nodes)) (length (p .wires)) x y ≡ b → run n s (cond b (going (at + 8) 3 (withWire p x y)) (refused 5 at)) ≡ whole q → WiresLeft s at p q
@@ -160,12 +161,13 @@ module _ (s : List ℕ) (h : Bytes s) (q : Parsed) (n : ℕ) where
               nodes = d ∷ r .nodes;
               wires = r .wires;
               bytes = joined (nodeBytes d) (nodesBytes (r .nodes) ++ wiresBytes (r .wires) ++ endBytes) 14
-                (node-split (drop at s) (bytes-on s at h) d t (sym (u16-on s at 4 (at + 4) refl)) (sym (u32-on s at 6 (at + 6) refl)) (sym (u32-on s at 10 (at + 10) refl)))
-                (r .bytes);
+                  (node-split (drop at s) (bytes-on s at h) d t (sym (u16-on s at 4 (at + 4) refl)) (sym (u32-on s at 6 (at + 6) refl)) (sym (u32-on s at 10 (at + 10) refl)))
+                  (r .bytes);
               result = ap (λ (x : Parsed). addWires x (r .wires)) (sym (one-node p d (r .nodes))) ∙ r .result;
-              nodes-fit =
-                (record { type-small = u16-small s (at + 4) h; n-small = u32-small s (at + 6) h; f-small = u32-small s (at + 10) h; rule = k; fits = e },
-                subst (λ (A : Type 0). A) (sym (next-nodes p d (r .nodes))) (r .nodes-fit));
+              nodes-fit = (
+                record { type-small = u16-small s (at + 4) h; n-small = u32-small s (at + 6) h; f-small = u32-small s (at + 10) h; rule = k; fits = e },
+                subst (λ (A : Type 0). A) (sym (next-nodes p d (r .nodes))) (r .nodes-fit),
+              );
               wires-fit = subst (λ (x : Parsed). WiresFit (length (x .nodes)) (length (x .wires)) (r .wires)) (one-node p d (r .nodes)) (r .wires-fit);
             }
 

@@ -1,6 +1,6 @@
 -- Written numbers against the numbers that are read: in a list of bytes, what stands at an offset is what stands first in the part from
 -- there on, and its first two or four bytes are those written for the number that they stand for. Assumes nothing.
-use Prim.Native.Nat.{ℕ, _+_, _*_, _/_, _%_, _≤_, _<_}
+use Prim.Native.Nat.{ℕ, zero, suc, _+_, _*_, _/_, _%_, _≤_, _<_}
 use mathlib.Core.Path.{_≡_, sym, ap, _∙_}
 use mathlib.Core.List.{List, [], _∷_, _++_}
 use native.Mathlib.Omega.{arith}
@@ -8,7 +8,8 @@ use lib.ListN.{length, getD, drop}
 use lib.Seq.{getD-drop}
 use Rattle.leaves.specs.Bytes.{u16At, u32At}
 use Rattle.leaves.specs.Words.{word, word-split, Bytes}
-use Rattle.graph.specs.Write.{u16Bytes, u32Bytes}
+use Rattle.reading.specs.Order.{Wire}
+use Rattle.graph.specs.Write.{NodeCard, Card, u16Bytes, u32Bytes, headBytes, nodeBytes, wireBytes, endBytes, nodesBytes, wiresBytes, writeBoard}
 
 -- ---- the part from an offset on
 
@@ -70,3 +71,36 @@ u32-split (x ∷ y ∷ z ∷ w ∷ b) v h l e =
     let ez : z ≡ v / 65536 % 256 = rw qz (omega arith) in
     let ew : w ≡ v / 16777216 % 256 = rw qw (omega arith) in
     λ i. ex i ∷ ey i ∷ ez i ∷ ew i ∷ b
+
+-- ---- what is written is bytes
+
+abbrev AllBytes : List ℕ → Type 0
+AllBytes [] = Unit {0}
+AllBytes (x ∷ l) = (x < 256) × AllBytes l
+
+all-append : (a b : List ℕ) → AllBytes a → AllBytes b → AllBytes (a ++ b)
+all-append [] b h k = k
+all-append (x ∷ a) b h k = (h .0, all-append a b (h .1) k)
+
+bytes-of : (l : List ℕ) → AllBytes l → Bytes l
+bytes-of [] h i = omega arith
+bytes-of (x ∷ l) h zero = h .0
+bytes-of (x ∷ l) h (suc i) = bytes-of l (h .1) i
+
+nodes-bytes : (ds : List NodeCard) → AllBytes (nodesBytes ds)
+nodes-bytes [] = tt
+nodes-bytes (d ∷ ds) = all-append (nodeBytes d) (nodesBytes ds) (omega arith) (nodes-bytes ds)
+
+wires-bytes : (ws : List Wire) → AllBytes (wiresBytes ws)
+wires-bytes [] = tt
+wires-bytes (w ∷ ws) = all-append (wireBytes w) (wiresBytes ws) (omega arith) (wires-bytes ws)
+
+pub board-bytes : (c : Card) → Bytes (writeBoard c)
+unfolding writeBoard
+board-bytes c =
+    let head = headBytes (c .size) (c .input) in
+    let nodes = nodesBytes (c .nodes) in
+    let wires = wiresBytes (c .wires) in
+    bytes-of (head ++ nodes ++ wires ++ endBytes)
+    (all-append (head ++ nodes ++ wires) endBytes
+    (all-append (head ++ nodes) wires (all-append head nodes (omega arith) (nodes-bytes (c .nodes))) (wires-bytes (c .wires))) (omega arith))

@@ -1,18 +1,18 @@
 -- The rules that a card must obey against what the reader asks: of each node and wire in turn, and in check 6. Assumes nothing.
 use Prim.Native.Nat.{ℕ, zero, suc, _+_, _≤_, _<_}
-use mathlib.Core.Path.{_≡_, refl, sym, ap, subst, _∙_}
+use mathlib.Core.Path.{_≡_, refl, ap, subst}
 use mathlib.Core.Logic.{_↔_}
 use mathlib.Core.List.{List, [], _∷_}
-use mathlib.Core.Bool.{Bool, true, false, cond, not, So, _&&_, and-eq-true-iff}
+use mathlib.Core.Bool.{Bool, true, false, cond, not, _&&_, and-eq-true-iff}
 use native.Mathlib.Omega.{arith}
 use borrow.Author.Tests.{ltb-true, lt-ltb, leb-true, le-leb, eqb-true, eqb-false, eq-eqb, ne-eqb, not-true}
 use lib.ListN.{length, getD}
 use lib.Dec.{ltb, leb, eqb}
-use Rattle.nodes.specs.Kind.{lineOf, isDestination}
+use Rattle.nodes.specs.Kind.{lineOf}
 use Rattle.nodes.specs.declared.kind.NodeKind.{NodeKind}
 use Rattle.nodes.specs.declared.kind.NodeKind.the-variants.{Pass, Sum, Destination, Balance, Mul, Add, Delay, AllPass, OnePole, Sine}
 use Rattle.reading.specs.Order.{Wire}
-use Rattle.graph.specs.Board.{placed, nodeFits, wireFits}
+use Rattle.graph.specs.Board.{placed}
 use Rattle.graph.specs.Write.{NodeCard, kindOf, FieldsObey, NodeObeys, WireObeys, Each, linesOfCards}
 use Rattle.graph.proofs.RoundRule.{kind-kept, kind-told, destination-is}
 use Rattle.graph.proofs.RoundRun.{NodeFits, NodesFit, WireFits, WiresFit}
@@ -26,9 +26,10 @@ EachFrom P i (x ∷ xs) = P i x × EachFrom P (i + 1) xs
 module _ {A : Type 0} (P : ℕ → A → Type 0) (z : A) where
   from-on : (xs : List A) (i : ℕ) → ((j : ℕ) → j < length xs → P (i + j) (getD xs j z)) → EachFrom P i xs
   from-on [] i h = tt
-  from-on (x ∷ xs) i h =
-      (subst (λ (k : ℕ). P k x) (omega arith) (h 0 (omega arith)),
-      from-on xs (i + 1) (λ j l. subst (λ (k : ℕ). P k (getD xs j z)) (omega arith) (h (suc j) (omega arith))))
+  from-on (x ∷ xs) i h = (
+    subst (λ (k : ℕ). P k x) (omega arith) (h 0 (omega arith)),
+    from-on xs (i + 1) (λ j l. subst (λ (k : ℕ). P k (getD xs j z)) (omega arith) (h (suc j) (omega arith))),
+  )
 
   on-from : (xs : List A) (i : ℕ) → EachFrom P i xs → (j : ℕ) → j < length xs → P (i + j) (getD xs j z)
   on-from [] i h j l = absurd (omega arith)
@@ -80,7 +81,7 @@ module _ (i lines : ℕ) (d : NodeCard) where
         f-small = h .float-fits;
         rule = kind-kept d (h .least-type) (h .most-type) (h .fields);
         fits = and-eq-true-iff (ltb i 64 && placed i k) (leb total 262144) .1
-          (and-eq-true-iff (ltb i 64) (placed i k) .1 (lt-ltb i 64 room, at), le-leb total 262144 few);
+            (and-eq-true-iff (ltb i 64) (placed i k) .1 (lt-ltb i 64 room, at), le-leb total 262144 few);
       }
 
   pub node-told : NodeFits i lines d → NodeObeys i d × (i < 64) × (lines + lineOf (kindOf d) ≤ 262144)
@@ -88,14 +89,17 @@ module _ (i lines : ℕ) (d : NodeCard) where
       let k = kindOf d in
       let told = kind-told d k (h .rule) in
       let two = and-eq-true-iff (ltb i 64 && placed i k) (leb total 262144) .0 (h .fits) in
-      let one = and-eq-true-iff (ltb i 64) (placed i k) .0 (two .0) in
-      (record {
-        least-type = told .0;
-        most-type = told .1;
-        fields = told .2;
-        float-fits = h .f-small;
-        destination = place-told (d .type) i (eqb i 0) refl (rw (destination-is d (told .0) (told .1)) at (one .1));
-      }, ltb-true i 64 (one .0), leb-true total 262144 (two .1))
+      let one = and-eq-true-iff (ltb i 64) (placed i k) .0 (two .0) in (
+        record {
+          least-type = told .0;
+          most-type = told .1;
+          fields = told .2;
+          float-fits = h .f-small;
+          destination = place-told (d .type) i (eqb i 0) refl (rw (destination-is d (told .0) (told .1)) at (one .1));
+        },
+        ltb-true i 64 (one .0),
+        leb-true total 262144 (two .1),
+      )
 
 pub nodes-fit : (ds : List NodeCard) (i lines : ℕ) → EachFrom NodeObeys i ds → i + length ds ≤ 64 → lines + linesOfCards ds ≤ 262144 → NodesFit i lines ds
 nodes-fit [] i lines h room few = tt
@@ -119,10 +123,11 @@ module _ (i j : ℕ) (w : Wire) where
       record {
         source-small = omega (arith, h .source-there);
         target-small = omega (arith, h .target-there);
-        fits = and-eq-true-iff (ltb j 128 && ltb x i && ltb y i) (not (eqb x y)) .1
-          (and-eq-true-iff (ltb j 128 && ltb x i) (ltb y i) .1
-          (and-eq-true-iff (ltb j 128) (ltb x i) .1 (lt-ltb j 128 room, lt-ltb x i (h .source-there)), lt-ltb y i (h .target-there)),
-          ap not (ne-eqb x y (h .apart)));
+        fits = and-eq-true-iff (ltb j 128 && ltb x i && ltb y i) (not (eqb x y)) .1 (
+          and-eq-true-iff (ltb j 128 && ltb x i) (ltb y i) .1
+              (and-eq-true-iff (ltb j 128) (ltb x i) .1 (lt-ltb j 128 room, lt-ltb x i (h .source-there)), lt-ltb y i (h .target-there)),
+          ap not (ne-eqb x y (h .apart)),
+        );
       }
 
   pub wire-told : WireFits i j w → WireObeys i w × (j < 128)
@@ -131,12 +136,14 @@ module _ (i j : ℕ) (w : Wire) where
       let y = w .target in
       let three = and-eq-true-iff (ltb j 128 && ltb x i && ltb y i) (not (eqb x y)) .0 (h .fits) in
       let two = and-eq-true-iff (ltb j 128 && ltb x i) (ltb y i) .0 (three .0) in
-      let one = and-eq-true-iff (ltb j 128) (ltb x i) .0 (two .0) in
-      (record {
-        source-there = ltb-true x i (one .1);
-        target-there = ltb-true y i (two .1);
-        apart = eqb-false x y (not-true (eqb x y) (three .1));
-      }, ltb-true j 128 (one .0))
+      let one = and-eq-true-iff (ltb j 128) (ltb x i) .0 (two .0) in (
+        record {
+          source-there = ltb-true x i (one .1);
+          target-there = ltb-true y i (two .1);
+          apart = eqb-false x y (not-true (eqb x y) (three .1));
+        },
+        ltb-true j 128 (one .0),
+      )
 
 module _ (i : ℕ) where
   pub wires-fit : (ws : List Wire) (j k : ℕ) → EachFrom (λ (k : ℕ) (w : Wire). WireObeys i w) k ws → i ≤ 64 → j + length ws ≤ 128 → WiresFit i j ws

@@ -10,7 +10,7 @@ use borrow.Author.Tests.{ltb-false, le-ltb, leb-true, eqb-true, eqb-false}
 use lib.ListN.{length, drop, length-drop}
 use lib.Dec.{ltb, leb, eqb}
 use Rattle.leaves.specs.Bytes.{u16At}
-use Rattle.graph.specs.Record.{cut, inOrder, sized, foundOf, foundAt}
+use Rattle.graph.specs.Record.{inOrder, sized, foundOf, foundAt}
 use Rattle.graph.specs.declared.record.Found.{Found}
 use Rattle.graph.specs.declared.record.Found.the-variants.{Head, Node, Wire, End, Refused}
 use Rattle.graph.proofs.RoundBytes.{u16-on}
@@ -56,7 +56,7 @@ Told b last Head = Stands b 1 8 × (last ≡ 0)
 Told b last Node = Stands b 2 14 × (1 ≤ last) × (last ≤ 2)
 Told b last Wire = Stands b 3 8 × (1 ≤ last)
 Told b last End = Stands b 4 4 × (1 ≤ last)
-Told b last (Refused n) = Unit {0}
+Told b last (Refused n) = 0 < n
 
 -- what `inOrder` says
 abbrev Ordered : ℕ → ℕ → Type 0
@@ -75,7 +75,7 @@ module _ (b : List ℕ) (last : ℕ) where
   sized-told k n f e l h =
       pick (Told b last) (eqb (u16At b 0) n) f (Refused 1)
       (λ q. let z = eqb-true (u16At b 0) n q in h (record { long = omega arith; length-is = z; kind-is = e }))
-      (λ _. tt)
+      (λ _. omega arith)
 
   kind-told : u16At b 0 ≤ length b → Ordered last (u16At b 2) → Told b last (foundOf (u16At b 2) (u16At b 0))
   unfolding foundOf
@@ -92,9 +92,9 @@ module _ (b : List ℕ) (last : ℕ) where
 
   part-told : Told b last (foundIn b last)
   part-told =
-      pick (Told b last) (ltb (length b) 4 || ltb (length b) (u16At b 0)) _ _ (λ _. tt)
+      pick (Told b last) (ltb (length b) 4 || ltb (length b) (u16At b 0)) _ _ (λ _. omega arith)
       (λ e. pick (Told b last) (inOrder last (u16At b 2)) _ _
-      (λ o. kind-told (ltb-false (length b) (u16At b 0) (second (ltb (length b) 4) _ e)) (order-told last (u16At b 2) o)) (λ _. tt))
+      (λ o. kind-told (ltb-false (length b) (u16At b 0) (second (ltb (length b) 4) _ e)) (order-told last (u16At b 2) o)) (λ _. omega arith))
     where
       second : (x y : Bool) → (x || y) ≡ false → y ≡ false
       second true y e = absurd (true≢false e)

@@ -6,14 +6,14 @@ use mathlib.Core.Logic.{_↔_}
 use mathlib.Core.Bool.{Bool, true, false, cond, So, _&&_, false≢true, and-eq-true-iff}
 use native.Mathlib.Omega.{arith}
 use borrow.Author.Tests.{eqb-true, eqb-false, eq-eqb, ltb-true, lt-ltb, leb-true, le-leb}
-use lib.Dec.{eqb, leb, ltb}
+use lib.Dec.{eqb, leb}
 use lib.Ieee.{ofBits, binary32}
-use Rattle.nodes.specs.Kind.{finite, inBand, lineFits, plainFields, floatFields, delayFields, allPassFields, sineFields, kept, ruleOf, isPass, isDestination}
+use Rattle.nodes.specs.Kind.{finite, inBand, lineFits, plainFields, floatFields, kept, ruleOf, isPass, isDestination}
 use Rattle.nodes.specs.declared.kind.NodeKind.{NodeKind}
 use Rattle.nodes.specs.declared.kind.NodeKind.the-variants.{Pass, Sum, Destination, Balance, Mul, Add, Delay, AllPass, OnePole, Sine}
 use Rattle.nodes.specs.declared.kind.Rule.{Rule}
 use Rattle.nodes.specs.declared.kind.Rule.the-variants.{Is, Broken}
-use Rattle.graph.specs.Write.{NodeCard, kindOf, Finite, LineLength, FieldsObey}
+use Rattle.graph.specs.Write.{NodeCard, kindOf, Finite, InBand, LineLength, FieldsObey}
 
 -- ---- a type's number
 
@@ -76,6 +76,9 @@ finite-so f = (lt-ltb _ _, ltb-true _ _)
 both-so : {A B : Type 0} (a b : Bool) → A ↔ So a → B ↔ So b → (A × B) ↔ So (a && b)
 both-so a b p q =
     (λ h. and-eq-true-iff a b .1 (p .0 (h .0), q .0 (h .1)), λ e. let h = and-eq-true-iff a b .0 e in (p .1 (h .0), q .1 (h .1)))
+
+band-so : (f : ℕ) → InBand f ↔ So (inBand f)
+band-so f = both-so _ _ (λ e. e, λ e. e) (λ e. e, λ e. e)
 
 line-so : (n : ℕ) → LineLength n ↔ So (lineFits n)
 line-so n = both-so (leb 1 n) (leb n 132300) (le-leb 1 n, leb-true 1 n) (le-leb n 132300, leb-true n 132300)
@@ -142,7 +145,7 @@ module _ (t n f : ℕ) where
       (λ e₇. either (eqb t 8) _ _ _ _ (λ e. is-kept (AllPass n (ofBits binary32 f)) _ (both-so (lineFits n) (finite f) (line-so n) (finite-so f)) (eqb-true t 8 e))
       (λ e₈. either (eqb t 9) _ _ _ _ (λ e. is-kept (OnePole (ofBits binary32 f)) _ (float-so n f) (eqb-true t 9 e))
       (λ e₉. last-kind (eqb t 10) (Sine (ofBits binary32 f)) _
-      (λ e. is-kept (Sine (ofBits binary32 f)) _ (both-so (eqb n 0) (inBand f) (zero-so n) (λ e. e, λ e. e)) (eqb-true t 10 e))
+      (λ e. is-kept (Sine (ofBits binary32 f)) _ (both-so (eqb n 0) (inBand f) (zero-so n) (band-so f)) (eqb-true t 10 e))
       (λ e₀ a b. omega (arith, past 10 (past 9 (past 8 (past 7 (past 6 (past 5 (past 4 (past 3 (past 2 (past 1 (λ h. h) e₁) e₂) e₃) e₄) e₅) e₆) e₇) e₈) e₉) e₀ a)))))))))))
 
 -- ---- what a description of a known type says

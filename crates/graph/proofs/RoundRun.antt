@@ -3,29 +3,24 @@
 use Prim.Native.Nat.{ℕ, zero, suc, _+_, _≤_, _<_}
 use mathlib.Core.Path.{_≡_, refl, sym, ap, subst, _∙_}
 use mathlib.Core.List.{List, [], _∷_, _++_, append-nil}
-use mathlib.Core.Bool.{Bool, true, false, cond, _&&_, and-eq-true-iff}
+use mathlib.Core.Bool.{Bool, true, cond, _&&_, and-eq-true-iff}
 use native.Mathlib.Omega.{arith}
-use borrow.Author.Tests.{ne-eqb, eq-eqb, eqb-true, le-leb, leb-true}
+use borrow.Author.Tests.{ne-eqb, eq-eqb, le-leb}
 use lib.ListN.{length, drop, length-append, length-drop}
-use lib.Dec.{leb, eqb}
-use lib.Seq.{append-snoc, drop-drop, drop-length}
+use lib.Dec.{leb}
+use lib.Seq.{append-snoc, drop-drop}
 use Rattle.leaves.specs.Bytes.{u16At, u32At}
-use Rattle.leaves.specs.Words.{Bytes}
 use Rattle.nodes.specs.Kind.{ruleOf, lineOf, channelsOf, cellSize}
-use Rattle.nodes.specs.declared.kind.NodeKind.{NodeKind}
 use Rattle.nodes.specs.declared.kind.NodeRecord.{NodeRecord}
-use Rattle.nodes.specs.declared.kind.Rule.{Rule}
-use Rattle.nodes.specs.declared.kind.Rule.the-variants.{Is, Broken}
+use Rattle.nodes.specs.declared.kind.Rule.the-variants.{Is}
 use Rattle.reading.specs.Order.{Wire}
 use Rattle.graph.specs.Record.{inOrder, foundOf, foundAt}
-use Rattle.graph.specs.Board.{Parsed, Reading, going, refused, whole, headed, withNode, withWire, linesOf, cellsOf, sizeFits, nodeFits, wireFits, nodeBy, wireBy, endBy, headBy, takeFound, stepOf, run, readRecords}
-use Rattle.graph.specs.Write.{NodeCard, Card, u16Bytes, u32Bytes, headBytes, nodeBytes, wireBytes, endBytes, nodesBytes, wiresBytes, writeBoard, kindOf, recordsFrom, parsedOf}
-use Rattle.graph.specs.declared.record.Found.{Found}
-use Rattle.graph.specs.declared.record.Found.the-variants.{Head, Node, End, Refused}
+use Rattle.graph.specs.Board.{Parsed, going, refused, whole, headed, withNode, withWire, linesOf, cellsOf, sizeFits, nodeFits, wireFits, nodeBy, wireBy, headBy, takeFound, stepOf, run, readRecords}
+use Rattle.graph.specs.Write.{NodeCard, Card, headBytes, nodeBytes, wireBytes, endBytes, nodesBytes, wiresBytes, writeBoard, kindOf, recordsFrom, parsedOf}
+use Rattle.graph.specs.declared.record.Found.the-variants.{Head, Node, End}
 use Rattle.graph.specs.declared.record.Found.the-variants as found
-use Rattle.graph.proofs.RoundBytes.{u16-on, u32-on, bytes-on, u16-back, u32-back, u16-small, u32-small, u16-split, u32-split}
-use Rattle.graph.proofs.RoundRule.{kind-told}
-use Rattle.graph.proofs.RoundRecords.{Stands, Told, found-in, found-told}
+use Rattle.graph.proofs.RoundBytes.{u16-on, u32-on, u16-back, u32-back}
+use Rattle.graph.proofs.RoundRecords.{found-in}
 
 -- ---- a board with more nodes, and with more wires
 

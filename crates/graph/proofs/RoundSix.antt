@@ -1,9 +1,9 @@
 -- Check 6 against the rules of a card: there is a node 0, the input node is a pass without wires in, and each node has as many distinct
 -- sources as its type takes. Assumes nothing.
 use Prim.Native.Nat.{ℕ, zero, suc, _+_, _≤_}
-use mathlib.Core.Path.{_≡_, refl, sym, ap, subst, _∙_}
+use mathlib.Core.Path.{_≡_, refl, sym, ap, _∙_}
 use mathlib.Core.List.{List, [], _∷_}
-use mathlib.Core.Bool.{Bool, true, false, cond, _&&_, and-eq-true-iff}
+use mathlib.Core.Bool.{Bool, true, false, cond, and-eq-true-iff}
 use native.Mathlib.Numerals.{add-one}
 use native.Mathlib.Omega.{arith}
 use borrow.Author.Tests.{leb-true, le-leb, eqb-true, eqb-false, eq-eqb, ne-eqb}
@@ -116,8 +116,8 @@ module _ (c : Card) (known : EachFrom NodeObeys 0 (c .nodes)) where
       let p = parsedOf c in
       let some : eqb (length (p .nodes)) 0 ≡ false = ne-eqb (length (p .nodes)) 0 (λ e. omega (arith, count-is, h .some-node)) in
       let input : inputFits p ≡ true =
-        and-eq-true-iff (passAt (p .nodes) (c .input)) empty .1
-        (pass-is-at ∙ eq-eqb _ _ (h .input-pass), eq-eqb _ _ (free-in (c .input) (c .wires) 0 (h .input-free))) in
+      and-eq-true-iff (passAt (p .nodes) (c .input)) empty .1
+      (pass-is-at ∙ eq-eqb _ _ (h .input-pass), eq-eqb _ _ (free-in (c .input) (c .wires) 0 (h .input-free))) in
       (λ i. cond (some i) (refused 6 0) (cond (input i) (checkSources p 0 (p .nodes)) (refused 6 (c .input)))) ∙ each-in p (c .size) (c .nodes) 0 0 (h .sources)
 
   pub six-told : (q : Parsed) → checkSix (parsedOf c) ≡ whole q → Six c × (parsedOf c ≡ q)
@@ -131,10 +131,12 @@ module _ (c : Card) (known : EachFrom NodeObeys 0 (c .nodes)) where
       go false n false i e = refused-is-not-whole 6 (c .input) q e
       go false n true i e =
           let both = and-eq-true-iff (passAt (p .nodes) (c .input)) empty .0 i in
-          let rest = each-told p (c .size) q (c .nodes) 0 0 e in
-          (record {
-            some-node = omega (arith, count-is, eqb-false (length (p .nodes)) 0 n);
-            input-pass = eqb-true _ _ (sym pass-is-at ∙ both .0);
-            input-free = free-told (c .input) (c .wires) 0 (eqb-true _ _ (both .1));
-            sources = rest .0;
-          }, rest .1)
+          let rest = each-told p (c .size) q (c .nodes) 0 0 e in (
+            record {
+              some-node = omega (arith, count-is, eqb-false (length (p .nodes)) 0 n);
+              input-pass = eqb-true _ _ (sym pass-is-at ∙ both .0);
+              input-free = free-told (c .input) (c .wires) 0 (eqb-true _ _ (both .1));
+              sources = rest .0;
+            },
+            rest .1,
+          )

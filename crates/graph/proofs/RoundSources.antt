@@ -6,7 +6,7 @@ use mathlib.Core.Logic.{_↔_}
 use mathlib.Core.List.{List, [], _∷_, _++_}
 use mathlib.Core.Bool.{Bool, true, false, cond, _||_, true≢false, false≢true}
 use native.Mathlib.Omega.{arith}
-use borrow.Author.Tests.{eqb-true, eqb-false, eq-eqb, ne-eqb}
+use borrow.Author.Tests.{eqb-true, eq-eqb, ne-eqb}
 use lib.ListN.{length, getD}
 use lib.Dec.{eqb}
 use Rattle.reading.specs.Table.{mem}
@@ -99,7 +99,7 @@ fewer [] m o h = omega arith
 fewer (x ∷ l) m o h =
     let there : mem x m ≡ true = h x (or-left (mem x l) (eq-eqb x x refl)) in
     let rest : length l ≤ length (without x m) =
-      fewer l (without x m) (o .1) (λ y e. mem-without x y m (λ q. true≢false (sym e ∙ ap (λ (a : ℕ). mem a l) q ∙ o .0)) (h y (or-right (eqb y x) e))) in
+    fewer l (without x m) (o .1) (λ y e. mem-without x y m (λ q. true≢false (sym e ∙ ap (λ (a : ℕ). mem a l) q ∙ o .0)) (h y (or-right (eqb y x) e))) in
     omega (arith, length-without x m there)
 
 -- ---- the sources of a node
@@ -131,14 +131,15 @@ leads-source (w ∷ ws) x i (suc j) l p q = go (eqb (w .target) i) (leads-source
 
 module _ (ws : List Wire) (i : ℕ) where
   pub distinct-leads : (x : ℕ) → (mem x (distinctSources ws i) ≡ true) ↔ Leads ws x i
-  distinct-leads x =
-      (λ e. source-leads ws x i (sym (mem-distinct x (sources ws i)) ∙ e),
-      λ l. mem-distinct x (sources ws i) ∙ leads-source ws x i (l .place) (l .there) (l .source-is) (l .target-is))
+  distinct-leads x = (
+    λ e. source-leads ws x i (sym (mem-distinct x (sources ws i)) ∙ e),
+    λ l. mem-distinct x (sources ws i) ∙ leads-source ws x i (l .place) (l .there) (l .source-is) (l .target-is),
+  )
 
   -- any list of the sources that has each once is as long as the reader's
   pub sources-counted : (l : List ℕ) → Once l → ((x : ℕ) → (mem x l ≡ true) ↔ Leads ws x i) → length (distinctSources ws i) ≡ length l
   sources-counted l o h =
       let some : length l ≤ length (distinctSources ws i) = fewer l (distinctSources ws i) o (λ x e. distinct-leads x .1 (h x .0 e)) in
       let all : length (distinctSources ws i) ≤ length l =
-        fewer (distinctSources ws i) l (once-distinct (sources ws i)) (λ x e. h x .1 (distinct-leads x .0 e)) in
+      fewer (distinctSources ws i) l (once-distinct (sources ws i)) (λ x e. h x .1 (distinct-leads x .0 e)) in
       omega arith

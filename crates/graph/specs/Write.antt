@@ -8,8 +8,8 @@ use mathlib.Core.Bool.{true, cond}
 use mathlib.Core.List.{List, [], _∷_, _++_}
 use lib.ListN.{length, getD}
 use lib.Dec.{eqb}
-use lib.Ieee.{ofBits, binary32}
-use Rattle.nodes.specs.Kind.{inBand, lineOf, channelsOf, cellSize, fewest, most}
+use lib.Ieee.{le, ofBits, binary32}
+use Rattle.nodes.specs.Kind.{lineOf, channelsOf, cellSize, fewest, most}
 use Rattle.nodes.specs.declared.kind.NodeKind.{NodeKind}
 use Rattle.nodes.specs.declared.kind.NodeKind.the-variants.{Pass, Sum, Destination, Balance, Mul, Add, Delay, AllPass, OnePole, Sine}
 use Rattle.nodes.specs.declared.kind.NodeRecord.{NodeRecord}
@@ -101,12 +101,17 @@ noNode = record { type = 0; n = 0; f = 0 }
 abbrev pub noWire : Wire
 noWire = record { source = 0; target = 0 }
 
--- a float's bits are finite, a line's length is 1 to 132,300
+-- a line's length
+abbrev pub LineLength : ℕ → Type 0
+LineLength n = (1 ≤ n) × (n ≤ 132300)
+
+-- the bits of a finite float: below infinity's, the sign's bit aside
 abbrev pub Finite : ℕ → Type 0
 Finite f = f % 2147483648 < 0x7f80_0000
 
-abbrev pub LineLength : ℕ → Type 0
-LineLength n = (1 ≤ n) × (n ≤ 132300)
+-- the bits of a float from 0 to 44,100
+abbrev pub InBand : ℕ → Type 0
+InBand f = (le (ofBits binary32 0) (ofBits binary32 f) ≡ true) × (le (ofBits binary32 f) (ofBits binary32 0x472c_4400) ≡ true)
 
 -- a kind's whole number and float; an unused field is all zero bits
 unfoldable pub FieldsObey : NodeKind → ℕ → ℕ → Type 0
@@ -119,7 +124,7 @@ FieldsObey (Add _) n f = (n ≡ 0) × Finite f
 FieldsObey (Delay _) n f = LineLength n × (f ≡ 0)
 FieldsObey (AllPass _ _) n f = LineLength n × Finite f
 FieldsObey (OnePole _) n f = (n ≡ 0) × Finite f
-FieldsObey (Sine _) n f = (n ≡ 0) × (inBand f ≡ true)
+FieldsObey (Sine _) n f = (n ≡ 0) × InBand f
 
 -- node i is of one of the ten types, with the type's fields; node 0, and only it, is the destination
 pub record NodeObeys (i : ℕ) (d : NodeCard) : Type 0 where
