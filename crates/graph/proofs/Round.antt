@@ -79,7 +79,8 @@ module _ (s : List ℕ) (p q : Parsed) (w : Written s q) (e : checkSix q ≡ who
       let c = w .card in
       let size = and-eq-true-iff (leb 1 (c .size)) (leb (c .size) 128) .0 (w .size-fits) in
       let ns = nodes-told (c .nodes) 0 0 (w .nodes-fit) (omega arith) (omega arith) in
-      let ws = wires-told (length (c .nodes)) (c .wires) 0 0 (subst (λ (n : ℕ). WiresFit n 0 (c .wires)) (records-length (c .size) 0 (c .nodes)) (w .wires-fit)) (omega arith) in
+      let fit = subst (λ (n : ℕ). WiresFit n 0 (c .wires)) (records-length (c .size) 0 (c .nodes)) (w .wires-fit) in
+      let ws = wires-told (length (c .nodes)) (c .wires) 0 0 fit (omega arith) in
       let last = six-told c (ns .0) p (subst (λ (x : Parsed). checkSix x ≡ whole p) (sym (w .result)) e) in
       record {
         card = c;
@@ -113,7 +114,10 @@ read-write s h p = go (readRecords s) refl
 
 pub judge-exact : (s : List ℕ) → Bytes s → ((judgeOf s) .number ≡ 0) ↔ ((c : Card) × Obeys c × (s ≡ writeBoard c))
 unfolding judgeOf
-judge-exact s h = (go (readBoard s) refl (read-numbered s), λ w. ap (λ (x : List ℕ). (judgeOf x) .number) (w .2) ∙ ap (λ (a : Answer). a .number) (judge-written (w .0) (w .1)))
+judge-exact s h = (
+  go (readBoard s) refl (read-numbered s),
+  λ w. ap (λ (a : Answer). a .number) (ap judgeOf (w .2) ∙ judge-written (w .0) (w .1)),
+)
   where
     go : (r : Reading) → readBoard s ≡ r → Numbered r → (answerBy memoryLength r) .number ≡ 0 → (c : Card) × Obeys c × (s ≡ writeBoard c)
     go (going at last p) e n z = absurd (omega arith)

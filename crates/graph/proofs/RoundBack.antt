@@ -136,7 +136,8 @@ module _ (s : List ℕ) (h : Bytes s) (q : Parsed) (n : ℕ) where
             );
           }
 
-          go : (b : Bool) → wireFits (length (p .nodes)) (length (p .wires)) x y ≡ b → run n s (cond b (going (at + 8) 3 (withWire p x y)) (refused 5 at)) ≡ whole q → WiresLeft s at p q
+          go : (b : Bool) → wireFits (length (p .nodes)) (length (p .wires)) x y ≡ b
+              → run n s (cond b (going (at + 8) 3 (withWire p x y)) (refused 5 at)) ≡ whole q → WiresLeft s at p q
           go true e r = more e (again (at + 8) (withWire p x y) r)
           go false e r = never n s 5 at q r
 
@@ -150,18 +151,21 @@ module _ (s : List ℕ) (h : Bytes s) (q : Parsed) (n : ℕ) where
       wires-step (Refused k) t r = never n s k at q r
 
       module _ (last : ℕ) (low : 1 ≤ last) (onward : (at : ℕ) (p : Parsed) → run n s (going at 2 p) ≡ whole q → Left s at p q) where
-        node-left : Stands (drop at s) 2 14 → run n s (nodeBy at p (ruleOf (u16At s (at + 4)) (u32At s (at + 6)) (u32At s (at + 10)))) ≡ whole q → Left s at p q
+        node-left : Stands (drop at s) 2 14
+            → run n s (nodeBy at p (ruleOf (u16At s (at + 4)) (u32At s (at + 6)) (u32At s (at + 10)))) ≡ whole q → Left s at p q
         node-left t = rule (ruleOf (d .type) (d .n) (d .f)) refl
           where
             d : NodeCard
             d = record { type = u16At s (at + 4); n = u32At s (at + 6); f = u32At s (at + 10) }
 
-            more : ruleOf (d .type) (d .n) (d .f) ≡ Is (kindOf d) → nodeFits (length (p .nodes)) (linesOf (p .nodes)) (kindOf d) ≡ true → Left s (at + 14) (withNode p (kindOf d)) q → Left s at p q
+            more : ruleOf (d .type) (d .n) (d .f) ≡ Is (kindOf d) → nodeFits (length (p .nodes)) (linesOf (p .nodes)) (kindOf d) ≡ true
+                → Left s (at + 14) (withNode p (kindOf d)) q → Left s at p q
             more k e r = record {
               nodes = d ∷ r .nodes;
               wires = r .wires;
               bytes = joined (nodeBytes d) (nodesBytes (r .nodes) ++ wiresBytes (r .wires) ++ endBytes) 14
-                  (node-split (drop at s) (bytes-on s at h) d t (sym (u16-on s at 4 (at + 4) refl)) (sym (u32-on s at 6 (at + 6) refl)) (sym (u32-on s at 10 (at + 10) refl)))
+                  (node-split (drop at s) (bytes-on s at h) d t (sym (u16-on s at 4 (at + 4) refl)) (sym (u32-on s at 6 (at + 6) refl))
+                  (sym (u32-on s at 10 (at + 10) refl)))
                   (r .bytes);
               result = ap (λ (x : Parsed). addWires x (r .wires)) (sym (one-node p d (r .nodes))) ∙ r .result;
               nodes-fit = (
@@ -171,7 +175,9 @@ module _ (s : List ℕ) (h : Bytes s) (q : Parsed) (n : ℕ) where
               wires-fit = subst (λ (x : Parsed). WiresFit (length (x .nodes)) (length (x .wires)) (r .wires)) (one-node p d (r .nodes)) (r .wires-fit);
             }
 
-            fit : ruleOf (d .type) (d .n) (d .f) ≡ Is (kindOf d) → (b : Bool) → nodeFits (length (p .nodes)) (linesOf (p .nodes)) (kindOf d) ≡ b → run n s (cond b (going (at + 14) 2 (withNode p (kindOf d))) (refused 4 at)) ≡ whole q → Left s at p q
+            fit : ruleOf (d .type) (d .n) (d .f) ≡ Is (kindOf d) → (b : Bool)
+                → nodeFits (length (p .nodes)) (linesOf (p .nodes)) (kindOf d) ≡ b
+                → run n s (cond b (going (at + 14) 2 (withNode p (kindOf d))) (refused 4 at)) ≡ whole q → Left s at p q
             fit k true e r = more k e (onward (at + 14) (withNode p (kindOf d)) r)
             fit k false e r = never n s 4 at q r
 

@@ -101,12 +101,14 @@ module _ (i lines : ℕ) (d : NodeCard) where
         leb-true total 262144 (two .1),
       )
 
-pub nodes-fit : (ds : List NodeCard) (i lines : ℕ) → EachFrom NodeObeys i ds → i + length ds ≤ 64 → lines + linesOfCards ds ≤ 262144 → NodesFit i lines ds
+pub nodes-fit : (ds : List NodeCard) (i lines : ℕ) → EachFrom NodeObeys i ds → i + length ds ≤ 64 → lines + linesOfCards ds ≤ 262144
+    → NodesFit i lines ds
 nodes-fit [] i lines h room few = tt
 nodes-fit (d ∷ ds) i lines h room few =
     (node-fits i lines d (h .0) (omega arith) (omega arith), nodes-fit ds (i + 1) (lines + lineOf (kindOf d)) (h .1) (omega arith) (omega arith))
 
-pub nodes-told : (ds : List NodeCard) (i lines : ℕ) → NodesFit i lines ds → i ≤ 64 → lines ≤ 262144 → EachFrom NodeObeys i ds × (i + length ds ≤ 64) × (lines + linesOfCards ds ≤ 262144)
+pub nodes-told : (ds : List NodeCard) (i lines : ℕ) → NodesFit i lines ds → i ≤ 64 → lines ≤ 262144
+    → EachFrom NodeObeys i ds × (i + length ds ≤ 64) × (lines + linesOfCards ds ≤ 262144)
 nodes-told [] i lines h room few = (tt, omega arith, omega arith)
 nodes-told (d ∷ ds) i lines h room few =
     let one = node-told i lines d (h .0) in
@@ -150,7 +152,8 @@ module _ (i : ℕ) where
   wires-fit [] j k h few room = tt
   wires-fit (w ∷ ws) j k h few room = (wire-fits i j w (h .0) few (omega arith), wires-fit ws (j + 1) (k + 1) (h .1) few (omega arith))
 
-  pub wires-told : (ws : List Wire) (j k : ℕ) → WiresFit i j ws → j ≤ 128 → EachFrom (λ (k : ℕ) (w : Wire). WireObeys i w) k ws × (j + length ws ≤ 128)
+  pub wires-told : (ws : List Wire) (j k : ℕ) → WiresFit i j ws → j ≤ 128
+      → EachFrom (λ (k : ℕ) (w : Wire). WireObeys i w) k ws × (j + length ws ≤ 128)
   wires-told [] j k h room = (tt, omega arith)
   wires-told (w ∷ ws) j k h room =
       let one = wire-told i j w (h .0) in

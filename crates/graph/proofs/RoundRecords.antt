@@ -37,7 +37,8 @@ found-part s at last =
     λ i. cond (ltb (l i) 4 || ltb (l i) (z i)) (Refused 1) (cond (inOrder last (k i)) (foundOf (k i) (z i)) (Refused 2))
 
 -- a whole record of kind k and length z, where kind k may stand
-pub found-in : (s : List ℕ) (at last : ℕ) (b : List ℕ) (k z : ℕ) → drop at s ≡ b → u16At b 0 ≡ z → u16At b 2 ≡ k → 4 ≤ length b → z ≤ length b → inOrder last k ≡ true → foundAt s at last ≡ foundOf k z
+pub found-in : (s : List ℕ) (at last : ℕ) (b : List ℕ) (k z : ℕ) → drop at s ≡ b → u16At b 0 ≡ z → u16At b 2 ≡ k → 4 ≤ length b
+    → z ≤ length b → inOrder last k ≡ true → foundAt s at last ≡ foundOf k z
 found-in s at last b k z eb ez ek l₄ lz o =
     found-part s at last ∙ ap (λ (x : List ℕ). foundIn x last) eb
     ∙ (λ i. cond (le-ltb (length b) 4 l₄ i || ltb (length b) (ez i)) (Refused 1) (cond (inOrder last (ek i)) (foundOf (ek i) (ez i)) (Refused 2)))

@@ -112,7 +112,8 @@ module _ (t n f : ℕ) where
     tells = λ j p. broken-is-not j p;
   }
 
-  either : (b : Bool) (k j : NodeKind) (r q : Rule) → (b ≡ true → Agrees t n f k r) → (b ≡ false → Agrees t n f j q) → Agrees t n f (cond b k j) (cond b r q)
+  either : (b : Bool) (k j : NodeKind) (r q : Rule) → (b ≡ true → Agrees t n f k r) → (b ≡ false → Agrees t n f j q)
+      → Agrees t n f (cond b k j) (cond b r q)
   either true k j r q g h = g refl
   either false k j r q g h = h refl
 
@@ -124,7 +125,8 @@ module _ (t n f : ℕ) where
     tells = λ j p. broken-is-not j p;
   }
 
-  last-kind : (b : Bool) (k : NodeKind) (r : Rule) → (b ≡ true → Agrees t n f k r) → (b ≡ false → (1 ≤ t) → (t ≤ 10) → ⊥) → Agrees t n f k (cond b r Broken)
+  last-kind : (b : Bool) (k : NodeKind) (r : Rule) → (b ≡ true → Agrees t n f k r) → (b ≡ false → (1 ≤ t) → (t ≤ 10) → ⊥)
+      → Agrees t n f k (cond b r Broken)
   last-kind true k r g h = g refl
   last-kind false k r g h = unknown k (h refl)
 
@@ -164,5 +166,6 @@ module _ (d : NodeCard) (lo : 1 ≤ d .type) (hi : d .type ≤ 10) where
   destination-is = number-destination (kindOf d) ∙ ap (λ (j : ℕ). eqb j 3) (agrees .number lo hi)
 
 -- what a rule that names a kind says of its description
-pub kind-told : (d : NodeCard) (k : NodeKind) → ruleOf (d .type) (d .n) (d .f) ≡ Is k → (1 ≤ d .type) × (d .type ≤ 10) × FieldsObey (kindOf d) (d .n) (d .f) × (kindOf d ≡ k)
+pub kind-told : (d : NodeCard) (k : NodeKind) → ruleOf (d .type) (d .n) (d .f) ≡ Is k
+    → (1 ≤ d .type) × (d .type ≤ 10) × FieldsObey (kindOf d) (d .n) (d .f) × (kindOf d ≡ k)
 kind-told d k e = kind-rule (d .type) (d .n) (d .f) .tells k e

@@ -119,32 +119,44 @@ order-in last k a b c e =
     (and-eq-true-iff (leb 2 k && leb last k) (leb k 4) .1 (and-eq-true-iff (leb 2 k) (leb last k) .1 (le-leb 2 k c, le-leb last k b), le-leb k 4 e))
 
 module _ (s : List ℕ) (at : ℕ) where
+  u16-read : (b : List ℕ) (k : ℕ) → drop at s ≡ b → u16At s (at + k) ≡ u16At b k
+  u16-read b k e = u16-on s at k (at + k) refl ∙ ap (λ (x : List ℕ). u16At x k) e
+
+  u32-read : (b : List ℕ) (k : ℕ) → drop at s ≡ b → u32At s (at + k) ≡ u32At b k
+  u32-read b k e = u32-on s at k (at + k) refl ∙ ap (λ (x : List ℕ). u32At x k) e
+
   module _ (last : ℕ) (p : Parsed) (low : 1 ≤ last) where
-    node-step : (d : NodeCard) (rest : List ℕ) → last ≤ 2 → drop at s ≡ nodeBytes d ++ rest → NodeFits (length (p .nodes)) (linesOf (p .nodes)) d → stepOf s (going at last p) ≡ going (at + 14) 2 (withNode p (kindOf d))
+    finds : (b : List ℕ) (k z : ℕ) → last ≤ k → drop at s ≡ b → u16At b 0 ≡ z → u16At b 2 ≡ k
+        → (2 ≤ k) × (k ≤ 4) × (4 ≤ length b) × (z ≤ length b) → foundAt s at last ≡ foundOf k z
+    finds b k z high e ez ek l = found-in s at last b k z e ez ek (l .2) (l .3) (order-in last k low high (l .0) (l .1))
+
+    node-step : (d : NodeCard) (rest : List ℕ) → last ≤ 2 → drop at s ≡ nodeBytes d ++ rest
+        → NodeFits (length (p .nodes)) (linesOf (p .nodes)) d → stepOf s (going at last p) ≡ going (at + 14) 2 (withNode p (kindOf d))
     unfolding stepOf takeFound foundOf
     node-step d rest high e h =
         let b = nodeBytes d ++ rest in
-        let fo : foundAt s at last ≡ Node = found-in s at last b 2 14 e refl refl (omega arith) (omega arith) (order-in last 2 low high (omega arith) (omega arith)) in
-        let t : u16At s (at + 4) ≡ d .type = u16-on s at 4 (at + 4) refl ∙ ap (λ (x : List ℕ). u16At x 4) e ∙ u16-back (d .type) (h .type-small) in
-        let n : u32At s (at + 6) ≡ d .n = u32-on s at 6 (at + 6) refl ∙ ap (λ (x : List ℕ). u32At x 6) e ∙ u32-back (d .n) (h .n-small) in
-        let f : u32At s (at + 10) ≡ d .f = u32-on s at 10 (at + 10) refl ∙ ap (λ (x : List ℕ). u32At x 10) e ∙ u32-back (d .f) (h .f-small) in
+        let fo : foundAt s at last ≡ Node = finds b 2 14 high e refl refl (omega arith) in
+        let t : u16At s (at + 4) ≡ d .type = u16-read b 4 e ∙ u16-back (d .type) (h .type-small) in
+        let n : u32At s (at + 6) ≡ d .n = u32-read b 6 e ∙ u32-back (d .n) (h .n-small) in
+        let f : u32At s (at + 10) ≡ d .f = u32-read b 10 e ∙ u32-back (d .f) (h .f-small) in
         ap (takeFound s at p) fo ∙ (λ i. nodeBy at p (ruleOf (t i) (n i) (f i))) ∙ ap (nodeBy at p) (h .rule)
         ∙ ap (λ (x : Bool). cond x (going (at + 14) 2 (withNode p (kindOf d))) (refused 4 at)) (h .fits)
 
-    wire-step : (w : Wire) (rest : List ℕ) → last ≤ 3 → drop at s ≡ wireBytes w ++ rest → WireFits (length (p .nodes)) (length (p .wires)) w → stepOf s (going at last p) ≡ going (at + 8) 3 (withWire p (w .source) (w .target))
+    wire-step : (w : Wire) (rest : List ℕ) → last ≤ 3 → drop at s ≡ wireBytes w ++ rest → WireFits (length (p .nodes)) (length (p .wires)) w
+        → stepOf s (going at last p) ≡ going (at + 8) 3 (withWire p (w .source) (w .target))
     unfolding stepOf takeFound foundOf
     wire-step w rest high e h =
         let b = wireBytes w ++ rest in
-        let fo : foundAt s at last ≡ found.Wire = found-in s at last b 3 8 e refl refl (omega arith) (omega arith) (order-in last 3 low high (omega arith) (omega arith)) in
-        let x : u16At s (at + 4) ≡ w .source = u16-on s at 4 (at + 4) refl ∙ ap (λ (x : List ℕ). u16At x 4) e ∙ u16-back (w .source) (h .source-small) in
-        let y : u16At s (at + 6) ≡ w .target = u16-on s at 6 (at + 6) refl ∙ ap (λ (x : List ℕ). u16At x 6) e ∙ u16-back (w .target) (h .target-small) in
+        let fo : foundAt s at last ≡ found.Wire = finds b 3 8 high e refl refl (omega arith) in
+        let x : u16At s (at + 4) ≡ w .source = u16-read b 4 e ∙ u16-back (w .source) (h .source-small) in
+        let y : u16At s (at + 6) ≡ w .target = u16-read b 6 e ∙ u16-back (w .target) (h .target-small) in
         ap (takeFound s at p) fo ∙ (λ i. wireBy at p (x i) (y i))
         ∙ ap (λ (x : Bool). cond x (going (at + 8) 3 (withWire p (w .source) (w .target))) (refused 5 at)) (h .fits)
 
     end-step : last ≤ 4 → drop at s ≡ endBytes → stepOf s (going at last p) ≡ whole p
     unfolding stepOf takeFound foundOf
     end-step high e =
-        let fo : foundAt s at last ≡ End = found-in s at last endBytes 4 4 e refl refl (omega arith) (omega arith) (order-in last 4 low high (omega arith) (omega arith)) in
+        let fo : foundAt s at last ≡ End = finds endBytes 4 4 high e refl refl (omega arith) in
         let l : at + 4 ≡ length s = omega (arith, sym (length-drop at s) ∙ ap length e) in
         ap (takeFound s at p) fo ∙ ap (λ (x : Bool). cond x (whole p) (refused 1 (at + 4))) (eq-eqb (at + 4) (length s) l)
 
@@ -153,7 +165,9 @@ module _ (s : List ℕ) (at : ℕ) where
   after b rest z e q = sym (drop-drop z at s) ∙ ap (drop z) e ∙ q
 
 module _ (s : List ℕ) where
-  wires-read : (ws : List Wire) (n at last : ℕ) (p : Parsed) → 1 ≤ last → last ≤ 3 → drop at s ≡ wiresBytes ws ++ endBytes → length (wiresBytes ws ++ endBytes) < n → WiresFit (length (p .nodes)) (length (p .wires)) ws → run n s (going at last p) ≡ whole (addWires p ws)
+  wires-read : (ws : List Wire) (n at last : ℕ) (p : Parsed) → 1 ≤ last → last ≤ 3 → drop at s ≡ wiresBytes ws ++ endBytes
+      → length (wiresBytes ws ++ endBytes) < n → WiresFit (length (p .nodes)) (length (p .wires)) ws
+      → run n s (going at last p) ≡ whole (addWires p ws)
   unfolding run
   wires-read [] zero at last p low high e l h = absurd (omega arith)
   wires-read [] (suc n) at last p low high e l h = ap (run n s) (end-step s at last p low (omega arith) e) ∙ run-whole n s p ∙ ap whole (sym (no-wire p))
@@ -164,7 +178,10 @@ module _ (s : List ℕ) where
       (subst (λ (A : Type 0). A) (next-wires p w (length (p .nodes)) ws) (h .1))
       ∙ ap whole (one-wire p w ws)
 
-  nodes-read : (ds : List NodeCard) (ws : List Wire) (n at last : ℕ) (p : Parsed) → 1 ≤ last → last ≤ 2 → drop at s ≡ nodesBytes ds ++ wiresBytes ws ++ endBytes → length (nodesBytes ds ++ wiresBytes ws ++ endBytes) < n → NodesFit (length (p .nodes)) (linesOf (p .nodes)) ds → WiresFit (length (addNodes p ds .nodes)) (length (p .wires)) ws → run n s (going at last p) ≡ whole (addWires (addNodes p ds) ws)
+  nodes-read : (ds : List NodeCard) (ws : List Wire) (n at last : ℕ) (p : Parsed) → 1 ≤ last → last ≤ 2
+      → drop at s ≡ nodesBytes ds ++ wiresBytes ws ++ endBytes → length (nodesBytes ds ++ wiresBytes ws ++ endBytes) < n
+      → NodesFit (length (p .nodes)) (linesOf (p .nodes)) ds → WiresFit (length (addNodes p ds .nodes)) (length (p .wires)) ws
+      → run n s (going at last p) ≡ whole (addWires (addNodes p ds) ws)
   unfolding run
   nodes-read [] ws n at last p low high e l h k =
       wires-read ws n at last p low (omega arith) e l (subst (λ (q : Parsed). WiresFit (length (q .nodes)) (length (q .wires)) ws) (no-node p) k)
@@ -177,7 +194,8 @@ module _ (s : List ℕ) where
       (subst (λ (q : Parsed). WiresFit (length (q .nodes)) (length (q .wires)) ws) (sym (one-node p d ds)) k)
       ∙ ap (λ (q : Parsed). whole (addWires q ws)) (one-node p d ds)
 
-head-step : (s : List ℕ) (p : Parsed) (N i : ℕ) (rest : List ℕ) → s ≡ headBytes N i ++ rest → N < 65536 → i < 65536 → sizeFits N ≡ true → stepOf s (going 0 0 p) ≡ going 8 1 (headed N i)
+head-step : (s : List ℕ) (p : Parsed) (N i : ℕ) (rest : List ℕ) → s ≡ headBytes N i ++ rest → N < 65536 → i < 65536 → sizeFits N ≡ true
+    → stepOf s (going 0 0 p) ≡ going 8 1 (headed N i)
 unfolding stepOf takeFound foundOf
 head-step s p N i rest e hN hi fits =
     let fo : foundAt s 0 0 ≡ Head = found-in s 0 0 (headBytes N i ++ rest) 1 8 e refl refl (omega arith) (omega arith) refl in
@@ -186,7 +204,8 @@ head-step s p N i rest e hN hi fits =
     ap (takeFound s 0 p) fo ∙ (λ j. headBy 0 (x j) (y j)) ∙ ap (λ (b : Bool). cond b (going 8 1 (headed N i)) (refused 3 0)) fits
 
 -- the records of a card, each as the reader asks it, are read whole
-pub records-read : (c : Card) → c .size < 65536 → c .input < 65536 → sizeFits (c .size) ≡ true → NodesFit 0 0 (c .nodes) → WiresFit (length (parsedOf c .nodes)) 0 (c .wires) → readRecords (writeBoard c) ≡ whole (parsedOf c)
+pub records-read : (c : Card) → c .size < 65536 → c .input < 65536 → sizeFits (c .size) ≡ true → NodesFit 0 0 (c .nodes)
+    → WiresFit (length (parsedOf c .nodes)) 0 (c .wires) → readRecords (writeBoard c) ≡ whole (parsedOf c)
 unfolding readRecords run writeBoard
 records-read c hN hi fits h k =
     let rest = nodesBytes (c .nodes) ++ wiresBytes (c .wires) ++ endBytes in

@@ -45,7 +45,8 @@ free-told : (k : ℕ) (ws : List Wire) (j : ℕ) → length (sources ws k) ≡ 0
 free-told k [] j e = tt
 free-told k (w ∷ ws) j e = go (eqb (w .target) k) refl e (free-told k ws (j + 1))
   where
-    go : (b : Bool) → eqb (w .target) k ≡ b → length (cond b (w .source ∷ sources ws k) (sources ws k)) ≡ 0 → (length (sources ws k) ≡ 0 → EachFrom (Free k) (j + 1) ws) → Free k j w × EachFrom (Free k) (j + 1) ws
+    go : (b : Bool) → eqb (w .target) k ≡ b → length (cond b (w .source ∷ sources ws k) (sources ws k)) ≡ 0
+        → (length (sources ws k) ≡ 0 → EachFrom (Free k) (j + 1) ws) → Free k j w × EachFrom (Free k) (j + 1) ws
     go true q e h = absurd (omega arith)
     go false q e h = (eqb-false (w .target) k q, h e)
 
@@ -79,7 +80,8 @@ module _ (p : Parsed) (N : ℕ) where
   each-in [] at i h = refl
   each-in (d ∷ ds) at i h = rw (sources-fit (p .wires) i d (h .0), ← add-one i) (each-in ds _ (i + 1) (h .1))
 
-  each-told : (q : Parsed) (ds : List NodeCard) (at i : ℕ) → checkSources p i (recordsFrom N at ds) ≡ whole q → EachFrom (SourcesObey (p .wires)) i ds × (p ≡ q)
+  each-told : (q : Parsed) (ds : List NodeCard) (at i : ℕ) → checkSources p i (recordsFrom N at ds) ≡ whole q
+      → EachFrom (SourcesObey (p .wires)) i ds × (p ≡ q)
   unfolding checkSources
   each-told q [] at i e = (tt, cc)
   each-told q (d ∷ ds) at i e =
@@ -88,7 +90,9 @@ module _ (p : Parsed) (N : ℕ) where
       rest : Reading
       rest = checkSources p (i + 1) (recordsFrom N (at + cellSize N (kindOf d)) ds)
 
-      go : (b : Bool) → sourcesFit (kindOf d) (length (distinctSources (p .wires) i)) ≡ b → cond b rest (refused 6 i) ≡ whole q → (rest ≡ whole q → EachFrom (SourcesObey (p .wires)) (i + 1) ds × (p ≡ q)) → EachFrom (SourcesObey (p .wires)) i (d ∷ ds) × (p ≡ q)
+      go : (b : Bool) → sourcesFit (kindOf d) (length (distinctSources (p .wires) i)) ≡ b → cond b rest (refused 6 i) ≡ whole q
+          → (rest ≡ whole q → EachFrom (SourcesObey (p .wires)) (i + 1) ds × (p ≡ q))
+          → EachFrom (SourcesObey (p .wires)) i (d ∷ ds) × (p ≡ q)
       go true f e h = let more = h e in ((sources-told (p .wires) i d f, more .0), more .1)
       go false f e h = refused-is-not-whole 6 i q e
 
@@ -126,7 +130,8 @@ module _ (c : Card) (known : EachFrom NodeObeys 0 (c .nodes)) where
       p : Parsed
       p = parsedOf c
 
-      go : (b : Bool) → eqb (length (p .nodes)) 0 ≡ b → (f : Bool) → inputFits p ≡ f → cond b (refused 6 0) (cond f (checkSources p 0 (p .nodes)) (refused 6 (c .input))) ≡ whole q → Six c × (p ≡ q)
+      go : (b : Bool) → eqb (length (p .nodes)) 0 ≡ b → (f : Bool) → inputFits p ≡ f
+          → cond b (refused 6 0) (cond f (checkSources p 0 (p .nodes)) (refused 6 (c .input))) ≡ whole q → Six c × (p ≡ q)
       go true n f i e = refused-is-not-whole 6 0 q e
       go false n false i e = refused-is-not-whole 6 (c .input) q e
       go false n true i e =

@@ -80,7 +80,8 @@ length-without : (x : ℕ) (m : List ℕ) → mem x m ≡ true → length m ≡ 
 length-without x [] e = absurd (false≢true e)
 length-without x (z ∷ m) e = go (eqb x z) e (length-without x m)
   where
-    go : (b : Bool) → (b || mem x m) ≡ true → (mem x m ≡ true → length m ≡ suc (length (without x m))) → suc (length m) ≡ suc (length (cond b m (z ∷ without x m)))
+    go : (b : Bool) → (b || mem x m) ≡ true → (mem x m ≡ true → length m ≡ suc (length (without x m)))
+        → suc (length m) ≡ suc (length (cond b m (z ∷ without x m)))
     go true e h = refl
     go false e h = ap suc (h e)
 
@@ -88,7 +89,8 @@ mem-without : (x y : ℕ) (m : List ℕ) → (y ≡ x → ⊥) → mem y m ≡ t
 mem-without x y [] a e = e
 mem-without x y (z ∷ m) a e = go (eqb x z) refl (eqb y z) refl e (mem-without x y m a)
   where
-    go : (b : Bool) → eqb x z ≡ b → (c : Bool) → eqb y z ≡ c → (c || mem y m) ≡ true → (mem y m ≡ true → mem y (without x m) ≡ true) → mem y (cond b m (z ∷ without x m)) ≡ true
+    go : (b : Bool) → eqb x z ≡ b → (c : Bool) → eqb y z ≡ c → (c || mem y m) ≡ true → (mem y m ≡ true → mem y (without x m) ≡ true)
+        → mem y (cond b m (z ∷ without x m)) ≡ true
     go true p true q e h = absurd (a (eqb-true y z q ∙ sym (eqb-true x z p)))
     go true p false q e h = e
     go false p true q e h = or-left (mem y (without x m)) q
@@ -112,15 +114,18 @@ source-leads : (ws : List Wire) (x i : ℕ) → mem x (sources ws i) ≡ true �
 source-leads [] x i e = absurd (false≢true e)
 source-leads (w ∷ ws) x i e = go (eqb (w .target) i) refl (source-leads ws x i) e
   where
-    head : eqb (w .target) i ≡ true → (b : Bool) → eqb x (w .source) ≡ b → (b || mem x (sources ws i)) ≡ true → (mem x (sources ws i) ≡ true → Leads ws x i) → Leads (w ∷ ws) x i
+    head : eqb (w .target) i ≡ true → (b : Bool) → eqb x (w .source) ≡ b → (b || mem x (sources ws i)) ≡ true
+        → (mem x (sources ws i) ≡ true → Leads ws x i) → Leads (w ∷ ws) x i
     head t true q e h = record { place = 0; there = omega arith; source-is = sym (eqb-true x (w .source) q); target-is = eqb-true (w .target) i t }
     head t false q e h = leads-on w (h e)
 
-    go : (b : Bool) → eqb (w .target) i ≡ b → (mem x (sources ws i) ≡ true → Leads ws x i) → mem x (cond b (w .source ∷ sources ws i) (sources ws i)) ≡ true → Leads (w ∷ ws) x i
+    go : (b : Bool) → eqb (w .target) i ≡ b → (mem x (sources ws i) ≡ true → Leads ws x i)
+        → mem x (cond b (w .source ∷ sources ws i) (sources ws i)) ≡ true → Leads (w ∷ ws) x i
     go true t h e = head t (eqb x (w .source)) refl e h
     go false t h e = leads-on w (h e)
 
-leads-source : (ws : List Wire) (x i j : ℕ) → j < length ws → (getD ws j noWire) .source ≡ x → (getD ws j noWire) .target ≡ i → mem x (sources ws i) ≡ true
+leads-source : (ws : List Wire) (x i j : ℕ) → j < length ws → (getD ws j noWire) .source ≡ x → (getD ws j noWire) .target ≡ i
+    → mem x (sources ws i) ≡ true
 leads-source [] x i j l p q = absurd (omega arith)
 leads-source (w ∷ ws) x i zero l p q = rw (eq-eqb (w .target) i q) (or-left (mem x (sources ws i)) (eq-eqb x (w .source) (sym p)))
 leads-source (w ∷ ws) x i (suc j) l p q = go (eqb (w .target) i) (leads-source ws x i j (omega arith) p q)

@@ -65,7 +65,7 @@ writeBoard c = headBytes (c .size) (c .input) ++ nodesBytes (c .nodes) ++ wiresB
 
 -- ---- what a reader makes of a card
 
--- the kind that a type's number names
+-- the kind that a type's number, 1 to 10, names
 unfoldable pub kindOf : NodeCard → NodeKind
 kindOf d =
     cond (eqb (d .type) 1) Pass
@@ -126,7 +126,8 @@ FieldsObey (AllPass _ _) n f = LineLength n × Finite f
 FieldsObey (OnePole _) n f = (n ≡ 0) × Finite f
 FieldsObey (Sine _) n f = (n ≡ 0) × InBand f
 
--- node i is of one of the ten types, with the type's fields; node 0, and only it, is the destination
+-- node i is of one of the ten types, with the type's fields; node 0, and only it, is type 3. The float's bits fit their 4 bytes; each
+-- other number of a card fits its bytes by the range that it obeys
 pub record NodeObeys (i : ℕ) (d : NodeCard) : Type 0 where
   pub least-type : 1 ≤ d .type
   pub most-type : d .type ≤ 10
@@ -160,6 +161,7 @@ abbrev pub linesOfCards : List NodeCard → ℕ
 linesOfCards [] = 0
 linesOfCards (d ∷ ds) = lineOf (kindOf d) + linesOfCards ds
 
+-- N is 1 to 128; 1 to 64 nodes, with at most 262,144 values of lines; at most 128 wires; the input node is a pass without wires in
 pub record Obeys (c : Card) : Type 0 where
   pub least-size : 1 ≤ c .size
   pub most-size : c .size ≤ 128
