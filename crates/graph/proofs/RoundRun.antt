@@ -105,8 +105,9 @@ unfolding run stepOf
 run-refused zero s k w = refl
 run-refused (suc n) s k w = run-refused n s k w
 
-pub never : {A : Type 0} (n : ℕ) (s : List ℕ) (k w : ℕ) (q : Parsed) → run n s (refused k w) ≡ whole q → A
-never n s k w q e =
+-- a refused reading ends in no whole board
+pub refused-for-good : {A : Type 0} (n : ℕ) (s : List ℕ) (k w : ℕ) (q : Parsed) → run n s (refused k w) ≡ whole q → A
+refused-for-good n s k w q e =
     let f : refused k w ≡ whole q = sym (run-refused n s k w) ∙ e in
     let z : _≡_ {A = ℕ} 0 1 = cc in
     absurd (omega arith)
