@@ -58,7 +58,7 @@ pub record Judged (k : NodeKind) (s : State) : Type 0 where
   pub carry : carryFits k (s .carry) ≡ true
   pub place : placeFits k (s .place) ≡ true
 
-both : (a b : Bool) → a && b ≡ true → (a ≡ true) × (b ≡ true)
+pub both : (a b : Bool) → a && b ≡ true → (a ≡ true) × (b ≡ true)
 both true b e = (refl, e)
 both false b e = absurd (subst T (sym e) tt)
 
