@@ -57,20 +57,20 @@ module _ (k : NodeKind) (N : ℕ) (bs : ℕ → Brought) (ws₀ : List ℕ) wher
         (rule i c ∙ ap (λ (h : Float). carriedBy (out i h (ofBits binary32 (c .state .carry))) (on i h (ofBits binary32 (c .state .carry))) i c) (sym same)
         ∙ ap (λ (u : Float). carriedBy (out i g u) (on i g u) i c) (sym ev))
 
-    pub rides-more : (i : ℕ) (ws : List ℕ) (g v : Float) → length ws₀ ≡ cellSize N k → i < N * channelsOf k → g ≡ floatAt ws₀ 0 → T (fits binary32 (on i g v))
-        → Rides i ws v → Rides (i + 1) (setFloat ws (3 + i) (out i g v)) (on i g v)
-    rides-more i ws g v long h eg f r =
+    pub rides-more : (i : ℕ) (ws ws′ : List ℕ) (g v v′ : Float) → length ws₀ ≡ cellSize N k → i < N * channelsOf k → g ≡ floatAt ws₀ 0 → T (fits binary32 (on i g v))
+        → ws′ ≡ setFloat ws (3 + i) (out i g v) → v′ ≡ on i g v → Rides i ws v → Rides (i + 1) ws′ v′
+    rides-more i ws ws′ g v v′ long h eg f es ev r =
         let c = after i in
         let first = getD ws₀ 1 0 in
         let held = withState c (withCarry (c .state) first) in
         let next : after (i + 1) ≡ carriedBy (out i g v) (on i g v) i c = next-cell i g v eg (r .local) in
         let room : i < length (held .samples) = omega (arith, samples-kept k N bs i (cellOf N k ws₀), samples-long N k ws₀ long) in
         record {
-          values = ap (λ (l : List ℕ). setFloat l (3 + i) (out i g v)) (r .values)
+          values = es ∙ ap (λ (l : List ℕ). setFloat l (3 + i) (out i g v)) (r .values)
               ∙ set-sample held (toBits binary32 (out i g v)) i room
               ∙ ap (λ (d : Cell). valuesOf (withState d (withCarry (d .state) first))) (sym next);
-          local = sym (ofBits-toBits binary32 (on i g v) f) ∙ ap (λ (d : Cell). ofBits binary32 (d .state .carry)) (sym next);
-          stored = λ _. ap (λ (d : Cell). d .state .carry) (sym next);
+          local = ev ∙ sym (ofBits-toBits binary32 (on i g v) f) ∙ ap (λ (d : Cell). ofBits binary32 (d .state .carry)) (sym next);
+          stored = λ _. ap (toBits binary32) ev ∙ ap (λ (d : Cell). d .state .carry) (sym next);
         }
 
   pub rides-end : (i : ℕ) (ws : List ℕ) (v : Float) → i ≡ N → 0 < N → Rides i ws v → setFloat ws 1 v ≡ runValues k N bs ws₀
