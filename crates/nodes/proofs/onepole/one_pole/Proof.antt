@@ -54,8 +54,7 @@ module _ (b : Float) (N : ℕ) (x : List Float) (ws₀ : List ℕ) (long : lengt
       → Runs b N x ws₀ i ws p → Runs b N x ws₀ (i + 1) ws′ q
   runs-more i ws ws′ p q h eq es r =
       let e : q ≡ onePoleStep (onePoleOf b (p .y1)) (sample x i) = eq ∙ ap (λ (o : OnePole). onePoleStep o (sample x i)) (r .0) in
-      let y : q .y1 ≡ output b x i (floatAt ws₀ 0) (p .y1) = ap (λ (o : OnePole). o .y1) e in
-      (
+      let y : q .y1 ≡ output b x i (floatAt ws₀ 0) (p .y1) = ap (λ (o : OnePole). o .y1) e in (
         e ∙ same-coefficients b (p .y1) (sample x i) ∙ ap (onePoleOf b) (sym y),
         rides-more (kinds.OnePole b) N (alone x) ws₀ (output b x) (output b x) (rule b N x) i ws ws′ (floatAt ws₀ 0) (p .y1) (q .y1)
             whole-cell (omega arith) refl (output-fits b x i (floatAt ws₀ 0) (p .y1)) (es ∙ ap (setFloat ws (3 + i)) y) y (r .1),
@@ -104,8 +103,7 @@ loop-again : tie.Need-loop-again Inv-loop μ-loop
 loop-again c =
     let here = c .before .before .before .before .before .before .before in
     let given = here .before .before .before .before .before .args in
-    let long : length (words (given .cell .now)) ≡ 3 + given .size = omega (arith, length-words (given .cell .now)) in
-    (
+    let long : length (words (given .cell .now)) ≡ 3 + given .size = omega (arith, length-words (given .cell .now)) in (
       search needs,
       search needs,
       runs-more (given .b) (given .size) (given .x .now) (words (given .cell .now)) long (here .loop .i) (words (here .loop .cell)) (words (c .before .before .store .last .0))
