@@ -1,6 +1,6 @@
 -- The loops that carry a float from sample to sample, a one-pole's last output or a sine's phase, in a local: the samples are stored one by one,
--- and the carry once, at the end. `Rides` is what holds before each sample.
---     rides-none, rides-more, rides-end    at the loop's start, after one more sample, and after the last
+-- and the carry once, at the end. `Carrying` is what holds before each sample.
+--     carrying-none, carrying-more, carrying-end    at the loop's start, after one more sample, and after the last
 -- Assumes nothing.
 use mathlib.Core.Path.{_≡_, sym, ap, _∙_}
 use mathlib.Core.List.{List}
@@ -37,14 +37,14 @@ module _ (k : NodeKind) (N : ℕ) (bs : ℕ → Brought) (ws₀ : List ℕ) wher
   after i = iter (stepCell k N bs) i (cellOf N k ws₀)
 
   -- the values ws hold the samples so far and still the first carry; the local v holds the carry
-  pub record Rides (i : ℕ) (ws : List ℕ) (v : Float) : Type 0 where
+  pub record Carrying (i : ℕ) (ws : List ℕ) (v : Float) : Type 0 where
     pub values : ws ≡ valuesOf (withState (after i) (withCarry (after i .state) (getD ws₀ 1 0)))
     pub local : v ≡ ofBits binary32 (after i .state .carry)
     pub stored : 0 < i → toBits binary32 v ≡ after i .state .carry
 
-  pub rides-none : length ws₀ ≡ cellSize N k → (v : Float) → v ≡ floatAt ws₀ 1 → Rides 0 ws₀ v
+  pub carrying-none : length ws₀ ≡ cellSize N k → (v : Float) → v ≡ floatAt ws₀ 1 → Carrying 0 ws₀ v
   unfolding iter cellOf
-  rides-none long v e = record { values = sym (values-cell N k ws₀ long); local = e; stored = λ h. absurd (omega arith) }
+  carrying-none long v e = record { values = sym (values-cell N k ws₀ long); local = e; stored = λ h. absurd (omega arith) }
 
   module _ (out on : ℕ → Float → Float → Float) (rule : (i : ℕ) (c : Cell) → stepCell k N bs i c ≡ carried out on i c) where
     -- the next cell, by the number and the local
@@ -57,9 +57,9 @@ module _ (k : NodeKind) (N : ℕ) (bs : ℕ → Brought) (ws₀ : List ℕ) wher
         (rule i c ∙ ap (λ (h : Float). carriedBy (out i h (ofBits binary32 (c .state .carry))) (on i h (ofBits binary32 (c .state .carry))) i c) (sym same)
         ∙ ap (λ (u : Float). carriedBy (out i g u) (on i g u) i c) (sym ev))
 
-    pub rides-more : (i : ℕ) (ws ws′ : List ℕ) (g v v′ : Float) → length ws₀ ≡ cellSize N k → i < N * channelsOf k → g ≡ floatAt ws₀ 0 → T (fits binary32 (on i g v))
-        → ws′ ≡ setFloat ws (3 + i) (out i g v) → v′ ≡ on i g v → Rides i ws v → Rides (i + 1) ws′ v′
-    rides-more i ws ws′ g v v′ long h eg f es ev r =
+    pub carrying-more : (i : ℕ) (ws ws′ : List ℕ) (g v v′ : Float) → length ws₀ ≡ cellSize N k → i < N * channelsOf k → g ≡ floatAt ws₀ 0 → T (fits binary32 (on i g v))
+        → ws′ ≡ setFloat ws (3 + i) (out i g v) → v′ ≡ on i g v → Carrying i ws v → Carrying (i + 1) ws′ v′
+    carrying-more i ws ws′ g v v′ long h eg f es ev r =
         let c = after i in
         let first = getD ws₀ 1 0 in
         let held = withState c (withCarry (c .state) first) in
@@ -73,9 +73,9 @@ module _ (k : NodeKind) (N : ℕ) (bs : ℕ → Brought) (ws₀ : List ℕ) wher
           stored = λ _. ap (toBits binary32) ev ∙ ap (λ (d : Cell). d .state .carry) (sym next);
         }
 
-  pub rides-end : (i : ℕ) (ws : List ℕ) (v : Float) → i ≡ N → 0 < N → Rides i ws v → setFloat ws 1 v ≡ runValues k N bs ws₀
+  pub carrying-end : (i : ℕ) (ws : List ℕ) (v : Float) → i ≡ N → 0 < N → Carrying i ws v → setFloat ws 1 v ≡ runValues k N bs ws₀
   unfolding runCell
-  rides-end i ws v e h r =
+  carrying-end i ws v e h r =
       let c = after i in
       let some : 0 < i = omega arith in
       ap (λ (l : List ℕ). setFloat l 1 v) (r .values)

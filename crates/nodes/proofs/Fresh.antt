@@ -3,10 +3,10 @@
 --     fresh-long, fresh-fits
 -- Assumes nothing.
 use mathlib.Core.Path.{_≡_, refl, sym, ap, _∙_, subst}
-use mathlib.Core.Bool.{Bool, true, false, cond, _&&_}
-use Prim.Native.Nat.{ℕ, _+_, _*_, _≤_}
+use mathlib.Core.Bool.{Bool, true, false, cond}
+use Prim.Native.Nat.{ℕ, _*_, _≤_}
 use native.Mathlib.Omega.{arith}
-use lib.Dec.{eqb, ltb, leb}
+use lib.Dec.{eqb, leb}
 use lib.ListN.{length, length-replicate}
 use lib.Ieee.{binary32, ofBits, toBits, le}
 use lib.Ieee.Bits.{ofBits-fits, ofBits-toBits}
@@ -14,12 +14,12 @@ use borrow.Author.Tests.{leb-true, lt-ltb}
 use Rattle.leaves.specs.Floors.{whole, zeroF, within}
 use Rattle.leaves.proofs.Patterns.{finite-pattern, finite-float}
 use Rattle.nodes.specs.Kind.{finite, inBand, lineFits, plainFields, floatFields, delayFields, allPassFields, sineFields, kept, ruleOf, channelsOf, lineOf, cellSize}
-use Rattle.nodes.specs.Cell.{Cell, valuesOf, freshCell, numberOf, numberFits, carryFits, placeFits, cellFits}
+use Rattle.nodes.specs.Cell.{valuesOf, freshCell, numberOf, numberFits, carryFits, placeFits, cellFits}
 use Rattle.nodes.specs.Node.{LineFits}
 use Rattle.nodes.specs.declared.kind.NodeKind.{NodeKind}
 use Rattle.nodes.specs.declared.kind.NodeKind.the-variants.{Pass, Sum, Destination, Balance, Mul, Add, Delay, AllPass, OnePole, Sine}
 use Rattle.nodes.specs.declared.kind.Rule.{Rule}
-use Rattle.nodes.specs.declared.kind.Rule.the-variants.{Is, Broken}
+use Rattle.nodes.specs.declared.kind.Rule.the-variants.{Is}
 use Rattle.nodes.proofs.Cells.{length-values}
 use Rattle.nodes.proofs.Kept.{both, in-band, judged-fits}
 

@@ -1,8 +1,8 @@
 -- `nodes::onepole::one_pole` meets its contract: each turn of the loop is one step of the pole, and its last output is the carry. Assumes nothing.
 use borrow.Author.Needs.{needs}
-use mathlib.Core.Path.{_≡_, refl, sym, ap, _∙_, subst}
+use mathlib.Core.Path.{_≡_, refl, sym, ap, _∙_}
 use mathlib.Core.List.{List}
-use Prim.Native.Nat.{ℕ, _+_, _-_, _*_, _≤_, _<_}
+use Prim.Native.Nat.{ℕ, _+_, _-_, _≤_, _<_}
 use native.Mathlib.Omega.{arith}
 use lib.Dec.{T}
 use lib.ListN.{length}
@@ -12,11 +12,12 @@ use Rattle.leaves.specs.Words.{words, length-words}
 use Rattle.leaves.specs.Floats.{floatAt, setFloat}
 use Rattle.leaves.specs.OnePole.{onePoleOf, onePoleStep}
 use Rattle.leaves.specs.declared.onepole.OnePole.{OnePole}
+use Rattle.nodes.specs.Kind.{cellSize}
 use Rattle.nodes.specs.Rule.{leftOf, keeps, carryAfter, placeAfter, lineAfter, sampleBy, stateBy}
 use Rattle.nodes.specs.Cell.{Cell, putFrame, frameAt, stepCell}
 use Rattle.nodes.specs.Block.{sample, alone}
 use Rattle.nodes.specs.declared.kind.NodeKind.the-variants as kinds
-use Rattle.nodes.proofs.Carried.{carried, Rides, rides-none, rides-more, rides-end}
+use Rattle.nodes.proofs.Carried.{carried, Carrying, carrying-none, carrying-more, carrying-end}
 use Rattle.nodes.proofs.onepole.one_pole.Statement.{statement}
 use Rattle.nodes.proofs.onepole.one_pole.Tie as tie
 
@@ -38,17 +39,14 @@ same-coefficients b v x = refl
 
 -- the pole has the coefficients of b, and the values and its last output are those of place i
 abbrev Runs : Float → ℕ → List Float → List ℕ → ℕ → List ℕ → OnePole → Type 0
-Runs b N x ws₀ i ws p = (p ≡ onePoleOf b (p .y1)) × Rides (kinds.OnePole b) N (alone x) ws₀ i ws (p .y1)
+Runs b N x ws₀ i ws p = (p ≡ onePoleOf b (p .y1)) × Carrying (kinds.OnePole b) N (alone x) ws₀ i ws (p .y1)
 
-module _ (b : Float) (N : ℕ) (x : List Float) (ws₀ : List ℕ) (long : length ws₀ ≡ 3 + N) where
-  whole-cell : length ws₀ ≡ 3 + N * 1 + 0
-  whole-cell = omega arith
-
+module _ (b : Float) (N : ℕ) (x : List Float) (ws₀ : List ℕ) (long : length ws₀ ≡ cellSize N (kinds.OnePole b)) where
   runs-none : (v : Float) (p : OnePole) → v ≡ floatAt ws₀ 1 → p ≡ onePoleOf b v → Runs b N x ws₀ 0 ws₀ p
   unfolding onePoleOf
   runs-none v p ev ep =
       let y : p .y1 ≡ v = ap (λ (q : OnePole). q .y1) ep in
-      (ep ∙ ap (onePoleOf b) (sym y), rides-none (kinds.OnePole b) N (alone x) ws₀ whole-cell (p .y1) (y ∙ ev))
+      (ep ∙ ap (onePoleOf b) (sym y), carrying-none (kinds.OnePole b) N (alone x) ws₀ long (p .y1) (y ∙ ev))
 
   runs-more : (i : ℕ) (ws ws′ : List ℕ) (p q : OnePole) → i < N → q ≡ onePoleStep p (sample x i) → ws′ ≡ setFloat ws (3 + i) (q .y1)
       → Runs b N x ws₀ i ws p → Runs b N x ws₀ (i + 1) ws′ q
@@ -56,8 +54,8 @@ module _ (b : Float) (N : ℕ) (x : List Float) (ws₀ : List ℕ) (long : lengt
       let e : q ≡ onePoleStep (onePoleOf b (p .y1)) (sample x i) = eq ∙ ap (λ (o : OnePole). onePoleStep o (sample x i)) (r .0) in
       let y : q .y1 ≡ output b x i (floatAt ws₀ 0) (p .y1) = ap (λ (o : OnePole). o .y1) e in (
         e ∙ same-coefficients b (p .y1) (sample x i) ∙ ap (onePoleOf b) (sym y),
-        rides-more (kinds.OnePole b) N (alone x) ws₀ (output b x) (output b x) (rule b N x) i ws ws′ (floatAt ws₀ 0) (p .y1) (q .y1)
-            whole-cell (omega arith) refl (output-fits b x i (floatAt ws₀ 0) (p .y1)) (es ∙ ap (setFloat ws (3 + i)) y) y (r .1),
+        carrying-more (kinds.OnePole b) N (alone x) ws₀ (output b x) (output b x) (rule b N x) i ws ws′ (floatAt ws₀ 0) (p .y1) (q .y1)
+            long (omega arith) refl (output-fits b x i (floatAt ws₀ 0) (p .y1)) (es ∙ ap (setFloat ws (3 + i)) y) y (r .1),
       )
 
 abbrev Inv-loop : tie.InvT-loop
@@ -76,7 +74,8 @@ new-requires c κs = search needs
 loop-holds : tie.Need-loop-holds Inv-loop μ-loop
 loop-holds c =
     let given = c .before .before .before .before .args in
-    (search needs, refl, runs-none (given .b) (given .size) (given .x .now) (words (given .cell .now)) (omega (arith, length-words (given .cell .now))) _ (c .new .result) (c .before .load .ensures) (c .new .ensures))
+    let ws = words (given .cell .now) in
+    (search needs, refl, runs-none (given .b) (given .size) (given .x .now) ws (omega (arith, length-words (given .cell .now))) _ (c .new .result) (c .before .load .ensures) (c .new .ensures))
 
 mul-step : tie.Need-mul-step Inv-loop μ-loop
 mul-step c = search needs
@@ -103,10 +102,11 @@ loop-again : tie.Need-loop-again Inv-loop μ-loop
 loop-again c =
     let here = c .before .before .before .before .before .before .before in
     let given = here .before .before .before .before .before .args in
-    let long : length (words (given .cell .now)) ≡ 3 + given .size = omega (arith, length-words (given .cell .now)) in (
+    let ws = words (given .cell .now) in
+    let long : length ws ≡ cellSize (given .size) (kinds.OnePole (given .b)) = omega (arith, length-words (given .cell .now)) in (
       search needs,
       search needs,
-      runs-more (given .b) (given .size) (given .x .now) (words (given .cell .now)) long (here .loop .i) (words (here .loop .cell)) (words (c .before .before .store .last .0))
+      runs-more (given .b) (given .size) (given .x .now) ws long (here .loop .i) (words (here .loop .cell)) (words (c .before .before .store .last .0))
           (here .loop .pole) (c .before .before .before .before .step .result) (search needs)
           (c .before .before .before .before .step .ensures) (c .before .before .store .ensures) (here .loop .inv .2),
     )
@@ -122,7 +122,7 @@ returns c =
     let here = c .before .before .before .before .before in
     let given = here .before .before .before .before .before .args in
     c .before .before .store2 .ensures
-    ∙ rides-end (kinds.OnePole (given .b)) (given .size) (alone (given .x .now)) (words (given .cell .now)) (here .loop .i) (words (here .loop .cell)) (here .loop .pole .y1)
+    ∙ carrying-end (kinds.OnePole (given .b)) (given .size) (alone (given .x .now)) (words (given .cell .now)) (here .loop .i) (words (here .loop .cell)) (here .loop .pole .y1)
     (omega arith) (omega arith) (here .loop .inv .2 .1)
 
 pub one-pole-spec : {M : Type 1} → statement M

@@ -2,7 +2,7 @@
 use borrow.Author.Needs.{needs}
 use mathlib.Core.Path.{_≡_, refl, sym, ap, _∙_, subst}
 use mathlib.Core.List.{List}
-use Prim.Native.Nat.{ℕ, _+_, _-_, _*_, _≤_, _<_}
+use Prim.Native.Nat.{ℕ, _+_, _-_, _≤_, _<_}
 use native.Mathlib.Omega.{arith}
 use lib.Dec.{T}
 use lib.ListN.{length}
@@ -13,11 +13,12 @@ use Rattle.leaves.specs.Floors.{whole, within}
 use Rattle.leaves.specs.Phase.{increment, advance, phaseAfter}
 use Rattle.leaves.specs.Sine.{sineOf, phaseUnits, over23}
 use Rattle.leaves.proofs.PhaseStep.{phase-stays, phase-fits}
+use Rattle.nodes.specs.Kind.{cellSize}
 use Rattle.nodes.specs.Rule.{leftOf, keeps, carryAfter, placeAfter, lineAfter, sampleBy, stateBy}
 use Rattle.nodes.specs.Cell.{Cell, putFrame, frameAt, stepCell}
 use Rattle.nodes.specs.Block.{nothing}
 use Rattle.nodes.specs.declared.kind.NodeKind.the-variants.{Sine}
-use Rattle.nodes.proofs.Carried.{carried, Rides, rides-none, rides-more, rides-end}
+use Rattle.nodes.proofs.Carried.{carried, Carrying, carrying-none, carrying-more, carrying-end}
 use Rattle.nodes.proofs.sin_osc.sin_osc.Statement.{statement}
 use Rattle.nodes.proofs.sin_osc.sin_osc.Tie as tie
 
@@ -34,14 +35,11 @@ rule f N i c = refl
 
 -- the phase is from 0 to 1, and the values and the phase are those of place i
 abbrev Runs : ℕ → List ℕ → ℕ → List ℕ → Float → Type 0
-Runs N ws₀ i ws v = T (within (whole 1 0) v) × ((f : Float) → Rides (Sine f) N nothing ws₀ i ws v)
+Runs N ws₀ i ws v = T (within (whole 1 0) v) × ((f : Float) → Carrying (Sine f) N nothing ws₀ i ws v)
 
-module _ (N : ℕ) (ws₀ : List ℕ) (long : length ws₀ ≡ 3 + N) where
-  whole-cell : length ws₀ ≡ 3 + N * 1 + 0
-  whole-cell = omega arith
-
+module _ (N : ℕ) (ws₀ : List ℕ) (long : (f : Float) → length ws₀ ≡ cellSize N (Sine f)) where
   runs-none : (v : Float) → v ≡ floatAt ws₀ 1 → T (within (whole 1 0) (floatAt ws₀ 1)) → Runs N ws₀ 0 ws₀ v
-  runs-none v e h = (subst (λ (x : Float). T (within (whole 1 0) x)) (sym e) h, λ f. rides-none (Sine f) N nothing ws₀ whole-cell v e)
+  runs-none v e h = (subst (λ (x : Float). T (within (whole 1 0) x)) (sym e) h, λ f. carrying-none (Sine f) N nothing ws₀ (long f) v e)
 
   module _ (by : Float) (eb : by ≡ increment (floatAt ws₀ 0)) (band : T (within (whole 11025 2) (floatAt ws₀ 0))) where
     runs-more : (i : ℕ) (ws ws′ : List ℕ) (y v v′ : Float) → i < N → y ≡ over23 (sineOf (phaseUnits v)) → ws′ ≡ setFloat ws (3 + i) y → v′ ≡ advance v by
@@ -51,7 +49,7 @@ module _ (N : ℕ) (ws₀ : List ℕ) (long : length ws₀ ≡ 3 + N) where
         let e : v′ ≡ phaseAfter g v = ev ∙ ap (advance v) eb in (
           subst (λ (x : Float). T (within (whole 1 0) x)) (sym e) (phase-stays g v band (r .0)),
           λ f.
-              rides-more (Sine f) N nothing ws₀ heard turned (rule f N) i ws ws′ g v v′ whole-cell (omega arith) refl (phase-fits g v)
+              carrying-more (Sine f) N nothing ws₀ heard turned (rule f N) i ws ws′ g v v′ (long f) (omega arith) refl (phase-fits g v)
               (es ∙ ap (setFloat ws (3 + i)) ey) e (r .1 f),
         )
 
@@ -74,7 +72,7 @@ loop-holds : tie.Need-loop-holds Inv-loop μ-loop
 loop-holds c =
     let start = c .before .before .before .before .before .before in
     let cell = start .args .cell .now in
-    (search needs, refl, runs-none (start .args .size) (words cell) (omega (arith, length-words cell)) (c .load2 .result) (c .load2 .ensures) (start .pre .1 .1))
+    (search needs, refl, runs-none (start .args .size) (words cell) (λ f. omega (arith, length-words cell)) (c .load2 .result) (c .load2 .ensures) (start .pre .1 .1))
 
 add-store : tie.Need-add-store Inv-loop μ-loop
 add-store c = search needs
@@ -100,7 +98,7 @@ loop-again c =
     let begun = here .before .before .before in
     let start = begun .before .before .before .before in
     let cell = start .args .cell .now in
-    let long : length (words cell) ≡ 3 + start .args .size = omega (arith, length-words cell) in
+    let long : (f : Float) → length (words cell) ≡ cellSize (start .args .size) (Sine f) = λ f. omega (arith, length-words cell) in
     let by : begun .increment .result ≡ increment (floatAt (words cell) 0) = begun .increment .ensures ∙ ap increment (begun .before .load .ensures) in (
       search needs,
       search needs,
@@ -121,7 +119,7 @@ returns c f =
     let here = c .before .before .before .before .before in
     let given = here .before .before .before .before .before .before .before .args in
     c .before .before .store2 .ensures
-    ∙ rides-end (Sine f) (given .size) nothing (words (given .cell .now)) (here .loop .i) (words (here .loop .cell)) (here .loop .phase)
+    ∙ carrying-end (Sine f) (given .size) nothing (words (given .cell .now)) (here .loop .i) (words (here .loop .cell)) (here .loop .phase)
     (omega arith) (omega arith) (here .loop .inv .2 .1 f)
 
 pub sin-osc-spec : {M : Type 1} → statement M
