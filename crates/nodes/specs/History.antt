@@ -1,7 +1,7 @@
 -- A node as the reading by samples knows it (document 01, "Reading by samples"): its number, its carry and every sample that it has taken,
 -- where memory holds the newest n in a ring. The rules are the table's, with the lines read from n ago; `stateOf` says what memory holds of
 -- it. Definitions only; that both give the same is in proofs/Histories.antt.
-use Prim.Native.Nat.{ℕ, _+_, _-_, _%_}
+use Prim.Native.Nat.{ℕ, _-_, _%_}
 use mathlib.Core.Bool.{cond}
 use mathlib.Core.List.{List, [], _∷_, _++_, map}
 use lib.ListN.{length}
