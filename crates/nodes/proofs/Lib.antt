@@ -2,3 +2,5 @@ pub mod Iterated
 pub mod Filled
 pub mod Cells
 pub mod Histories
+pub mod HistoryFrames
+pub mod HistoryBlocks
