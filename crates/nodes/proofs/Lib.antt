@@ -4,3 +4,4 @@ pub mod Cells
 pub mod Histories
 pub mod HistoryFrames
 pub mod HistoryBlocks
+pub mod HistoryRules

@@ -7,3 +7,4 @@ pub mod Ring
 pub mod Node
 pub mod History
 pub mod HistoryBlock
+pub mod HistoryRules
