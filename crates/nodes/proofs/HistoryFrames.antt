@@ -3,7 +3,7 @@
 --     frames-long, frames-there    samples of the right number, and the frames that stand in them
 --     frames-fresh                 fresh samples are silent frames
 --     cell-values                  a cell stands in its own values
---     run-frames                   a block run over the cell writes frame by frame
+--     run-frames, run-values       a block run over the cell, or over its values, writes frame by frame
 -- Assumes nothing.
 use mathlib.Core.Path.{_≡_, refl, sym, ap, _∙_}
 use mathlib.Core.Bool.{Bool, true, false, cond}
@@ -20,7 +20,7 @@ use Rattle.reading.proofs.Table.{tab-agree}
 use Rattle.nodes.specs.Kind.{channelsOf}
 use Rattle.nodes.specs.Iter.{iter}
 use Rattle.nodes.specs.Rule.{Brought, Frame, State, leftBy, rightOf, sampleBy, stateBy, keeps}
-use Rattle.nodes.specs.Cell.{Cell, valuesOf, cellOf, frameAt, putFrame, stepCell, runCell}
+use Rattle.nodes.specs.Cell.{Cell, valuesOf, cellOf, frameAt, putFrame, stepCell, runCell, runValues}
 use Rattle.nodes.specs.HistoryBlock.{silent, samplesOf, framesOf, cellWith, stepFrames}
 use Rattle.nodes.specs.declared.kind.NodeKind.{NodeKind}
 use Rattle.nodes.specs.declared.kind.NodeKind.the-variants.{Pass, Sum, Destination, Balance, Mul, Add, Delay, AllPass, OnePole, Sine}
@@ -215,3 +215,8 @@ module _ (k : NodeKind) (N : ℕ) (bs : ℕ → Brought) where
     pub run-frames : runCell k N bs (cellWith k c) ≡ cellWith k (iter (stepFrames k bs) N c)
     unfolding runCell
     run-frames = steps-frames N (omega arith)
+
+    -- the same on the values of the cell
+    pub run-values : runValues k N bs (valuesOf (cellWith k c)) ≡ valuesOf (cellWith k (iter (stepFrames k bs) N c))
+    run-values =
+        ap (λ (d : Cell). valuesOf (runCell k N bs d)) (cell-values k N (cellWith k c) (frames-long k N (c .samples) long)) ∙ ap valuesOf run-frames

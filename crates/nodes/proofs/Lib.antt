@@ -5,3 +5,4 @@ pub mod Histories
 pub mod HistoryFrames
 pub mod HistoryBlocks
 pub mod HistoryRules
+pub mod HistoryFits

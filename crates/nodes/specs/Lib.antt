@@ -8,3 +8,4 @@ pub mod Node
 pub mod History
 pub mod HistoryBlock
 pub mod HistoryRules
+pub mod HistoryFits
