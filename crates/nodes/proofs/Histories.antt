@@ -1,4 +1,5 @@
 -- What memory holds of a node does as what the reading knows of it, for all ten types:
+--     oldest          a line's index 0 is the sample from n ago
 --     fresh-heard     fresh memory is that of a node that has taken nothing
 --     sample-heard    both give the same sample
 --     state-heard     both go on alike
@@ -48,6 +49,13 @@ module _ (n : ℕ) (pos : 1 ≤ n) (l : List ℕ) (c : ℕ) (taken : length l �
       ap (λ (d : ℕ). next n (d % n)) (sym taken) ∙ ap (λ (r : Ring ℕ). r .at) (push-is 0 n pos l 0) ∙ ap (λ (d : ℕ). suc d % n) taken
 
 -- ---- what is read
+
+-- index 0 is the sample from n ago
+pub oldest : (n : ℕ) → 1 ≤ n → (l : List ℕ) → agoBy n l 0 ≡ ofBits binary32 (from 0 n l n)
+unfolding agoBy
+oldest n pos l =
+    let whole : n - 0 ≡ n = omega arith in
+    ap (λ (j : ℕ). ofBits binary32 (from 0 n l (n - j))) (mod-eq-of-lt pos) ∙ ap (λ (j : ℕ). ofBits binary32 (from 0 n l j)) whole
 
 no-more : (q : ℕ) → 0 + q ≡ q
 no-more q = omega arith

@@ -355,16 +355,22 @@ line-fits n e = (leb-true 1 n (both (leb 1 n) (leb n 132300) e .0), leb-true n 1
 pub kind-fits : (t n w : ℕ) (k : NodeKind) → ruleOf t n w ≡ Is k → KindFits k
 unfolding ruleOf numberOf numberFits
 kind-fits t n w =
+    let f : Float = ofBits binary32 w in
     let single = ofBits-fits binary32 w in
-    let number : floatFields n w ≡ true → finite (toBits binary32 (ofBits binary32 w)) ≡ true = λ e. finite-number w (both (eqb n 0) (finite w) e .1) in
+    let delay : delayFields n w ≡ true → (1 ≤ n) × (n ≤ 132300) = λ e. line-fits n (both (lineFits n) (eqb w 0) e .0) in
+    let all-pass : allPassFields n w ≡ true → (1 ≤ n) × (n ≤ 132300) = λ e. line-fits n (both (lineFits n) (finite w) e .0) in
+    let gain : allPassFields n w ≡ true → finite (toBits binary32 f) ≡ true = λ e. finite-number w (both (lineFits n) (finite w) e .1) in
+    let number : floatFields n w ≡ true → finite (toBits binary32 f) ≡ true = λ e. finite-number w (both (eqb n 0) (finite w) e .1) in
+    let frequency : sineFields n w ≡ true → inBand (toBits binary32 f) ≡ true
+    = λ e. single-in-band f single ∙ sym (in-band w) ∙ both (eqb n 0) (inBand w) e .1 in
     row KindFits (eqb t 1) (plainFields n w) Pass _ (λ e. record { line = tt; single = zero-single; number = zero-number })
     (row KindFits (eqb t 2) (plainFields n w) Sum _ (λ e. record { line = tt; single = zero-single; number = zero-number })
     (row KindFits (eqb t 3) (plainFields n w) Destination _ (λ e. record { line = tt; single = zero-single; number = zero-number })
     (row KindFits (eqb t 4) (plainFields n w) Balance _ (λ e. record { line = tt; single = zero-single; number = zero-number })
-    (row KindFits (eqb t 5) (floatFields n w) (Mul (ofBits binary32 w)) _ (λ e. record { line = tt; single = single; number = number e })
-    (row KindFits (eqb t 6) (floatFields n w) (Add (ofBits binary32 w)) _ (λ e. record { line = tt; single = single; number = number e })
-    (row KindFits (eqb t 7) (delayFields n w) (Delay n) _ (λ e. record { line = line-fits n (both (lineFits n) (eqb w 0) e .0); single = zero-single; number = zero-number })
-    (row KindFits (eqb t 8) (allPassFields n w) (AllPass n (ofBits binary32 w)) _ (λ e. record { line = line-fits n (both (lineFits n) (finite w) e .0); single = single; number = finite-number w (both (lineFits n) (finite w) e .1) })
-    (row KindFits (eqb t 9) (floatFields n w) (OnePole (ofBits binary32 w)) _ (λ e. record { line = tt; single = zero-single; number = zero-number })
-    (row KindFits (eqb t 10) (sineFields n w) (Sine (ofBits binary32 w)) Broken (λ e. record { line = tt; single = single; number = single-in-band (ofBits binary32 w) single ∙ sym (in-band w) ∙ both (eqb n 0) (inBand w) e .1 })
+    (row KindFits (eqb t 5) (floatFields n w) (Mul f) _ (λ e. record { line = tt; single = single; number = number e })
+    (row KindFits (eqb t 6) (floatFields n w) (Add f) _ (λ e. record { line = tt; single = single; number = number e })
+    (row KindFits (eqb t 7) (delayFields n w) (Delay n) _ (λ e. record { line = delay e; single = zero-single; number = zero-number })
+    (row KindFits (eqb t 8) (allPassFields n w) (AllPass n f) _ (λ e. record { line = all-pass e; single = single; number = gain e })
+    (row KindFits (eqb t 9) (floatFields n w) (OnePole f) _ (λ e. record { line = tt; single = zero-single; number = zero-number })
+    (row KindFits (eqb t 10) (sineFields n w) (Sine f) Broken (λ e. record { line = tt; single = single; number = frequency e })
     (λ r e. absurd (never r e)))))))))))
