@@ -4,3 +4,8 @@ pub mod Cells
 pub mod Kept
 pub mod Fresh
 pub mod Carried
+pub mod Histories
+pub mod HistoryFrames
+pub mod HistoryBlocks
+pub mod HistoryRules
+pub mod HistoryFits

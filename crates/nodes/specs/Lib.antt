@@ -5,3 +5,7 @@ pub mod Cell
 pub mod Block
 pub mod Ring
 pub mod Node
+pub mod History
+pub mod HistoryBlock
+pub mod HistoryRules
+pub mod HistoryFits

@@ -3,3 +3,4 @@ pub mod cell;
 pub mod kind;
 pub mod onepole;
 pub mod sin_osc;
+pub mod kind;
