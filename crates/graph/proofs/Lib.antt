@@ -11,7 +11,6 @@ pub mod Tabling
 pub mod Joined
 pub mod Six
 -- Laws that the proofs of `graph` cite, and theorems for its callers.
-pub mod Wiring
 pub mod Repeats
 pub mod Going
 pub mod Listed

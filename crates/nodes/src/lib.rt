@@ -3,4 +3,3 @@ pub mod cell;
 pub mod kind;
 pub mod onepole;
 pub mod sin_osc;
-pub mod kind;
