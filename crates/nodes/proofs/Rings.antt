@@ -1,0 +1,243 @@
+-- The types with a ring, in stretches: what a sample keeps of the cell, where the place goes, and how stretches make a block.
+--     Ringed                    a type with one channel and a ring of n places: delay-ring, all-pass-ring
+--     Held                      what a loop knows of the cell midway
+--     stretch-none, -then       a stretch's loop, for any turn that is the rule's on a cell that is held
+--     Reached, reached-none, -then, -end    a block's loop over stretches
+--     delay-turn, all-pass-turn    the stores of one sample are the rule's
+-- Assumes nothing.
+use mathlib.Core.Path.{_≡_, refl, sym, ap, _∙_, subst}
+use mathlib.Core.Bool.{Bool, true, false, cond}
+use mathlib.Core.List.{List, [], _∷_, _++_}
+use Prim.Native.Nat.{ℕ, zero, suc, _+_, _*_, _%_, _≤_, _<_}
+use native.Mathlib.Nat.{mod-eq-of-lt}
+use native.Mathlib.Numerals.{add-one}
+use native.Mathlib.Omega.{arith}
+use lib.Dec.{eqb, ltb}
+use lib.ListN.{length, getD, set, take, drop, length-set}
+use lib.Seq.{take-at, drop-at}
+use lib.Ieee.{Float, binary32, ofBits, toBits}
+use borrow.Author.Tests.{lt-ltb, le-ltb, eq-eqb, ne-eqb, eqb-true, eqb-false}
+use Rattle.nodes.specs.Kind.{channelsOf, lineOf, cellSize}
+use Rattle.nodes.specs.Iter.{iter, from}
+use Rattle.nodes.specs.Rule.{Brought, Frame, State, first, leftBy, leftOf, get, xLine, yLine, tap, allPass, next, placeAfter, lineAfter, carryAfter, keeps, sampleBy, stateBy}
+use Rattle.nodes.specs.Cell.{Cell, valuesOf, cellOf, frameAt, putFrame, stepCell, runCell, runValues}
+use Rattle.nodes.specs.Ring.{wrapOf, atPlace, stretchValues}
+use Rattle.nodes.specs.declared.kind.NodeKind.{NodeKind}
+use Rattle.nodes.specs.declared.kind.NodeKind.the-variants.{Delay, AllPass}
+use Rattle.nodes.proofs.Iterated.{iter-join, iter-builds}
+use Rattle.nodes.proofs.Cells.{values-cell, samples-long, line-long, set-place, set-line, set-sample, get-number, get-place, get-line, withState, withSamples, withLine}
+
+-- ---- the types
+
+pub record Ringed (k : NodeKind) (n : ℕ) : Type 0 where
+  pub one : channelsOf k ≡ 1
+  pub moves : (p : ℕ) → placeAfter k p ≡ next n p
+  pub long : (p x y : ℕ) (l : List ℕ) → length (lineAfter k p x y l) ≡ length l
+
+pub delay-ring : (n : ℕ) → Ringed (Delay n) n
+unfolding placeAfter lineAfter
+delay-ring n = record { one = refl; moves = λ p. refl; long = λ p x y l. length-set l p x }
+
+pub all-pass-ring : (n : ℕ) (f : Float) → Ringed (AllPass n f) n
+unfolding placeAfter lineAfter
+all-pass-ring n f = record {
+  one = refl;
+  moves = λ p. refl;
+  long = λ p x y l. length-set (set l p x) (n + p) y ∙ length-set l p x;
+}
+
+-- ---- the place
+
+next-in : (n p : ℕ) → suc p < n → next n p ≡ suc p
+next-in n p h = ap (λ (b : Bool). cond b 0 (suc p)) (ne-eqb (suc p) n (λ e. omega arith))
+
+next-out : (n p : ℕ) → suc p ≡ n → next n p ≡ 0
+next-out n p e = ap (λ (b : Bool). cond b 0 (suc p)) (eq-eqb (suc p) n e)
+
+pub wrap-in : (n p : ℕ) → p < n → wrapOf p n ≡ p
+wrap-in n p h = ap (λ (b : Bool). cond b p 0) (lt-ltb p n h)
+
+pub wrap-out : (n p : ℕ) → n ≤ p → wrapOf p n ≡ 0
+wrap-out n p h = ap (λ (b : Bool). cond b p 0) (le-ltb p n h)
+
+next-wrap : (n p : ℕ) → p < n → next n p ≡ wrapOf (suc p) n
+next-wrap n p h = go (eqb (suc p) n) refl
+  where
+    go : (b : Bool) → eqb (suc p) n ≡ b → next n p ≡ wrapOf (suc p) n
+    go true e = let s = eqb-true (suc p) n e in next-out n p s ∙ sym (wrap-out n (suc p) (omega (arith, s)))
+    go false e = let s : suc p < n = omega (arith, eqb-false (suc p) n e) in next-in n p s ∙ sym (wrap-in n (suc p) s)
+
+-- ---- the cell midway
+
+-- N samples, the line, the number w, and the ring place p
+pub record Held (k : NodeKind) (N w p : ℕ) (c : Cell) : Type 0 where
+  pub samples : length (c .samples) ≡ N
+  pub line : length (c .state .line) ≡ lineOf k
+  pub number : c .state .number ≡ w
+  pub place : c .state .place ≡ p
+
+put-long : (channels N i : ℕ) (f : Frame) (l : List ℕ) → length (putFrame channels N i f l) ≡ length l
+unfolding putFrame
+put-long channels N i f l = go (eqb channels 2)
+  where
+    go : (b : Bool) → length (cond b (set (set l i (f .left)) (N + i) (f .right)) (set l i (f .left))) ≡ length l
+    go true = length-set (set l i (f .left)) (N + i) (f .right) ∙ length-set l i (f .left)
+    go false = length-set l i (f .left)
+
+-- the cell that stands in a cell's values
+cell-values : (N : ℕ) (k : NodeKind) (c : Cell) → length (c .samples) ≡ N * channelsOf k → cellOf N k (valuesOf c) ≡ c
+unfolding cellOf valuesOf
+cell-values N k c e =
+    let m : ℕ = N * channelsOf k in
+    let three : 3 + m ≡ suc (suc (suc m)) = omega arith in
+    let line : drop (3 + m) (valuesOf c) ≡ c .state .line = rw three (drop-at (c .samples) (c .state .line) m e) in
+    let samples : take m (c .samples ++ c .state .line) ≡ c .samples = take-at (c .samples) (c .state .line) m e in
+    λ i. record {
+      state = record { number = c .state .number; carry = c .state .carry; place = c .state .place; line = line i };
+      samples = samples i;
+    }
+
+held-at : {k : NodeKind} {N w p p′ : ℕ} {c : Cell} → p ≡ p′ → Held k N w p c → Held k N w p′ c
+held-at e h = record { samples = h .samples; line = h .line; number = h .number; place = h .place ∙ e }
+
+module _ (k : NodeKind) (n : ℕ) (r : Ringed k n) (N : ℕ) (bs : ℕ → Brought) where
+  one-channel : N * channelsOf k ≡ N
+  one-channel = ap (λ (a : ℕ). N * a) (r .one) ∙ omega arith
+
+  held-start : (ws : List ℕ) → length ws ≡ cellSize N k → (p : ℕ) → Held k N (getD ws 0 0) p (atPlace p (cellOf N k ws))
+  unfolding cellOf
+  held-start ws long p = record {
+    samples = samples-long N k ws long ∙ one-channel;
+    line = line-long N k ws long;
+    number = refl;
+    place = refl;
+  }
+
+  held-step : (w p i : ℕ) (c : Cell) → Held k N w p c → Held k N w (next n p) (stepCell k N bs i c)
+  unfolding stepCell stateBy
+  held-step w p i c h = record {
+    samples = put-long (channelsOf k) N i (sampleBy k (c .state) (frameAt N i (c .samples)) (bs i)) (c .samples) ∙ h .samples;
+    line = r .long _ _ _ (c .state .line) ∙ h .line;
+    number = h .number;
+    place = r .moves (c .state .place) ∙ ap (next n) (h .place);
+  }
+
+  module _ (w p done : ℕ) (c : Cell) (h : Held k N w p c) where
+    -- in a stretch the place counts on
+    held-on : (i : ℕ) → p + i < n → Held k N w (p + i) (iter (from done (stepCell k N bs)) i c)
+    unfolding iter
+    held-on zero b = held-at (omega arith) h
+    held-on (suc i) b =
+        let e : suc (p + i) ≡ p + suc i = omega arith in
+        held-at (next-in n (p + i) (omega arith) ∙ e) (held-step w (p + i) (done + i) _ (held-on i (omega arith)))
+
+    -- and at its end it may wrap
+    held-end : (count : ℕ) → p < n → p + count ≤ n → Held k N w (wrapOf (p + count) n) (iter (from done (stepCell k N bs)) count c)
+    unfolding iter
+    held-end zero a b = let e : p ≡ p + 0 = omega arith in held-at (sym (wrap-in n p a) ∙ ap (λ (j : ℕ). wrapOf j n) e) h
+    held-end (suc i) a b =
+        let e : suc (p + i) ≡ p + suc i = omega arith in
+        held-at (next-wrap n (p + i) (omega arith) ∙ ap (λ (j : ℕ). wrapOf j n) e) (held-step w (p + i) (done + i) _ (held-on i (omega arith)))
+
+  -- ---- a stretch
+
+  module _ (ws : List ℕ) (long : length ws ≡ cellSize N k) (p done : ℕ) where
+    pub stretch-none : ws ≡ stretchValues k N bs p done 0 ws
+    unfolding stretchValues iter cellOf
+    stretch-none = sym (values-cell N k ws long)
+
+    -- one sample more, where what is stored is what the rule makes of any cell whose values are there
+    pub stretch-then : (i : ℕ) → p + i < n → (vs vs′ : List ℕ) → vs ≡ stretchValues k N bs p done i ws
+        → ((q : ℕ) (c : Cell) → Held k N (getD ws 0 0) (p + i) c → vs ≡ valuesOf (atPlace q c) → vs′ ≡ valuesOf (atPlace q (stepCell k N bs (done + i) c)))
+        → vs′ ≡ stretchValues k N bs p done (i + 1) ws
+    unfolding stretchValues iter
+    stretch-then i b vs vs′ e t =
+        rw (add-one i) (t (getD ws 2 0) _ (held-on (getD ws 0 0) p done _ (held-start ws long p) i b) e)
+
+-- ---- a block in stretches
+
+-- after `done` samples the place is p, and vs are the values, in which the place is still the old one
+pub record Reached (k : NodeKind) (N : ℕ) (bs : ℕ → Brought) (ws : List ℕ) (done p : ℕ) (vs : List ℕ) : Type 0 where
+  pub values : vs ≡ valuesOf (atPlace (getD ws 2 0) (iter (stepCell k N bs) done (cellOf N k ws)))
+  pub held : Held k N (getD ws 0 0) p (iter (stepCell k N bs) done (cellOf N k ws))
+
+module _ (k : NodeKind) (n : ℕ) (r : Ringed k n) (N : ℕ) (bs : ℕ → Brought) (ws : List ℕ) where
+  pub reached-none : length ws ≡ cellSize N k → Reached k N bs ws 0 (getD ws 2 0) ws
+  unfolding iter cellOf
+  reached-none long = record { values = sym (values-cell N k ws long); held = held-start k n r N bs ws long (getD ws 2 0) }
+
+  module _ (done p : ℕ) (vs : List ℕ) (h : Reached k N bs ws done p vs) where
+    pub reached-number : getD vs 0 0 ≡ getD ws 0 0
+    reached-number = ap (λ (l : List ℕ). getD l 0 0) (h .values) ∙ get-number _ ∙ h .held .number
+
+    pub reached-then : (count : ℕ) (vs′ : List ℕ) → p < n → p + count ≤ n → vs′ ≡ stretchValues k N bs p done count vs
+        → Reached k N bs ws (done + count) (wrapOf (p + count) n) vs′
+    unfolding stretchValues
+    reached-then count vs′ a b e =
+        let q : ℕ = getD ws 2 0 in
+        let c : Cell = iter (stepCell k N bs) done (cellOf N k ws) in
+        let join = iter-join (stepCell k N bs) done count (cellOf N k ws) in
+        let stays : getD vs 2 0 ≡ q = ap (λ (l : List ℕ). getD l 2 0) (h .values) ∙ get-place (atPlace q c) in
+        let stands : atPlace p (cellOf N k vs) ≡ c =
+            ap (λ (l : List ℕ). atPlace p (cellOf N k l)) (h .values)
+            ∙ ap (atPlace p) (cell-values N k (atPlace q c) (h .held .samples ∙ sym (one-channel k n r N bs)))
+            ∙ ap (λ (j : ℕ). atPlace j c) (sym (h .held .place)) in
+        record {
+          values =
+              e
+              ∙ (λ i. valuesOf (atPlace (stays i) (iter (from done (stepCell k N bs)) count (stands i))))
+              ∙ ap (λ (d : Cell). valuesOf (atPlace q d)) join;
+          held = subst (Held k N (getD ws 0 0) (wrapOf (p + count) n)) join (held-end k n r N bs (getD ws 0 0) p done c (h .held) count a b);
+        }
+
+  -- the place is stored after the last sample
+  pub reached-end : (p : ℕ) (vs : List ℕ) → Reached k N bs ws N p vs → set vs 2 p ≡ runValues k N bs ws
+  unfolding runCell
+  reached-end p vs h =
+      let c : Cell = iter (stepCell k N bs) N (cellOf N k ws) in
+      ap (λ (l : List ℕ). set l 2 p) (h .values)
+      ∙ set-place (atPlace (getD ws 2 0) c) p
+      ∙ ap (λ (j : ℕ). valuesOf (atPlace j c)) (sym (h .held .place))
+
+-- ---- one sample
+
+-- the oldest of a ring
+pub oldest : (n from : ℕ) (s : State) → s .place < n → get n from s 0 ≡ ofBits binary32 (getD (s .line) (from + s .place) 0)
+unfolding get
+oldest n from s h =
+    let e : s .place + 0 ≡ s .place = omega arith in
+    ap (λ (j : ℕ). ofBits binary32 (getD (s .line) (from + j) 0)) (ap (λ (j : ℕ). j % n) e ∙ mod-eq-of-lt h)
+
+-- what a delay gives
+pub delay-reads : (n : ℕ) (s : State) (b : Brought) → s .place < n → ofBits binary32 (getD (s .line) (s .place) 0) ≡ leftBy (Delay n) s b
+unfolding leftOf xLine
+delay-reads n s b h = let e : s .place ≡ 0 + s .place = omega arith in ap (λ (j : ℕ). ofBits binary32 (getD (s .line) j 0)) e ∙ sym (oldest n 0 s h)
+
+-- a cell's values in memory: `at` is where the ring place is, and `out` where sample j is
+module _ (N q : ℕ) (c : Cell) (long : length (c .samples) ≡ N) (vs : List ℕ) (v : vs ≡ valuesOf (atPlace q c)) where
+  -- a load from the line
+  pub line-at : (i at : ℕ) → at ≡ 3 + N + i → getD vs at 0 ≡ getD (c .state .line) i 0
+  line-at i at e = (λ t. getD (v t) (e t) 0) ∙ get-line (atPlace q c) N i long
+
+  -- the stores: x into the ring, and of an all-pass y into the second one; y into the samples
+  module _ (bs : ℕ → Brought) (j : ℕ) (below : j < N) (at out : ℕ) (e-at : at ≡ 3 + N + c .state .place) (e-out : out ≡ 3 + j) where
+    pub delay-turn : (n x y : ℕ) → x ≡ toBits binary32 (first (bs j)) → y ≡ toBits binary32 (leftBy (Delay n) (c .state) (bs j))
+        → set (set vs at x) out y ≡ valuesOf (atPlace q (stepCell (Delay n) N bs j c))
+    unfolding stepCell stateBy sampleBy putFrame keeps carryAfter lineAfter
+    delay-turn n x y ex ey =
+        let within : j < length (c .samples) = omega arith in
+        let new : ℕ = toBits binary32 (leftBy (Delay n) (c .state) (bs j)) in
+        rw (v, e-at, e-out, ex, ey)
+        (ap (λ (l : List ℕ). set l (3 + j) new) (set-line (atPlace q c) _ N (c .state .place) long) ∙ set-sample _ new j within)
+
+    pub all-pass-turn : (n : ℕ) (f : Float) (x y at-y : ℕ) → at-y ≡ 3 + N + (n + c .state .place)
+        → x ≡ toBits binary32 (first (bs j)) → y ≡ toBits binary32 (leftBy (AllPass n f) (c .state) (bs j))
+        → set (set (set vs at x) at-y y) out y ≡ valuesOf (atPlace q (stepCell (AllPass n f) N bs j c))
+    unfolding stepCell stateBy sampleBy putFrame keeps carryAfter lineAfter
+    all-pass-turn n f x y at-y e-y ex ey =
+        let within : j < length (c .samples) = omega arith in
+        let new : ℕ = toBits binary32 (leftBy (AllPass n f) (c .state) (bs j)) in
+        rw (v, e-at, e-out, e-y, ex, ey)
+        (ap (λ (l : List ℕ). set (set l (3 + N + (n + c .state .place)) new) (3 + j) new) (set-line (atPlace q c) _ N (c .state .place) long)
+        ∙ ap (λ (l : List ℕ). set l (3 + j) new) (set-line _ new N (n + c .state .place) long)
+        ∙ set-sample _ new j within)
