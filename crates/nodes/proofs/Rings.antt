@@ -8,7 +8,7 @@
 use mathlib.Core.Path.{_≡_, refl, sym, ap, _∙_, subst}
 use mathlib.Core.Bool.{Bool, true, false, cond}
 use mathlib.Core.List.{List, [], _∷_, _++_}
-use Prim.Native.Nat.{ℕ, zero, suc, _+_, _*_, _%_, _≤_, _<_}
+use Prim.Native.Nat.{ℕ, zero, suc, _+_, _-_, _*_, _%_, _≤_, _<_}
 use native.Mathlib.Nat.{mod-eq-of-lt}
 use native.Mathlib.Numerals.{add-one}
 use native.Mathlib.Omega.{arith}
@@ -16,12 +16,12 @@ use lib.Dec.{eqb, ltb}
 use lib.ListN.{length, getD, set, take, drop, length-set}
 use lib.Seq.{take-at, drop-at}
 use lib.Ieee.{Float, binary32, ofBits, toBits}
-use borrow.Author.Tests.{lt-ltb, le-ltb, eq-eqb, ne-eqb, eqb-true, eqb-false}
+use borrow.Author.Tests.{lt-ltb, le-ltb, eq-eqb, ne-eqb, eqb-true, eqb-false, ltb-true}
 use Rattle.nodes.specs.Kind.{channelsOf, lineOf, cellSize}
 use Rattle.nodes.specs.Iter.{iter, from}
 use Rattle.nodes.specs.Rule.{Brought, Frame, State, first, leftBy, leftOf, get, xLine, yLine, tap, allPass, next, placeAfter, lineAfter, carryAfter, keeps, sampleBy, stateBy}
 use Rattle.nodes.specs.Cell.{Cell, valuesOf, cellOf, frameAt, putFrame, stepCell, runCell, runValues}
-use Rattle.nodes.specs.Ring.{wrapOf, atPlace, stretchValues}
+use Rattle.nodes.specs.Ring.{stretchOf, wrapOf, atPlace, stretchValues}
 use Rattle.nodes.specs.declared.kind.NodeKind.{NodeKind}
 use Rattle.nodes.specs.declared.kind.NodeKind.the-variants.{Delay, AllPass}
 use Rattle.nodes.proofs.Iterated.{iter-join, iter-builds}
@@ -59,6 +59,21 @@ wrap-in n p h = ap (λ (b : Bool). cond b p 0) (lt-ltb p n h)
 
 pub wrap-out : (n p : ℕ) → n ≤ p → wrapOf p n ≡ 0
 wrap-out n p h = ap (λ (b : Bool). cond b p 0) (le-ltb p n h)
+
+pub wrap-below : (n p : ℕ) → 0 < n → wrapOf p n < n
+wrap-below n p h = go (ltb p n) refl
+  where
+    go : (b : Bool) → ltb p n ≡ b → cond b p 0 < n
+    go true e = ltb-true p n e
+    go false e = h
+
+-- a stretch goes on
+pub stretch-some : (place n left : ℕ) → place < n → 0 < left → 0 < stretchOf place n left
+stretch-some place n left a b = go (ltb (n - place) left)
+  where
+    go : (t : Bool) → 0 < cond t (n - place) left
+    go true = omega arith
+    go false = b
 
 next-wrap : (n p : ℕ) → p < n → next n p ≡ wrapOf (suc p) n
 next-wrap n p h = go (eqb (suc p) n) refl
@@ -162,18 +177,21 @@ pub record Reached (k : NodeKind) (N : ℕ) (bs : ℕ → Brought) (ws : List �
   pub held : Held k N (getD ws 0 0) p (iter (stepCell k N bs) done (cellOf N k ws))
 
 module _ (k : NodeKind) (n : ℕ) (r : Ringed k n) (N : ℕ) (bs : ℕ → Brought) (ws : List ℕ) where
-  pub reached-none : length ws ≡ cellSize N k → Reached k N bs ws 0 (getD ws 2 0) ws
+  pub reached-none : (p : ℕ) → p ≡ getD ws 2 0 → length ws ≡ cellSize N k → Reached k N bs ws 0 p ws
   unfolding iter cellOf
-  reached-none long = record { values = sym (values-cell N k ws long); held = held-start k n r N bs ws long (getD ws 2 0) }
+  reached-none p e long = record {
+    values = sym (values-cell N k ws long);
+    held = held-at (sym e) (held-start k n r N bs ws long (getD ws 2 0));
+  }
 
   module _ (done p : ℕ) (vs : List ℕ) (h : Reached k N bs ws done p vs) where
     pub reached-number : getD vs 0 0 ≡ getD ws 0 0
     reached-number = ap (λ (l : List ℕ). getD l 0 0) (h .values) ∙ get-number _ ∙ h .held .number
 
-    pub reached-then : (count : ℕ) (vs′ : List ℕ) → p < n → p + count ≤ n → vs′ ≡ stretchValues k N bs p done count vs
-        → Reached k N bs ws (done + count) (wrapOf (p + count) n) vs′
+    pub reached-then : (count p′ : ℕ) (vs′ : List ℕ) → vs′ ≡ stretchValues k N bs p done count vs → p′ ≡ wrapOf (p + count) n → p < n → p + count ≤ n
+        → Reached k N bs ws (done + count) p′ vs′
     unfolding stretchValues
-    reached-then count vs′ a b e =
+    reached-then count p′ vs′ e e-p a b =
         let q : ℕ = getD ws 2 0 in
         let c : Cell = iter (stepCell k N bs) done (cellOf N k ws) in
         let join = iter-join (stepCell k N bs) done count (cellOf N k ws) in
@@ -187,17 +205,19 @@ module _ (k : NodeKind) (n : ℕ) (r : Ringed k n) (N : ℕ) (bs : ℕ → Broug
               e
               ∙ (λ i. valuesOf (atPlace (stays i) (iter (from done (stepCell k N bs)) count (stands i))))
               ∙ ap (λ (d : Cell). valuesOf (atPlace q d)) join;
-          held = subst (Held k N (getD ws 0 0) (wrapOf (p + count) n)) join (held-end k n r N bs (getD ws 0 0) p done c (h .held) count a b);
+          held = subst (Held k N (getD ws 0 0) p′) join (held-at (sym e-p) (held-end k n r N bs (getD ws 0 0) p done c (h .held) count a b));
         }
 
-  -- the place is stored after the last sample
-  pub reached-end : (p : ℕ) (vs : List ℕ) → Reached k N bs ws N p vs → set vs 2 p ≡ runValues k N bs ws
-  unfolding runCell
-  reached-end p vs h =
-      let c : Cell = iter (stepCell k N bs) N (cellOf N k ws) in
-      ap (λ (l : List ℕ). set l 2 p) (h .values)
-      ∙ set-place (atPlace (getD ws 2 0) c) p
-      ∙ ap (λ (j : ℕ). valuesOf (atPlace j c)) (sym (h .held .place))
+    -- the place is stored after the last sample
+    pub reached-end : (vs′ : List ℕ) → vs′ ≡ set vs 2 p → done ≡ N → vs′ ≡ runValues k N bs ws
+    unfolding runCell
+    reached-end vs′ e all =
+        let c : Cell = iter (stepCell k N bs) done (cellOf N k ws) in
+        e
+        ∙ ap (λ (l : List ℕ). set l 2 p) (h .values)
+        ∙ set-place (atPlace (getD ws 2 0) c) p
+        ∙ ap (λ (j : ℕ). valuesOf (atPlace j c)) (sym (h .held .place))
+        ∙ ap (λ (j : ℕ). valuesOf (iter (stepCell k N bs) j (cellOf N k ws))) all
 
 -- ---- one sample
 
