@@ -9,17 +9,19 @@ use mathlib.Core.Path.{_≡_, refl, sym, ap, _∙_, subst}
 use mathlib.Core.Bool.{Bool, true, false, cond}
 use mathlib.Core.List.{List, [], _∷_, _++_}
 use Prim.Native.Nat.{ℕ, zero, suc, _+_, _-_, _*_, _%_, _≤_, _<_}
-use native.Mathlib.Nat.{mod-eq-of-lt}
+use native.Mathlib.Nat.{mod-eq-of-lt, mod-self, mod-add-mod, add-assoc}
 use native.Mathlib.Numerals.{add-one}
 use native.Mathlib.Omega.{arith}
 use lib.Dec.{eqb, ltb}
 use lib.ListN.{length, getD, set, take, drop, length-set}
 use lib.Seq.{take-at, drop-at}
 use lib.Ieee.{Float, binary32, ofBits, toBits}
-use borrow.Author.Tests.{lt-ltb, le-ltb, eq-eqb, ne-eqb, eqb-true, eqb-false, ltb-true}
+use borrow.Author.Tests.{lt-ltb, le-ltb, eq-eqb, ne-eqb, eqb-true, eqb-false, ltb-true, ltb-false}
+use Rattle.leaves.specs.Floors.{floorOf}
+use Rattle.leaves.specs.Position.{positionOf, restOf}
 use Rattle.nodes.specs.Kind.{channelsOf, lineOf, cellSize}
 use Rattle.nodes.specs.Iter.{iter, from}
-use Rattle.nodes.specs.Rule.{Brought, Frame, State, first, leftBy, leftOf, get, xLine, yLine, tap, allPass, next, placeAfter, lineAfter, carryAfter, keeps, sampleBy, stateBy}
+use Rattle.nodes.specs.Rule.{Brought, Frame, State, first, two, between, leftBy, leftOf, get, xLine, yLine, tap, allPass, next, placeAfter, lineAfter, carryAfter, keeps, sampleBy, stateBy}
 use Rattle.nodes.specs.Cell.{Cell, valuesOf, cellOf, frameAt, putFrame, stepCell, runCell, runValues}
 use Rattle.nodes.specs.Ring.{stretchOf, wrapOf, atPlace, stretchValues}
 use Rattle.nodes.specs.declared.kind.NodeKind.{NodeKind}
@@ -162,12 +164,12 @@ module _ (k : NodeKind) (n : ℕ) (r : Ringed k n) (N : ℕ) (bs : ℕ → Broug
     stretch-none = sym (values-cell N k ws long)
 
     -- one sample more, where what is stored is what the rule makes of any cell whose values are there
-    pub stretch-then : (i : ℕ) → p + i < n → (vs vs′ : List ℕ) → vs ≡ stretchValues k N bs p done i ws
-        → ((q : ℕ) (c : Cell) → Held k N (getD ws 0 0) (p + i) c → vs ≡ valuesOf (atPlace q c) → vs′ ≡ valuesOf (atPlace q (stepCell k N bs (done + i) c)))
+    pub stretch-then : (i j : ℕ) → p + i < n → j ≡ done + i → (vs vs′ : List ℕ) → vs ≡ stretchValues k N bs p done i ws
+        → ((q : ℕ) (c : Cell) → Held k N (getD ws 0 0) (p + i) c → vs ≡ valuesOf (atPlace q c) → vs′ ≡ valuesOf (atPlace q (stepCell k N bs j c)))
         → vs′ ≡ stretchValues k N bs p done (i + 1) ws
     unfolding stretchValues iter
-    stretch-then i b vs vs′ e t =
-        rw (add-one i) (t (getD ws 2 0) _ (held-on (getD ws 0 0) p done _ (held-start ws long p) i b) e)
+    stretch-then i j b at vs vs′ e t =
+        rw (add-one i, ← at) (t (getD ws 2 0) _ (held-on (getD ws 0 0) p done _ (held-start ws long p) i b) e)
 
 -- ---- a block in stretches
 
@@ -233,6 +235,43 @@ pub delay-reads : (n : ℕ) (s : State) (b : Brought) → s .place < n → ofBit
 unfolding leftOf xLine
 delay-reads n s b h = let e : s .place ≡ 0 + s .place = omega arith in ap (λ (j : ℕ). ofBits binary32 (getD (s .line) j 0)) e ∙ sym (oldest n 0 s h)
 
+-- what an all-pass gives, of what it reads of its two lines
+pub all-pass-reads : (n : ℕ) (f : Float) (s : State) (b : Brought) (g oldX oldY : Float)
+    → g ≡ ofBits binary32 (s .number) → oldX ≡ tap n b (get n 0 s) → oldY ≡ tap n b (get n n s)
+    → allPass g (first b) oldX oldY ≡ leftBy (AllPass n f) s b
+unfolding leftOf xLine yLine
+all-pass-reads n f s b g oldX oldY e-g e-x e-y = λ t. allPass (e-g t) (first b) (e-x t) (e-y t)
+
+-- with one source that is the oldest
+pub tap-one : (n from : ℕ) (s : State) (b : Brought) → two b ≡ false → s .place < n
+    → ofBits binary32 (getD (s .line) (from + s .place) 0) ≡ tap n b (get n from s)
+unfolding tap
+tap-one n from s b e h = rw e (sym (oldest n from s h))
+
+wrap-mod : (n p : ℕ) → p < n → wrapOf (p + 1) n ≡ (p + 1) % n
+wrap-mod n p h = go (ltb (p + 1) n) refl
+  where
+    go : (t : Bool) → ltb (p + 1) n ≡ t → wrapOf (p + 1) n ≡ (p + 1) % n
+    go true e = let s = ltb-true (p + 1) n e in wrap-in n (p + 1) s ∙ sym (mod-eq-of-lt s)
+    go false e =
+        let s : n ≡ p + 1 = omega (arith, ltb-false (p + 1) n e) in
+        wrap-out n (p + 1) (omega arith) ∙ sym (mod-self n) ∙ ap (λ (j : ℕ). j % n) s
+
+-- with two, it lies between the value at an index and the next
+pub tap-two : (n from : ℕ) (s : State) (b : Brought) (index older newer : ℕ) (rest : Float) → two b ≡ true
+    → index ≡ floorOf (positionOf (b .second) n) → rest ≡ restOf (positionOf (b .second) n)
+    → older ≡ (s .place + index) % n → newer ≡ wrapOf (older + 1) n → older < n
+    → between (ofBits binary32 (getD (s .line) (from + older) 0)) (ofBits binary32 (getD (s .line) (from + newer) 0)) rest ≡ tap n b (get n from s)
+unfolding tap get
+tap-two n from s b index older newer rest e e-i e-r e-o e-n h =
+    let next : newer ≡ (s .place + (index + 1)) % n =
+        e-n
+        ∙ wrap-mod n older h
+        ∙ ap (λ (j : ℕ). (j + 1) % n) e-o
+        ∙ mod-add-mod (s .place + index) n 1
+        ∙ ap (λ (j : ℕ). j % n) (add-assoc (s .place) index 1) in
+    rw (e, next, e-o, e-r, e-i)
+
 -- a cell's values in memory: `at` is where the ring place is, and `out` where sample j is
 module _ (N q : ℕ) (c : Cell) (long : length (c .samples) ≡ N) (vs : List ℕ) (v : vs ≡ valuesOf (atPlace q c)) where
   -- a load from the line
@@ -261,3 +300,20 @@ module _ (N q : ℕ) (c : Cell) (long : length (c .samples) ≡ N) (vs : List �
         (ap (λ (l : List ℕ). set (set l (3 + N + (n + c .state .place)) new) (3 + j) new) (set-line (atPlace q c) _ N (c .state .place) long)
         ∙ ap (λ (l : List ℕ). set l (3 + j) new) (set-line _ new N (n + c .state .place) long)
         ∙ set-sample _ new j within)
+
+-- one sample more of an all-pass: the three stores, where y is the rule's output
+pub all-pass-then : (n : ℕ) (f : Float) (N : ℕ) (bs : ℕ → Brought) (ws : List ℕ) (p done i j x y at at-y out : ℕ) (vs us ts rs : List ℕ)
+    → vs ≡ stretchValues (AllPass n f) N bs p done i ws → us ≡ set vs at x → ts ≡ set us at-y y → rs ≡ set ts out y
+    → x ≡ toBits binary32 (first (bs j))
+    → ((q : ℕ) (c : Cell) → Held (AllPass n f) N (getD ws 0 0) (p + i) c → vs ≡ valuesOf (atPlace q c)
+      → y ≡ toBits binary32 (leftBy (AllPass n f) (c .state) (bs j)))
+    → length ws ≡ cellSize N (AllPass n f) → p + i < n → j < N → j ≡ done + i
+    → at ≡ 3 + N + (p + i) → at-y ≡ 3 + N + (n + (p + i)) → out ≡ 3 + j
+    → rs ≡ stretchValues (AllPass n f) N bs p done (i + 1) ws
+all-pass-then n f N bs ws p done i j x y at at-y out vs us ts rs e e-us e-ts e-rs e-x e-y long a b e-j e-at e-at-y e-out =
+    stretch-then (AllPass n f) n (all-pass-ring n f) N bs ws long p done i j a e-j vs rs e (λ q c h v.
+      let first-at : at ≡ 3 + N + c .state .place = omega (arith, h .place) in
+      let second-at : at-y ≡ 3 + N + (n + c .state .place) = omega (arith, h .place) in
+      e-rs
+      ∙ ap (λ (l : List ℕ). set l out y) (e-ts ∙ ap (λ (l : List ℕ). set l at-y y) e-us)
+      ∙ all-pass-turn N q c (h .samples) vs v bs j b at out first-at e-out n f x y at-y second-at e-x (e-y q c h v))

@@ -35,7 +35,7 @@ turn : (n size place done i : ℕ) (x : List Float) (ws vs us ts : List ℕ) (ol
     → length ws ≡ cellSize size (Delay n) → place + i < n → done + i < size
     → ts ≡ stretchValues (Delay n) size (alone x) place done (i + 1) ws
 turn n size place done i x ws vs us ts old out e e-old e-us e-out e-ts long a b =
-    stretch-then (Delay n) n (delay-ring n) size (alone x) ws long place done i a vs ts e (λ q c h v.
+    stretch-then (Delay n) n (delay-ring n) size (alone x) ws long place done i (done + i) a refl vs ts e (λ q c h v.
       let at : 3 + size + place + i ≡ 3 + size + c .state .place = omega (arith, h .place) in
       let to : 3 + done + i ≡ 3 + (done + i) = omega arith in
       let reads : old ≡ getD (c .state .line) (c .state .place) 0 = e-old ∙ line-at size q c (h .samples) vs v (c .state .place) _ at in
