@@ -17,6 +17,7 @@ use lib.ListN.{length, getD, set, take, drop, length-set}
 use lib.Seq.{take-at, drop-at}
 use lib.Ieee.{Float, binary32, ofBits, toBits}
 use borrow.Author.Tests.{lt-ltb, le-ltb, eq-eqb, ne-eqb, eqb-true, eqb-false, ltb-true, ltb-false}
+use Rattle.leaves.specs.Floats.{floatAt}
 use Rattle.leaves.specs.Floors.{floorOf}
 use Rattle.leaves.specs.Position.{positionOf, restOf}
 use Rattle.nodes.specs.Kind.{channelsOf, lineOf, cellSize}
@@ -277,6 +278,9 @@ module _ (N q : ℕ) (c : Cell) (long : length (c .samples) ≡ N) (vs : List �
   -- a load from the line
   pub line-at : (i at : ℕ) → at ≡ 3 + N + i → getD vs at 0 ≡ getD (c .state .line) i 0
   line-at i at e = (λ t. getD (v t) (e t) 0) ∙ get-line (atPlace q c) N i long
+
+  pub float-at : (i at : ℕ) → at ≡ 3 + N + i → floatAt vs at ≡ ofBits binary32 (getD (c .state .line) i 0)
+  float-at i at e = ap (ofBits binary32) (line-at i at e)
 
   -- the stores: x into the ring, and of an all-pass y into the second one; y into the samples
   module _ (bs : ℕ → Brought) (j : ℕ) (below : j < N) (at out : ℕ) (e-at : at ≡ 3 + N + c .state .place) (e-out : out ≡ 3 + j) where

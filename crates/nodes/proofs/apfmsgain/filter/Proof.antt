@@ -12,7 +12,7 @@ use Rattle.nodes.specs.Rule.{allPass}
 use Rattle.nodes.specs.Block.{sample, alone}
 use Rattle.nodes.specs.Ring.{stretchValues}
 use Rattle.nodes.specs.declared.kind.NodeKind.the-variants.{AllPass}
-use Rattle.nodes.proofs.Rings.{all-pass-ring, stretch-none, line-at, tap-one, all-pass-reads, all-pass-then}
+use Rattle.nodes.proofs.Rings.{all-pass-ring, stretch-none, float-at, tap-one, all-pass-reads, all-pass-then}
 use Rattle.nodes.proofs.apfmsgain.filter.Statement.{statement}
 use Rattle.nodes.proofs.apfmsgain.filter.Tie as tie
 
@@ -38,11 +38,9 @@ turn : (n size place done i : ℕ) (f : Float) (x : List Float) (ws vs us ts rs 
     → rs ≡ stretchValues (AllPass n f) size (alone x) place done (i + 1) ws
 turn n size place done i f x ws vs us ts rs g a b o y e e-a e-b e-o e-y e-us e-ts e-rs e-g long in-ring in-block =
     all-pass-then n f size (alone x) ws place done i (done + i) _ y _ _ _ vs us ts rs e e-us e-ts e-rs refl (λ q c h v.
-      let reads : (k j : ℕ) → k ≡ 3 + size + j → floatAt vs k ≡ ofBits binary32 (getD (c .state .line) j 0) =
-          λ k j at. ap (ofBits binary32) (line-at size q c (h .samples) vs v j k at) in
       let below : c .state .place < n = omega (arith, h .place) in
-      let old-x = e-a ∙ reads _ (0 + c .state .place) (omega (arith, h .place)) ∙ tap-one n 0 (c .state) (alone x (done + i)) refl below in
-      let old-y = e-b ∙ reads _ (n + c .state .place) (omega (arith, h .place)) ∙ tap-one n n (c .state) (alone x (done + i)) refl below in
+      let old-x = e-a ∙ float-at size q c (h .samples) vs v (0 + c .state .place) _ (omega (arith, h .place)) ∙ tap-one n 0 (c .state) (alone x (done + i)) refl below in
+      let old-y = e-b ∙ float-at size q c (h .samples) vs v (n + c .state .place) _ (omega (arith, h .place)) ∙ tap-one n n (c .state) (alone x (done + i)) refl below in
       e-y
       ∙ ap (toBits binary32)
           (e-o ∙ all-pass-reads n f (c .state) (alone x (done + i)) g a b (e-g ∙ ap (ofBits binary32) (sym (h .number))) old-x old-y))

@@ -10,11 +10,11 @@ use Rattle.leaves.specs.Floats.{floatAt}
 use Rattle.leaves.specs.Floors.{floorOf}
 use Rattle.leaves.specs.Position.{positionOf, restOf}
 use Rattle.nodes.specs.Kind.{cellSize}
-use Rattle.nodes.specs.Rule.{allPass, between}
+use Rattle.nodes.specs.Rule.{allPass, between, tap, get}
 use Rattle.nodes.specs.Block.{sample, pair}
 use Rattle.nodes.specs.Ring.{wrapOf, stretchValues}
 use Rattle.nodes.specs.declared.kind.NodeKind.the-variants.{AllPass}
-use Rattle.nodes.proofs.Rings.{wrap-below, all-pass-ring, stretch-none, line-at, tap-two, all-pass-reads, all-pass-then}
+use Rattle.nodes.proofs.Rings.{wrap-below, all-pass-ring, stretch-none, float-at, tap-two, all-pass-reads, all-pass-then}
 use borrow.Author.Needs.{needs}
 use Rattle.nodes.proofs.apfmsgain.modulate.Statement.{statement}
 use Rattle.nodes.proofs.apfmsgain.modulate.Tie as tie
@@ -37,16 +37,19 @@ sample-by n size place i f x m ws us ts rs g a b o rest index older newer y e-at
     all-pass-then n f size (pair x m) ws place i 0 i _ y _ _ _ ws us ts rs (stretch-none (AllPass n f) n (all-pass-ring n f) size (pair x m) ws long place i)
     e-us e-ts e-rs refl (λ q c h v.
       let s = c .state in
-      let at : place ≡ s .place = omega (arith, h .place) in
-      let reads : (k j : ℕ) → k ≡ 3 + size + j → floatAt ws k ≡ ofBits binary32 (getD (s .line) j 0) =
-          λ k j e. ap (ofBits binary32) (line-at size q c (h .samples) ws v j k e) in
-      let tap-by = λ (from : ℕ). tap-two n from s (pair x m i) index older newer rest refl (e-at .0) (e-at .1)
-          (e-older .0 ∙ ap (λ (p : ℕ). (p + index) % n) at) e-newer (e-older .1) in
-      let old-x = e-a ∙ (λ t. between (reads (3 + size + older) (0 + older) (omega arith) t) (reads (3 + size + newer) (0 + newer) (omega arith) t) rest) ∙ tap-by 0 in
-      let old-y = e-b ∙ (λ t. between (reads (3 + size + n + older) (n + older) (omega arith) t) (reads (3 + size + n + newer) (n + newer) (omega arith) t) rest) ∙ tap-by n in
+      let here : place ≡ s .place = omega (arith, h .place) in
+      let read : (from at : ℕ) (z : Float) → at ≡ 3 + size + from
+          → z ≡ between (floatAt ws (at + older)) (floatAt ws (at + newer)) rest → z ≡ tap n (pair x m i) (get n from s) =
+          λ from at z e-from e-z.
+            e-z
+            ∙ (λ t. between (float-at size q c (h .samples) ws v (from + older) (at + older) (omega arith) t)
+                (float-at size q c (h .samples) ws v (from + newer) (at + newer) (omega arith) t) rest)
+            ∙ tap-two n from s (pair x m i) index older newer rest refl (e-at .0) (e-at .1) (e-older .0 ∙ ap (λ (p : ℕ). (p + index) % n) here)
+                e-newer (e-older .1) in
       e-y
       ∙ ap (toBits binary32)
-          (e-o ∙ all-pass-reads n f s (pair x m i) g a b (e-g ∙ ap (ofBits binary32) (sym (h .number))) old-x old-y))
+          (e-o ∙ all-pass-reads n f s (pair x m i) g a b (e-g ∙ ap (ofBits binary32) (sym (h .number)))
+          (read 0 (3 + size) a (omega arith) e-a) (read n (3 + size + n) b refl e-b)))
     long (omega arith) in-block (omega arith) (omega arith) (omega arith) refl
 
 mul-modulated : tie.Need-mul-modulated
