@@ -7,7 +7,7 @@
 -- Assumes nothing.
 use mathlib.Core.Path.{_≡_, refl, sym, ap, _∙_, subst}
 use mathlib.Core.Bool.{Bool, true, false, cond}
-use mathlib.Core.List.{List, [], _∷_, _++_}
+use mathlib.Core.List.{List, _++_}
 use Prim.Native.Nat.{ℕ, zero, suc, _+_, _-_, _*_, _%_, _≤_, _<_}
 use native.Mathlib.Nat.{mod-eq-of-lt, mod-self, mod-add-mod, add-assoc}
 use native.Mathlib.Numerals.{add-one}
@@ -27,8 +27,8 @@ use Rattle.nodes.specs.Cell.{Cell, valuesOf, cellOf, frameAt, putFrame, 
 use Rattle.nodes.specs.Ring.{stretchOf, wrapOf, atPlace, stretchValues}
 use Rattle.nodes.specs.declared.kind.NodeKind.{NodeKind}
 use Rattle.nodes.specs.declared.kind.NodeKind.the-variants.{Delay, AllPass}
-use Rattle.nodes.proofs.Iterated.{iter-join, iter-builds}
-use Rattle.nodes.proofs.Cells.{values-cell, samples-long, line-long, set-place, set-line, set-sample, get-number, get-place, get-line, withState, withSamples, withLine}
+use Rattle.nodes.proofs.Iterated.{iter-join}
+use Rattle.nodes.proofs.Cells.{values-cell, samples-long, line-long, set-place, set-line, set-sample, get-number, get-place, get-line}
 
 -- ---- the types
 
@@ -200,9 +200,9 @@ module _ (k : NodeKind) (n : ℕ) (r : Ringed k n) (N : ℕ) (bs : ℕ → Broug
         let join = iter-join (stepCell k N bs) done count (cellOf N k ws) in
         let stays : getD vs 2 0 ≡ q = ap (λ (l : List ℕ). getD l 2 0) (h .values) ∙ get-place (atPlace q c) in
         let stands : atPlace p (cellOf N k vs) ≡ c =
-            ap (λ (l : List ℕ). atPlace p (cellOf N k l)) (h .values)
-            ∙ ap (atPlace p) (cell-values N k (atPlace q c) (h .held .samples ∙ sym (one-channel k n r N bs)))
-            ∙ ap (λ (j : ℕ). atPlace j c) (sym (h .held .place)) in
+        ap (λ (l : List ℕ). atPlace p (cellOf N k l)) (h .values)
+        ∙ ap (atPlace p) (cell-values N k (atPlace q c) (h .held .samples ∙ sym (one-channel k n r N bs)))
+        ∙ ap (λ (j : ℕ). atPlace j c) (sym (h .held .place)) in
         record {
           values =
               e
@@ -266,11 +266,11 @@ pub tap-two : (n from : ℕ) (s : State) (b : Brought) (index older newer : ℕ)
 unfolding tap get
 tap-two n from s b index older newer rest e e-i e-r e-o e-n h =
     let next : newer ≡ (s .place + (index + 1)) % n =
-        e-n
-        ∙ wrap-mod n older h
-        ∙ ap (λ (j : ℕ). (j + 1) % n) e-o
-        ∙ mod-add-mod (s .place + index) n 1
-        ∙ ap (λ (j : ℕ). j % n) (add-assoc (s .place) index 1) in
+    e-n
+    ∙ wrap-mod n older h
+    ∙ ap (λ (j : ℕ). (j + 1) % n) e-o
+    ∙ mod-add-mod (s .place + index) n 1
+    ∙ ap (λ (j : ℕ). j % n) (add-assoc (s .place) index 1) in
     rw (e, next, e-o, e-r, e-i)
 
 -- a cell's values in memory: `at` is where the ring place is, and `out` where sample j is
@@ -310,14 +310,14 @@ pub all-pass-then : (n : ℕ) (f : Float) (N : ℕ) (bs : ℕ → Brought) (ws :
     → vs ≡ stretchValues (AllPass n f) N bs p done i ws → us ≡ set vs at x → ts ≡ set us at-y y → rs ≡ set ts out y
     → x ≡ toBits binary32 (first (bs j))
     → ((q : ℕ) (c : Cell) → Held (AllPass n f) N (getD ws 0 0) (p + i) c → vs ≡ valuesOf (atPlace q c)
-      → y ≡ toBits binary32 (leftBy (AllPass n f) (c .state) (bs j)))
+    → y ≡ toBits binary32 (leftBy (AllPass n f) (c .state) (bs j)))
     → length ws ≡ cellSize N (AllPass n f) → p + i < n → j < N → j ≡ done + i
     → at ≡ 3 + N + (p + i) → at-y ≡ 3 + N + (n + (p + i)) → out ≡ 3 + j
     → rs ≡ stretchValues (AllPass n f) N bs p done (i + 1) ws
 all-pass-then n f N bs ws p done i j x y at at-y out vs us ts rs e e-us e-ts e-rs e-x e-y long a b e-j e-at e-at-y e-out =
     stretch-then (AllPass n f) n (all-pass-ring n f) N bs ws long p done i j a e-j vs rs e (λ q c h v.
-      let first-at : at ≡ 3 + N + c .state .place = omega (arith, h .place) in
-      let second-at : at-y ≡ 3 + N + (n + c .state .place) = omega (arith, h .place) in
-      e-rs
-      ∙ ap (λ (l : List ℕ). set l out y) (e-ts ∙ ap (λ (l : List ℕ). set l at-y y) e-us)
-      ∙ all-pass-turn N q c (h .samples) vs v bs j b at out first-at e-out n f x y at-y second-at e-x (e-y q c h v))
+    let first-at : at ≡ 3 + N + c .state .place = omega (arith, h .place) in
+    let second-at : at-y ≡ 3 + N + (n + c .state .place) = omega (arith, h .place) in
+    e-rs
+    ∙ ap (λ (l : List ℕ). set l out y) (e-ts ∙ ap (λ (l : List ℕ). set l at-y y) e-us)
+    ∙ all-pass-turn N q c (h .samples) vs v bs j b at out first-at e-out n f x y at-y second-at e-x (e-y q c h v))

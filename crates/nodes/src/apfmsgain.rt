@@ -10,9 +10,9 @@ ghost use Rattle.nodes.specs.Rule.{allPass, between};
 ghost use Rattle.nodes.specs.Block.{alone, pair, given};
 ghost use Rattle.nodes.specs.Cell.{runValues};
 ghost use Rattle.nodes.specs.Ring.{stretchValues};
-use crate::kind::NodeKind;
 use crate::delayn::stretch;
 use crate::delayn::wrap;
+use crate::kind::NodeKind;
 use leaves::bytes::put_word;
 use leaves::bytes::word_at;
 use leaves::float::load;
@@ -87,7 +87,11 @@ fn wrapped(place: usize, i: usize, n: usize) -> usize
     requires { ⌜ (place < n) × (i ≤ n) ⌝ }
     ensures { λ r. ⌜ (r ≡ (place + i) % n) × (r < n) ⌝ }
 {
-    if place < n - i { place + i } else { place - (n - i) }
+    if place < n - i {
+        place + i
+    } else {
+        place - (n - i)
+    }
 }
 
 // One sample, where the second source says which neighbours are read.
@@ -119,14 +123,7 @@ fn modulate(
 }
 
 // A block of two sources, sample by sample.
-fn run_modulated(
-    cell: &mut [u8],
-    n: usize,
-    size: usize,
-    g: f32,
-    x: &[f32; 128],
-    m: &[f32; 128],
-)
+fn run_modulated(cell: &mut [u8], n: usize, size: usize, g: f32, x: &[f32; 128], m: &[f32; 128])
     requires { ⌜ (size ≤ 128) × (n ≤ 132300) × (length (now cell) ≡ 4 * (3 + size + n * 2))
         × (getD (words (now cell)) 2 0 < n) × (g ≡ floatAt (words (now cell)) 0) ⌝ }
     ensures { λ _. ⌜ ((f : Float) → words (now (cell .exit))
@@ -142,14 +139,7 @@ fn run_modulated(
     put_word(cell, 2, place as u32);
 }
 
-pub fn all_pass(
-    cell: &mut [u8],
-    n: usize,
-    size: usize,
-    two: bool,
-    x: &[f32; 128],
-    m: &[f32; 128],
-)
+pub fn all_pass(cell: &mut [u8], n: usize, size: usize, two: bool, x: &[f32; 128], m: &[f32; 128])
     requires { ⌜ (size ≤ 128) × (n ≤ 132300) × (length (now cell) ≡ 4 * (3 + size + n * 2)) × (getD (words (now cell)) 2 0 < n) ⌝ }
     ensures { λ _. ⌜ ((f : Float) → words (now (cell .exit)) ≡ runValues (NodeKind.AllPass n f) size (given two (now (x .entry)) (now (m .entry))) (words (now (cell .entry)))) ⌝ }
 {

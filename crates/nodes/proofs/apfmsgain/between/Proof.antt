@@ -1,6 +1,5 @@
 -- `nodes::apfmsgain::between` meets its contract. Assumes nothing.
 use lib.Ieee.{ofBits}
-use Rattle.leaves.specs.Floors.{whole}
 use Rattle.nodes.specs.Rule.{between}
 use borrow.Author.Needs.{needs}
 use Rattle.nodes.proofs.apfmsgain.between.Statement.{statement}

@@ -1,9 +1,9 @@
 -- `nodes::apfmsgain::filter` meets its contract: after i turns the values are those after i samples. Assumes nothing.
 use mathlib.Core.Path.{_≡_, refl, sym, ap, _∙_}
 use mathlib.Core.List.{List}
-use Prim.Native.Nat.{ℕ, _+_, _*_, _≤_, _<_, _-_}
+use Prim.Native.Nat.{ℕ, _+_, _≤_, _<_, _-_}
 use native.Mathlib.Omega.{arith}
-use lib.ListN.{length, getD, set}
+use lib.ListN.{length, set}
 use lib.Ieee.{Float, binary32, ofBits, toBits}
 use Rattle.leaves.specs.Words.{words, length-words}
 use Rattle.leaves.specs.Floats.{floatAt}
@@ -38,12 +38,12 @@ turn : (n size place done i : ℕ) (f : Float) (x : List Float) (ws vs us ts rs 
     → rs ≡ stretchValues (AllPass n f) size (alone x) place done (i + 1) ws
 turn n size place done i f x ws vs us ts rs g a b o y e e-a e-b e-o e-y e-us e-ts e-rs e-g long in-ring in-block =
     all-pass-then n f size (alone x) ws place done i (done + i) _ y _ _ _ vs us ts rs e e-us e-ts e-rs refl (λ q c h v.
-      let below : c .state .place < n = omega (arith, h .place) in
-      let old-x = e-a ∙ float-at size q c (h .samples) vs v (0 + c .state .place) _ (omega (arith, h .place)) ∙ tap-one n 0 (c .state) (alone x (done + i)) refl below in
-      let old-y = e-b ∙ float-at size q c (h .samples) vs v (n + c .state .place) _ (omega (arith, h .place)) ∙ tap-one n n (c .state) (alone x (done + i)) refl below in
-      e-y
-      ∙ ap (toBits binary32)
-          (e-o ∙ all-pass-reads n f (c .state) (alone x (done + i)) g a b (e-g ∙ ap (ofBits binary32) (sym (h .number))) old-x old-y))
+    let below : c .state .place < n = omega (arith, h .place) in
+    let old-x = e-a ∙ float-at size q c (h .samples) vs v (0 + c .state .place) _ (omega (arith, h .place)) ∙ tap-one n 0 (c .state) (alone x (done + i)) refl below in
+    let old-y = e-b ∙ float-at size q c (h .samples) vs v (n + c .state .place) _ (omega (arith, h .place)) ∙ tap-one n n (c .state) (alone x (done + i)) refl below in
+    e-y
+    ∙ ap (toBits binary32)
+    (e-o ∙ all-pass-reads n f (c .state) (alone x (done + i)) g a b (e-g ∙ ap (ofBits binary32) (sym (h .number))) old-x old-y))
     long in-ring in-block refl (omega arith) (omega arith) (omega arith)
 
 add-at : tie.Need-add-at Inv-loop μ-loop
@@ -136,10 +136,10 @@ loop-again c =
       omega (arith, u),
       omega (arith, u),
       λ f.
-        turn (a .n) (a .size) (a .place) (a .done) (l .loop .i) f (a .x .now) (words (a .cell .now)) _ _ _ _ _ _ _ _ _ (l .loop .inv .2 f)
-        (r .before .before .before .before .load .ensures) (r .before .before .load2 .ensures) (r .before .output .ensures) (r .to-bits .ensures)
-        (t .store .ensures) (p .put-word .ensures) (c .before .before .put-word2 .ensures)
-        (l .before .before .pre .5) (omega (arith, length-words (a .cell .now), u)) (omega (arith, u)) (omega (arith, u)),
+          turn (a .n) (a .size) (a .place) (a .done) (l .loop .i) f (a .x .now) (words (a .cell .now)) _ _ _ _ _ _ _ _ _ (l .loop .inv .2 f)
+          (r .before .before .before .before .load .ensures) (r .before .before .load2 .ensures) (r .before .output .ensures) (r .to-bits .ensures)
+          (t .store .ensures) (p .put-word .ensures) (c .before .before .put-word2 .ensures)
+          (l .before .before .pre .5) (omega (arith, length-words (a .cell .now), u)) (omega (arith, u)) (omega (arith, u)),
     )
 
 same-length : tie.Need-same-length Inv-loop μ-loop

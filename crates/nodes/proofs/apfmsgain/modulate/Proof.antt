@@ -1,9 +1,9 @@
 -- `nodes::apfmsgain::modulate` meets its contract: the neighbours that it reads are those of the rule. Assumes nothing.
 use mathlib.Core.Path.{_≡_, refl, sym, ap, _∙_}
 use mathlib.Core.List.{List}
-use Prim.Native.Nat.{ℕ, _+_, _*_, _%_, _≤_, _<_}
+use Prim.Native.Nat.{ℕ, _+_, _%_, _≤_, _<_}
 use native.Mathlib.Omega.{arith}
-use lib.ListN.{length, getD, set}
+use lib.ListN.{length, set}
 use lib.Ieee.{Float, binary32, ofBits, toBits}
 use Rattle.leaves.specs.Words.{words, length-words}
 use Rattle.leaves.specs.Floats.{floatAt}
@@ -36,20 +36,20 @@ sample-by : (n size place i : ℕ) (f : Float) (x m : List Float) (ws us ts rs :
 sample-by n size place i f x m ws us ts rs g a b o rest index older newer y e-at e-older e-newer e-a e-b e-o e-y e-us e-ts e-rs e-g long in-ring in-block =
     all-pass-then n f size (pair x m) ws place i 0 i _ y _ _ _ ws us ts rs (stretch-none (AllPass n f) n (all-pass-ring n f) size (pair x m) ws long place i)
     e-us e-ts e-rs refl (λ q c h v.
-      let s = c .state in
-      let here : place ≡ s .place = omega (arith, h .place) in
-      let read : (from at : ℕ) (z : Float) → at ≡ 3 + size + from
-          → z ≡ between (floatAt ws (at + older)) (floatAt ws (at + newer)) rest → z ≡ tap n (pair x m i) (get n from s) =
-          λ from at z e-from e-z.
-            e-z
-            ∙ (λ t. between (float-at size q c (h .samples) ws v (from + older) (at + older) (omega arith) t)
-                (float-at size q c (h .samples) ws v (from + newer) (at + newer) (omega arith) t) rest)
-            ∙ tap-two n from s (pair x m i) index older newer rest refl (e-at .0) (e-at .1) (e-older .0 ∙ ap (λ (p : ℕ). (p + index) % n) here)
-                e-newer (e-older .1) in
-      e-y
-      ∙ ap (toBits binary32)
-          (e-o ∙ all-pass-reads n f s (pair x m i) g a b (e-g ∙ ap (ofBits binary32) (sym (h .number)))
-          (read 0 (3 + size) a (omega arith) e-a) (read n (3 + size + n) b refl e-b)))
+    let s = c .state in
+    let here : place ≡ s .place = omega (arith, h .place) in
+    let read : (from at : ℕ) (z : Float) → at ≡ 3 + size + from
+    → z ≡ between (floatAt ws (at + older)) (floatAt ws (at + newer)) rest → z ≡ tap n (pair x m i) (get n from s) =
+    λ from at z e-from e-z.
+    e-z
+    ∙ (λ t. between (float-at size q c (h .samples) ws v (from + older) (at + older) (omega arith) t)
+    (float-at size q c (h .samples) ws v (from + newer) (at + newer) (omega arith) t) rest)
+    ∙ tap-two n from s (pair x m i) index older newer rest refl (e-at .0) (e-at .1) (e-older .0 ∙ ap (λ (p : ℕ). (p + index) % n) here)
+    e-newer (e-older .1) in
+    e-y
+    ∙ ap (toBits binary32)
+    (e-o ∙ all-pass-reads n f s (pair x m i) g a b (e-g ∙ ap (ofBits binary32) (sym (h .number)))
+    (read 0 (3 + size) a (omega arith) e-a) (read n (3 + size + n) b refl e-b)))
     long (omega arith) in-block (omega arith) (omega arith) (omega arith) refl
 
 mul-modulated : tie.Need-mul-modulated

@@ -1,8 +1,8 @@
 -- `nodes::apfmsgain::run` meets its contract: the stretches so far are the samples so far. Assumes nothing.
 use mathlib.Core.Path.{_≡_, refl, sym, ap, _∙_}
-use Prim.Native.Nat.{ℕ, _+_, _*_, _≤_, _<_, _-_}
+use Prim.Native.Nat.{_+_, _≤_, _<_, _-_}
 use native.Mathlib.Omega.{arith}
-use lib.ListN.{length, getD, set}
+use lib.ListN.{length}
 use lib.Ieee.{Float, nan, binary32, ofBits}
 use Rattle.leaves.specs.Words.{words, length-words}
 use Rattle.nodes.specs.Block.{alone}
@@ -32,8 +32,8 @@ loop-holds c =
       omega (arith, c .word-at .ensures),
       refl,
       λ f.
-        reached-none (AllPass (a .n) f) (a .n) (all-pass-ring (a .n) f) (a .size) (alone (a .x .now)) (words (a .cell .now))
-        _ (c .word-at .ensures) (omega (arith, length-words (a .cell .now))),
+          reached-none (AllPass (a .n) f) (a .n) (all-pass-ring (a .n) f) (a .size) (alone (a .x .now)) (words (a .cell .now))
+          _ (c .word-at .ensures) (omega (arith, length-words (a .cell .now))),
     )
 
 sub-stretch : tie.Need-sub-stretch Inv-loop μ-loop
@@ -81,8 +81,8 @@ loop-again c =
       omega (arith, c .wrap .ensures, wrap-below (a .n) (l .place + c .before .before .before .before .before .stretch .result) (omega arith)),
       omega arith,
       λ f.
-        reached-then (AllPass (a .n) f) (a .n) (all-pass-ring (a .n) f) (a .size) (alone (a .x .now)) (words (a .cell .now))
-        (l .done) (l .place) (words (l .cell)) (l .inv .3 f) _ _ _ (c .before .before .before .filter .ensures f) (c .wrap .ensures) (omega arith) (omega arith),
+          reached-then (AllPass (a .n) f) (a .n) (all-pass-ring (a .n) f) (a .size) (alone (a .x .now)) (words (a .cell .now))
+          (l .done) (l .place) (words (l .cell)) (l .inv .3 f) _ _ _ (c .before .before .before .filter .ensures f) (c .wrap .ensures) (omega arith) (omega arith),
     )
 
 cast-put-word : tie.Need-cast-put-word Inv-loop μ-loop

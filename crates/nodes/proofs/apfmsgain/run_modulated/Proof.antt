@@ -1,13 +1,13 @@
 -- `nodes::apfmsgain::run_modulated` meets its contract: each sample is a stretch of one. Assumes nothing.
 use mathlib.Core.Path.{_≡_, refl, sym, ap, _∙_}
-use Prim.Native.Nat.{ℕ, _+_, _*_, _≤_, _<_, _-_}
+use Prim.Native.Nat.{_+_, _≤_, _<_, _-_}
 use native.Mathlib.Omega.{arith}
-use lib.ListN.{length, getD, set}
+use lib.ListN.{length}
 use lib.Ieee.{Float, nan, binary32, ofBits}
 use Rattle.leaves.specs.Words.{words, length-words}
 use Rattle.nodes.specs.Block.{pair}
 use Rattle.nodes.specs.declared.kind.NodeKind.the-variants.{AllPass}
-use Rattle.nodes.proofs.Rings.{all-pass-ring, stretch-some, wrap-below, Reached, reached-none, reached-number, reached-then, reached-end}
+use Rattle.nodes.proofs.Rings.{all-pass-ring, wrap-below, Reached, reached-none, reached-number, reached-then, reached-end}
 use Rattle.nodes.proofs.apfmsgain.run_modulated.Statement.{statement}
 use Rattle.nodes.proofs.apfmsgain.run_modulated.Tie as tie
 
@@ -32,8 +32,8 @@ loop-holds c =
       omega (arith, c .word-at .ensures),
       refl,
       λ f.
-        reached-none (AllPass (a .n) f) (a .n) (all-pass-ring (a .n) f) (a .size) (pair (a .x .now) (a .m .now)) (words (a .cell .now))
-        _ (c .word-at .ensures) (omega (arith, length-words (a .cell .now))),
+          reached-none (AllPass (a .n) f) (a .n) (all-pass-ring (a .n) f) (a .size) (pair (a .x .now) (a .m .now)) (words (a .cell .now))
+          _ (c .word-at .ensures) (omega (arith, length-words (a .cell .now))),
     )
 
 modulate-requires : tie.Need-modulate-requires Inv-loop μ-loop
@@ -71,8 +71,8 @@ loop-again c =
       omega (arith, c .wrap .ensures, wrap-below (a .n) (l .place + 1) (omega arith)),
       omega arith,
       λ f.
-        reached-then (AllPass (a .n) f) (a .n) (all-pass-ring (a .n) f) (a .size) (pair (a .x .now) (a .m .now)) (words (a .cell .now))
-        (l .i) (l .place) (words (l .cell)) (l .inv .3 f) _ _ _ (c .before .before .before .modulate .ensures f) (c .wrap .ensures) (omega arith) (omega arith),
+          reached-then (AllPass (a .n) f) (a .n) (all-pass-ring (a .n) f) (a .size) (pair (a .x .now) (a .m .now)) (words (a .cell .now))
+          (l .i) (l .place) (words (l .cell)) (l .inv .3 f) _ _ _ (c .before .before .before .modulate .ensures f) (c .wrap .ensures) (omega arith) (omega arith),
     )
 
 cast-put-word : tie.Need-cast-put-word Inv-loop μ-loop

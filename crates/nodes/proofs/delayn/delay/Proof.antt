@@ -1,8 +1,8 @@
 -- `nodes::delayn::delay` meets its contract: the stretches so far are the samples so far. Assumes nothing.
-use mathlib.Core.Path.{_≡_, refl, sym, ap, _∙_}
-use Prim.Native.Nat.{ℕ, _+_, _*_, _≤_, _<_, _-_}
+use mathlib.Core.Path.{_≡_, refl}
+use Prim.Native.Nat.{_+_, _≤_, _<_, _-_}
 use native.Mathlib.Omega.{arith}
-use lib.ListN.{length, getD, set}
+use lib.ListN.{length}
 use Rattle.leaves.specs.Words.{words, length-words}
 use Rattle.nodes.specs.Block.{alone}
 use Rattle.nodes.specs.declared.kind.NodeKind.the-variants.{Delay}
@@ -84,7 +84,7 @@ returns c =
     let a = c .before .before .before .before .before .before .before .before .before .args in
     let l = c .before .before .before .before .before .loop in
     reached-end (Delay (a .n)) (a .n) (delay-ring (a .n)) (a .size) (alone (a .x .now)) (words (a .cell .now)) (l .done) (l .place) (words (l .cell)) (l .inv .3)
-        _ (c .before .before .put-word .ensures) (omega arith)
+    _ (c .before .before .put-word .ensures) (omega arith)
 
 pub delay-spec : {M : Type 1} → statement M
 delay-spec =

@@ -1,5 +1,5 @@
 -- `nodes::delayn::push` meets its contract: after i turns the values are those after i samples. Assumes nothing.
-use mathlib.Core.Path.{_≡_, refl, sym, ap, _∙_}
+use mathlib.Core.Path.{_≡_, refl, ap, _∙_}
 use mathlib.Core.List.{List}
 use Prim.Native.Nat.{ℕ, _+_, _*_, _≤_, _<_, _-_}
 use native.Mathlib.Omega.{arith}
@@ -7,12 +7,9 @@ use lib.ListN.{length, getD, set}
 use lib.Ieee.{Float, binary32, ofBits, toBits}
 use Rattle.leaves.specs.Words.{words, length-words}
 use Rattle.nodes.specs.Kind.{cellSize}
-use Rattle.nodes.specs.Rule.{leftBy}
 use Rattle.nodes.specs.Block.{sample, alone}
-use Rattle.nodes.specs.Ring.{atPlace, stretchValues}
+use Rattle.nodes.specs.Ring.{stretchValues}
 use Rattle.nodes.specs.declared.kind.NodeKind.the-variants.{Delay}
-use Rattle.nodes.proofs.Iterated.{iter-end}
-use Rattle.nodes.proofs.Cells.{get-line}
 use Rattle.nodes.proofs.Rings.{delay-ring, stretch-none, stretch-then, delay-reads, line-at, delay-turn}
 use Rattle.nodes.proofs.delayn.push.Statement.{statement}
 use Rattle.nodes.proofs.delayn.push.Tie as tie
@@ -36,14 +33,14 @@ turn : (n size place done i : ℕ) (x : List Float) (ws vs us ts : List ℕ) (ol
     → ts ≡ stretchValues (Delay n) size (alone x) place done (i + 1) ws
 turn n size place done i x ws vs us ts old out e e-old e-us e-out e-ts long a b =
     stretch-then (Delay n) n (delay-ring n) size (alone x) ws long place done i (done + i) a refl vs ts e (λ q c h v.
-      let at : 3 + size + place + i ≡ 3 + size + c .state .place = omega (arith, h .place) in
-      let to : 3 + done + i ≡ 3 + (done + i) = omega arith in
-      let reads : old ≡ getD (c .state .line) (c .state .place) 0 = e-old ∙ line-at size q c (h .samples) vs v (c .state .place) _ at in
-      let gives = delay-reads n (c .state) (alone x (done + i)) (omega (arith, h .place)) in
-      e-ts
-      ∙ ap (λ (l : List ℕ). set l (3 + done + i) out) e-us
-      ∙ delay-turn size q c (h .samples) vs v (alone x) (done + i) b _ _ at to n _ out refl
-          (e-out ∙ ap (toBits binary32) (ap (ofBits binary32) reads ∙ gives)))
+    let at : 3 + size + place + i ≡ 3 + size + c .state .place = omega (arith, h .place) in
+    let to : 3 + done + i ≡ 3 + (done + i) = omega arith in
+    let reads : old ≡ getD (c .state .line) (c .state .place) 0 = e-old ∙ line-at size q c (h .samples) vs v (c .state .place) _ at in
+    let gives = delay-reads n (c .state) (alone x (done + i)) (omega (arith, h .place)) in
+    e-ts
+    ∙ ap (λ (l : List ℕ). set l (3 + done + i) out) e-us
+    ∙ delay-turn size q c (h .samples) vs v (alone x) (done + i) b _ _ at to n _ out refl
+    (e-out ∙ ap (toBits binary32) (ap (ofBits binary32) reads ∙ gives)))
 
 add-at : tie.Need-add-at Inv-loop μ-loop
 add-at c = omega arith
@@ -102,9 +99,9 @@ loop-again c =
       omega arith,
       omega arith,
       λ n e.
-        turn n (a .size) (a .place) (a .done) (l .loop .i) (a .x .now) (words (a .cell .now)) _ _ _ _ _ (l .loop .inv .2 n e) (w .word-at .ensures)
-        (t .store .ensures) (c .before .before .before .canonical .ensures) (c .before .before .put-word .ensures)
-        (omega (arith, length-words (a .cell .now), e)) (omega arith) (omega arith),
+          turn n (a .size) (a .place) (a .done) (l .loop .i) (a .x .now) (words (a .cell .now)) _ _ _ _ _ (l .loop .inv .2 n e) (w .word-at .ensures)
+          (t .store .ensures) (c .before .before .before .canonical .ensures) (c .before .before .put-word .ensures)
+          (omega (arith, length-words (a .cell .now), e)) (omega arith) (omega arith),
     )
 
 same-length : tie.Need-same-length Inv-loop μ-loop
