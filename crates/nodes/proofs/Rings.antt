@@ -1,9 +1,10 @@
 -- The types with a ring, in stretches: what a sample keeps of the cell, where the place goes, and how stretches make a block.
---     Ringed                    a type with one channel and a ring of n places: delay-ring, all-pass-ring
---     Held                      what a loop knows of the cell midway
---     stretch-none, -then       a stretch's loop, for any turn that is the rule's on a cell that is held
---     Reached, reached-none, -then, -end    a block's loop over stretches
---     delay-turn, all-pass-turn    the stores of one sample are the rule's
+--     Ringed                        a type with one channel and a ring of n places: delay-ring, all-pass-ring
+--     Held                          what a loop knows of the cell midway
+--     stretch-none, stretch-then    a stretch's loop, for any turn that is the rule's on a cell that is held
+--     Reached, reached-none, reached-then, reached-end    a block's loop over stretches
+--     delay-reads, all-pass-reads   what a type gives, from what it reads of its line
+--     delay-turn, all-pass-then     the stores of one sample are the rule's
 -- Assumes nothing.
 use mathlib.Core.Path.{_≡_, refl, sym, ap, _∙_, subst}
 use mathlib.Core.Bool.{Bool, true, false, cond}
@@ -20,7 +21,7 @@ use borrow.Author.Tests.{lt-ltb, le-ltb, eq-eqb, ne-eqb, eqb-true, eqb-false, lt
 use Rattle.leaves.specs.Floats.{floatAt}
 use Rattle.leaves.specs.Floors.{floorOf}
 use Rattle.leaves.specs.Position.{positionOf, restOf}
-use Rattle.nodes.specs.Kind.{channelsOf, lineOf, cellSize}
+use Rattle.nodes.specs.Kind.{channelsOf, cellSize}
 use Rattle.nodes.specs.Iter.{iter, from}
 use Rattle.nodes.specs.Rule.{Brought, Frame, State, first, two, between, leftBy, leftOf, get, xLine, yLine, tap, allPass, next, placeAfter, lineAfter, carryAfter, keeps, sampleBy, stateBy}
 use Rattle.nodes.specs.Cell.{Cell, valuesOf, cellOf, frameAt, putFrame, stepCell, runCell, runValues}
@@ -28,26 +29,21 @@ use Rattle.nodes.specs.Ring.{stretchOf, wrapOf, atPlace, stretchValues}
 use Rattle.nodes.specs.declared.kind.NodeKind.{NodeKind}
 use Rattle.nodes.specs.declared.kind.NodeKind.the-variants.{Delay, AllPass}
 use Rattle.nodes.proofs.Iterated.{iter-join}
-use Rattle.nodes.proofs.Cells.{values-cell, samples-long, line-long, set-place, set-line, set-sample, get-number, get-place, get-line}
+use Rattle.nodes.proofs.Cells.{values-cell, samples-long, set-place, set-line, set-sample, get-number, get-place, get-line}
 
 -- ---- the types
 
 pub record Ringed (k : NodeKind) (n : ℕ) : Type 0 where
   pub one : channelsOf k ≡ 1
   pub moves : (p : ℕ) → placeAfter k p ≡ next n p
-  pub long : (p x y : ℕ) (l : List ℕ) → length (lineAfter k p x y l) ≡ length l
 
 pub delay-ring : (n : ℕ) → Ringed (Delay n) n
-unfolding placeAfter lineAfter
-delay-ring n = record { one = refl; moves = λ p. refl; long = λ p x y l. length-set l p x }
+unfolding placeAfter
+delay-ring n = record { one = refl; moves = λ p. refl }
 
 pub all-pass-ring : (n : ℕ) (f : Float) → Ringed (AllPass n f) n
-unfolding placeAfter lineAfter
-all-pass-ring n f = record {
-  one = refl;
-  moves = λ p. refl;
-  long = λ p x y l. length-set (set l p x) (n + p) y ∙ length-set l p x;
-}
+unfolding placeAfter
+all-pass-ring n f = record { one = refl; moves = λ p. refl }
 
 -- ---- the place
 
@@ -87,10 +83,9 @@ next-wrap n p h = go (eqb (suc p) n) refl
 
 -- ---- the cell midway
 
--- N samples, the line, the number w, and the ring place p
-pub record Held (k : NodeKind) (N w p : ℕ) (c : Cell) : Type 0 where
+-- N samples, the number w, and the ring place p
+pub record Held (N w p : ℕ) (c : Cell) : Type 0 where
   pub samples : length (c .samples) ≡ N
-  pub line : length (c .state .line) ≡ lineOf k
   pub number : c .state .number ≡ w
   pub place : c .state .place ≡ p
 
@@ -115,34 +110,32 @@ cell-values N k c e =
       samples = samples i;
     }
 
-held-at : {k : NodeKind} {N w p p′ : ℕ} {c : Cell} → p ≡ p′ → Held k N w p c → Held k N w p′ c
-held-at e h = record { samples = h .samples; line = h .line; number = h .number; place = h .place ∙ e }
+held-at : {N w p p′ : ℕ} {c : Cell} → p ≡ p′ → Held N w p c → Held N w p′ c
+held-at e h = record { samples = h .samples; number = h .number; place = h .place ∙ e }
 
 module _ (k : NodeKind) (n : ℕ) (r : Ringed k n) (N : ℕ) (bs : ℕ → Brought) where
   one-channel : N * channelsOf k ≡ N
   one-channel = ap (λ (a : ℕ). N * a) (r .one) ∙ omega arith
 
-  held-start : (ws : List ℕ) → length ws ≡ cellSize N k → (p : ℕ) → Held k N (getD ws 0 0) p (atPlace p (cellOf N k ws))
+  held-start : (ws : List ℕ) → length ws ≡ cellSize N k → (p : ℕ) → Held N (getD ws 0 0) p (atPlace p (cellOf N k ws))
   unfolding cellOf
   held-start ws long p = record {
     samples = samples-long N k ws long ∙ one-channel;
-    line = line-long N k ws long;
     number = refl;
     place = refl;
   }
 
-  held-step : (w p i : ℕ) (c : Cell) → Held k N w p c → Held k N w (next n p) (stepCell k N bs i c)
+  held-step : (w p i : ℕ) (c : Cell) → Held N w p c → Held N w (next n p) (stepCell k N bs i c)
   unfolding stepCell stateBy
   held-step w p i c h = record {
     samples = put-long (channelsOf k) N i (sampleBy k (c .state) (frameAt N i (c .samples)) (bs i)) (c .samples) ∙ h .samples;
-    line = r .long _ _ _ (c .state .line) ∙ h .line;
     number = h .number;
     place = r .moves (c .state .place) ∙ ap (next n) (h .place);
   }
 
-  module _ (w p done : ℕ) (c : Cell) (h : Held k N w p c) where
+  module _ (w p done : ℕ) (c : Cell) (h : Held N w p c) where
     -- in a stretch the place counts on
-    held-on : (i : ℕ) → p + i < n → Held k N w (p + i) (iter (from done (stepCell k N bs)) i c)
+    held-on : (i : ℕ) → p + i < n → Held N w (p + i) (iter (from done (stepCell k N bs)) i c)
     unfolding iter
     held-on zero b = held-at (omega arith) h
     held-on (suc i) b =
@@ -150,7 +143,7 @@ module _ (k : NodeKind) (n : ℕ) (r : Ringed k n) (N : ℕ) (bs : ℕ → Broug
         held-at (next-in n (p + i) (omega arith) ∙ e) (held-step w (p + i) (done + i) _ (held-on i (omega arith)))
 
     -- and at its end it may wrap
-    held-end : (count : ℕ) → p < n → p + count ≤ n → Held k N w (wrapOf (p + count) n) (iter (from done (stepCell k N bs)) count c)
+    held-end : (count : ℕ) → p < n → p + count ≤ n → Held N w (wrapOf (p + count) n) (iter (from done (stepCell k N bs)) count c)
     unfolding iter
     held-end zero a b = let e : p ≡ p + 0 = omega arith in held-at (sym (wrap-in n p a) ∙ ap (λ (j : ℕ). wrapOf j n) e) h
     held-end (suc i) a b =
@@ -166,7 +159,7 @@ module _ (k : NodeKind) (n : ℕ) (r : Ringed k n) (N : ℕ) (bs : ℕ → Broug
 
     -- one sample more, where what is stored is what the rule makes of any cell whose values are there
     pub stretch-then : (i j : ℕ) → p + i < n → j ≡ done + i → (vs vs′ : List ℕ) → vs ≡ stretchValues k N bs p done i ws
-        → ((q : ℕ) (c : Cell) → Held k N (getD ws 0 0) (p + i) c → vs ≡ valuesOf (atPlace q c) → vs′ ≡ valuesOf (atPlace q (stepCell k N bs j c)))
+        → ((q : ℕ) (c : Cell) → Held N (getD ws 0 0) (p + i) c → vs ≡ valuesOf (atPlace q c) → vs′ ≡ valuesOf (atPlace q (stepCell k N bs j c)))
         → vs′ ≡ stretchValues k N bs p done (i + 1) ws
     unfolding stretchValues iter
     stretch-then i j b at vs vs′ e t =
@@ -177,7 +170,7 @@ module _ (k : NodeKind) (n : ℕ) (r : Ringed k n) (N : ℕ) (bs : ℕ → Broug
 -- after `done` samples the place is p, and vs are the values, in which the place is still the old one
 pub record Reached (k : NodeKind) (N : ℕ) (bs : ℕ → Brought) (ws : List ℕ) (done p : ℕ) (vs : List ℕ) : Type 0 where
   pub values : vs ≡ valuesOf (atPlace (getD ws 2 0) (iter (stepCell k N bs) done (cellOf N k ws)))
-  pub held : Held k N (getD ws 0 0) p (iter (stepCell k N bs) done (cellOf N k ws))
+  pub held : Held N (getD ws 0 0) p (iter (stepCell k N bs) done (cellOf N k ws))
 
 module _ (k : NodeKind) (n : ℕ) (r : Ringed k n) (N : ℕ) (bs : ℕ → Brought) (ws : List ℕ) where
   pub reached-none : (p : ℕ) → p ≡ getD ws 2 0 → length ws ≡ cellSize N k → Reached k N bs ws 0 p ws
@@ -208,7 +201,7 @@ module _ (k : NodeKind) (n : ℕ) (r : Ringed k n) (N : ℕ) (bs : ℕ → Broug
               e
               ∙ (λ i. valuesOf (atPlace (stays i) (iter (from done (stepCell k N bs)) count (stands i))))
               ∙ ap (λ (d : Cell). valuesOf (atPlace q d)) join;
-          held = subst (Held k N (getD ws 0 0) p′) join (held-at (sym e-p) (held-end k n r N bs (getD ws 0 0) p done c (h .held) count a b));
+          held = subst (Held N (getD ws 0 0) p′) join (held-at (sym e-p) (held-end k n r N bs (getD ws 0 0) p done c (h .held) count a b));
         }
 
     -- the place is stored after the last sample
@@ -225,7 +218,7 @@ module _ (k : NodeKind) (n : ℕ) (r : Ringed k n) (N : ℕ) (bs : ℕ → Broug
 -- ---- one sample
 
 -- the oldest of a ring
-pub oldest : (n from : ℕ) (s : State) → s .place < n → get n from s 0 ≡ ofBits binary32 (getD (s .line) (from + s .place) 0)
+oldest : (n from : ℕ) (s : State) → s .place < n → get n from s 0 ≡ ofBits binary32 (getD (s .line) (from + s .place) 0)
 unfolding get
 oldest n from s h =
     let e : s .place + 0 ≡ s .place = omega arith in
@@ -293,7 +286,7 @@ module _ (N q : ℕ) (c : Cell) (long : length (c .samples) ≡ N) (vs : List �
         rw (v, e-at, e-out, ex, ey)
         (ap (λ (l : List ℕ). set l (3 + j) new) (set-line (atPlace q c) _ N (c .state .place) long) ∙ set-sample _ new j within)
 
-    pub all-pass-turn : (n : ℕ) (f : Float) (x y at-y : ℕ) → at-y ≡ 3 + N + (n + c .state .place)
+    all-pass-turn : (n : ℕ) (f : Float) (x y at-y : ℕ) → at-y ≡ 3 + N + (n + c .state .place)
         → x ≡ toBits binary32 (first (bs j)) → y ≡ toBits binary32 (leftBy (AllPass n f) (c .state) (bs j))
         → set (set (set vs at x) at-y y) out y ≡ valuesOf (atPlace q (stepCell (AllPass n f) N bs j c))
     unfolding stepCell stateBy sampleBy putFrame keeps carryAfter lineAfter
@@ -309,7 +302,7 @@ module _ (N q : ℕ) (c : Cell) (long : length (c .samples) ≡ N) (vs : List �
 pub all-pass-then : (n : ℕ) (f : Float) (N : ℕ) (bs : ℕ → Brought) (ws : List ℕ) (p done i j x y at at-y out : ℕ) (vs us ts rs : List ℕ)
     → vs ≡ stretchValues (AllPass n f) N bs p done i ws → us ≡ set vs at x → ts ≡ set us at-y y → rs ≡ set ts out y
     → x ≡ toBits binary32 (first (bs j))
-    → ((q : ℕ) (c : Cell) → Held (AllPass n f) N (getD ws 0 0) (p + i) c → vs ≡ valuesOf (atPlace q c)
+    → ((q : ℕ) (c : Cell) → Held N (getD ws 0 0) (p + i) c → vs ≡ valuesOf (atPlace q c)
     → y ≡ toBits binary32 (leftBy (AllPass n f) (c .state) (bs j)))
     → length ws ≡ cellSize N (AllPass n f) → p + i < n → j < N → j ≡ done + i
     → at ≡ 3 + N + (p + i) → at-y ≡ 3 + N + (n + (p + i)) → out ≡ 3 + j
