@@ -9,3 +9,4 @@ pub mod HistoryFrames
 pub mod HistoryBlocks
 pub mod HistoryRules
 pub mod HistoryFits
+pub mod Rings
