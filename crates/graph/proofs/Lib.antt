@@ -10,3 +10,5 @@ pub mod Loops
 pub mod Tabling
 pub mod Joined
 pub mod Six
+pub mod Formed
+pub mod Accepted

@@ -8,3 +8,4 @@ pub mod Wires
 pub mod Phases
 pub mod Gather
 pub mod Read
+pub mod Formed
