@@ -1,17 +1,17 @@
 -- Every accepted board is well formed: each record keeps the board so, and check 6 says the rest. Assumes nothing.
 use Prim.Native.Nat.{ℕ, zero, suc, _+_, _*_, _≤_, _<_}
-use mathlib.Core.Path.{_≡_, refl, sym, ap, subst, _∙_}
+use mathlib.Core.Path.{_≡_, refl, sym, subst, _∙_}
 use mathlib.Core.List.{List, [], _∷_, _++_}
-use mathlib.Core.Bool.{Bool, true, false, cond, _&&_}
+use mathlib.Core.Bool.{Bool, true, false, cond}
 use native.Mathlib.Nat.{add-zero, zero-add}
 use native.Mathlib.Omega.{arith}
-use borrow.Author.Tests.{ltb-true, ltb-false, leb-true, eqb-true, eqb-false, ne-eqb}
+use borrow.Author.Tests.{ltb-true, ltb-false, leb-true, eqb-true, eqb-false}
 use lib.Dec.{ltb, leb, eqb}
 use lib.Ieee.{ofBits, binary32}
-use lib.ListN.{length, getD, take, length-append, List·getD-append}
+use lib.ListN.{length, getD, length-append, List·getD-append}
 use lib.Seq.{getD-append-seam, take-append-le, take-append-seam}
 use Rattle.leaves.specs.Bytes.{u16At, u32At}
-use Rattle.nodes.specs.Kind.{ruleOf, kept, plainFields, floatFields, delayFields, allPassFields, sineFields, finite, inBand, lineFits, lineOf, channelsOf, cellSize, isPass, sourcesFit, fewest, most}
+use Rattle.nodes.specs.Kind.{ruleOf, kept, plainFields, floatFields, delayFields, allPassFields, sineFields, finite, inBand, lineFits, channelsOf, sourcesFit}
 use Rattle.nodes.specs.declared.kind.NodeKind.{NodeKind}
 use Rattle.nodes.specs.declared.kind.NodeKind.the-variants.{Pass, Sum, Destination, Balance, Mul, Add, Delay, AllPass, OnePole, Sine}
 use Rattle.nodes.specs.declared.kind.NodeRecord.{NodeRecord}
@@ -19,8 +19,8 @@ use Rattle.nodes.specs.declared.kind.Rule.{Rule}
 use Rattle.nodes.specs.declared.kind.Rule.the-variants as rule
 use Rattle.reading.specs.Order.{Wire, Each, sources}
 use Rattle.graph.specs.Record.{foundAt}
-use Rattle.graph.specs.Sources.{distinct, distinctSources}
-use Rattle.graph.specs.Board.{Parsed, Reading, going, refused, whole, wire, linesOf, cellsOf, memoryLength, headed, withNode, withWire, sizeFits, placed, nodeFits, wireFits, headBy, nodeBy, wireBy, endBy, takeFound, stepOf, run, readRecords}
+use Rattle.graph.specs.Sources.{distinctSources}
+use Rattle.graph.specs.Board.{Parsed, Reading, going, refused, whole, wire, linesOf, cellsOf, headed, withNode, withWire, sizeFits, nodeFits, wireFits, headBy, nodeBy, wireBy, takeFound, stepOf, run, readRecords}
 use Rattle.graph.specs.Judge.{passAt, inputFits, checkSources, checkSix, thenSix, readBoard}
 use Rattle.graph.specs.Formed.{FromBits, Line, Ranged, NodeFormed, Joins, RecordsFormed, Formed}
 use Rattle.graph.specs.declared.record.Found.{Found}
@@ -29,7 +29,7 @@ use Rattle.graph.proofs.Choice.{pick, both, false-is-not-true}
 use Rattle.graph.proofs.Sums.{lines-snoc, samples-few}
 use Rattle.graph.proofs.Fits.{size-fits, NodeFits, node-fits, WireFits, wire-fits}
 use Rattle.graph.proofs.Found.{Room, found-room}
-use Rattle.graph.proofs.Six.{most-few, pass-getD, pass-past}
+use Rattle.graph.proofs.Six.{pass-getD, pass-past}
 
 -- ---- the rule of a node's fields
 

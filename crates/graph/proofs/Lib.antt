@@ -12,3 +12,4 @@ pub mod Joined
 pub mod Six
 pub mod Formed
 pub mod Accepted
+pub mod JudgeCases

@@ -1,6 +1,5 @@
 // Judges the boards on standard input, each after its length in two bytes, and writes number and
 // place of each answer on a line.
-ghost use Prim.Native.Nat.{_≤_};
 use graph::answer::Answer;
 use graph::judge::judge;
 use leaves::bytes::u16_at;
