@@ -1,10 +1,10 @@
 -- What is known where a record is found: its bytes are there, it stands in order, and a refusal has a number. Assumes nothing.
 use Prim.Native.Nat.{ℕ, _+_, _-_, _≤_, _<_}
-use mathlib.Core.Path.{_≡_, refl, sym, ap, subst, _∙_}
+use mathlib.Core.Path.{_≡_, refl}
 use mathlib.Core.List.{List}
-use mathlib.Core.Bool.{Bool, true, false, _&&_, _||_}
+use mathlib.Core.Bool.{Bool, true, false, _&&_}
 use native.Mathlib.Omega.{arith}
-use borrow.Author.Tests.{ltb-false, leb-true, leb-false, eqb-true, eqb-false, le-leb, lt-leb}
+use borrow.Author.Tests.{ltb-false, leb-true, eqb-true, eqb-false, le-leb}
 use lib.ListN.{length}
 use lib.Dec.{ltb, leb, eqb}
 use Rattle.leaves.specs.Bytes.{u16At}

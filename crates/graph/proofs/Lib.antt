@@ -30,3 +30,6 @@ pub mod RoundSix
 pub mod RoundRefused
 pub mod Round
 pub mod RoundWorked
+pub mod Formed
+pub mod Accepted
+pub mod JudgeCases

@@ -1,11 +1,11 @@
 -- Steps of the reading one after the other, and a reading that is done. Assumes nothing.
 use Prim.Native.Nat.{ℕ, zero, suc, _+_, _-_, _≤_}
-use mathlib.Core.Path.{_≡_, refl, sym, ap, _∙_}
+use mathlib.Core.Path.{_≡_, refl, ap, _∙_}
 use mathlib.Core.List.{List}
 use native.Mathlib.Nat.{zero-add, suc-add}
 use native.Mathlib.Omega.{arith}
 use lib.ListN.{length}
-use Rattle.graph.specs.Board.{Parsed, Reading, going, refused, whole, headed, stepOf, run, readRecords}
+use Rattle.graph.specs.Board.{Reading, going, refused, whole, headed, stepOf, run, readRecords}
 
 abbrev pub Done : Reading → Type 0
 Done (going at last p) = ⊥

@@ -14,3 +14,4 @@ pub mod Late
 pub mod Tail
 pub mod Walks
 pub mod Write
+pub mod Formed
