@@ -8,3 +8,15 @@ pub mod Late
 pub mod Placing
 pub mod Lines
 pub mod VisitCases
+pub mod Choice
+pub mod Sums
+pub mod Fits
+pub mod Found
+pub mod Run
+pub mod Wiring
+pub mod Answers
+pub mod Parts
+pub mod Loops
+pub mod Tabling
+pub mod Joined
+pub mod Six

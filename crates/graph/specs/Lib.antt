@@ -10,3 +10,6 @@ pub mod Listed
 pub mod Late
 pub mod Tail
 pub mod Walks
+pub mod Phases
+pub mod Gather
+pub mod Read

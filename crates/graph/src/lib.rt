@@ -4,3 +4,7 @@ pub mod answer;
 pub mod graph;
 pub mod record;
 pub mod tail;
+pub mod board;
+pub mod judge;
+pub mod record;
+pub mod sources;

@@ -1,0 +1,11 @@
+-- `graph::board::refusal` meets its contract. Assumes nothing.
+use mathlib.Core.Path.{refl}
+use Rattle.graph.proofs.Joined.{refusal-read}
+use Rattle.graph.proofs.board.refusal.Statement.{statement}
+use Rattle.graph.proofs.board.refusal.Tie as tie
+
+returns : tie.Need-returns
+returns c = refusal-read (c .args .answer) _ refl (c .pre)
+
+pub refusal-spec : {M : Type 1} → statement M
+refusal-spec = tie.close (tie.spec returns)
