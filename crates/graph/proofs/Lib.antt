@@ -1,13 +1,4 @@
 -- Laws that the proofs of `graph` cite, and theorems for its callers.
-pub mod Wiring
-pub mod Repeats
-pub mod Going
-pub mod Listed
-pub mod Wired
-pub mod Late
-pub mod Placing
-pub mod Lines
-pub mod VisitCases
 pub mod Choice
 pub mod Sums
 pub mod Fits
@@ -20,3 +11,11 @@ pub mod Loops
 pub mod Tabling
 pub mod Joined
 pub mod Six
+pub mod Repeats
+pub mod Going
+pub mod Listed
+pub mod Wired
+pub mod Late
+pub mod Placing
+pub mod Lines
+pub mod VisitCases

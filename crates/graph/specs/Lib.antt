@@ -5,11 +5,11 @@ pub mod Sources
 pub mod Board
 pub mod Judge
 pub mod Wires
+pub mod Phases
+pub mod Gather
+pub mod Read
 pub mod Visit
 pub mod Listed
 pub mod Late
 pub mod Tail
 pub mod Walks
-pub mod Phases
-pub mod Gather
-pub mod Read
