@@ -8,21 +8,18 @@ use Rattle.reading.specs.Table.{mem}
 use Rattle.reading.specs.Order.{Wire}
 use Rattle.reading.specs.Visit.{Walk, go, visiting}
 use Rattle.graph.specs.Sources.{distinctSources}
+use Rattle.graph.specs.Phases.{Within}
 
 -- From node 0: mark the node, go to each source not yet marked, oldest wire first, then list the node. No way through a board is longer
 -- than its nodes are many, and these are 64 at most.
 unfoldable pub visitingList : List Wire → List ℕ
 visitingList ws = visiting ws 64
 
--- each of the first n numbers of a list is a node below 64
-abbrev pub Nodes : List ℕ → ℕ → Type 0
-Nodes l n = (i : ℕ) → i < n → getD l i 0 < 64
-
 -- an array and a count hold the list l of nodes below 64
 pub record Lists (l nodes : List ℕ) (count : ℕ) : Type 0 where
   pub size : length nodes ≡ 64
   pub fits : count ≤ 64
-  pub below : Nodes nodes count
+  pub below : Within 64 nodes count
   pub same : take count nodes ≡ l
 
 -- ---- the sources gathered in two arrays: node v's stand in `lists` from 8 v on, as many as `counts` says
@@ -65,6 +62,6 @@ pub record Visited (counts lists : List ℕ) (v : ℕ) (m l : List ℕ) (count :
   pub list-kept : length l′ ≡ length l
   pub fewer : unmarked m′ ≤ unmarked m
   pub total : count′ + unmarked m′ ≡ count + unmarked m
-  pub below : Nodes l count → Nodes l′ count′
+  pub below : Within 64 l count → Within 64 l′ count′
   -- the walk goes on as `go` says, at every depth that suffices
   pub walk : (ws : List Wire) → Gathered ws counts lists → (k : ℕ) → unmarked m ≤ k → (w : Walk) → Stands m l count w → Stands m′ l′ count′ (go ws k v w)

@@ -6,14 +6,10 @@ ghost use lib.ListN.{length, take};
 ghost use Rattle.reading.specs.Order.{Wire};
 ghost use Rattle.graph.specs.Board.{wire};
 ghost use Rattle.graph.specs.Wires.{wiresOf};
-ghost use Rattle.graph.specs.Visit.{visitingList, Nodes, Lists, Table, Gathered, Ready, Visited};
+ghost use Rattle.graph.specs.Phases.{Within};
+ghost use Rattle.graph.specs.Visit.{visitingList, Lists, Table, Gathered, Ready, Visited};
 ghost use Rattle.graph.specs.Late.{isLate, lateWires, Placed};
-
-pub fn wide(x: u8) -> usize
-    ensures { λ r. ⌜ r ≡ x ⌝ }
-{
-    x as usize
-}
+use crate::sources::wide;
 
 // The walk from `node`, which is not marked yet: marks it, goes to each of its sources that is not
 // marked, then lists it after the `count` nodes listed so far. Returns how many are listed then.
@@ -63,7 +59,7 @@ pub fn visiting_list(counts: &[u8; 64], lists: &[u8; 512]) -> Order
 
 // Each node's place in a list; `count` for a node that is not in it.
 pub fn places(nodes: &[u8; 64], count: usize) -> [u8; 64]
-    requires { ⌜ (length (now nodes) ≡ 64) × (count ≤ 64) × Nodes (now nodes) count ⌝ }
+    requires { ⌜ (length (now nodes) ≡ 64) × (count ≤ 64) × Within 64 (now nodes) count ⌝ }
     ensures { λ r. ⌜ Placed (take count (now (nodes .entry))) r ⌝ }
 {
     let mut r = [count as u8; 64];
@@ -94,7 +90,7 @@ pub fn late_count(
     places: &[u8; 64],
     count: usize,
 ) -> usize
-    requires { ⌜ (wires ≤ 128) × Nodes (now sources) wires × Nodes (now targets) wires ⌝ }
+    requires { ⌜ (wires ≤ 128) × Within 64 (now sources) wires × Within 64 (now targets) wires ⌝ }
     ensures { λ r. ⌜ ((l : List ℕ) → length l ≡ count → Placed l (now (places .entry)) → r ≡ length (lateWires l (wiresOf (now (sources .entry)) (now (targets .entry)) wires))) ⌝ }
 {
     let mut n = 0;

@@ -4,11 +4,11 @@ ghost use mathlib.Core.Bool.{cond};
 ghost use Prim.Native.Nat.{_<_, _≤_};
 ghost use lib.ListN.{length, take};
 ghost use Rattle.graph.specs.Wires.{wiresOf};
-ghost use Rattle.graph.specs.Visit.{Nodes};
+ghost use Rattle.graph.specs.Phases.{Within};
 ghost use Rattle.graph.specs.Tail.{delays, onlyDelays, listedLines, endless, tailBy, LinesFit};
 use crate::graph::late_count;
 use crate::graph::places;
-use crate::graph::wide;
+use crate::sources::wide;
 use nodes::kind::NodeKind;
 use nodes::kind::NodeRecord;
 use nodes::kind::line_of;
@@ -37,7 +37,7 @@ fn delays(k: NodeKind) -> bool
 // The sum of the lines of the first `count` nodes of the list; endless if one of them does not only
 // delay.
 fn listed_lines(nodes: [NodeRecord; 64], list: &[u8; 64], count: usize) -> usize
-    requires { ⌜ (length (now list) ≡ 64) × (count ≤ 64) × Nodes (now list) count × LinesFit nodes (now list) count ⌝ }
+    requires { ⌜ (length (now list) ≡ 64) × (count ≤ 64) × Within 64 (now list) count × LinesFit nodes (now list) count ⌝ }
     ensures { λ r. ⌜ (r ≡ cond (onlyDelays nodes (take count (now (list .entry)))) (listedLines nodes (take count (now (list .entry)))) endless) × (r ≤ endless) ⌝ }
 {
     let mut sum = 0;
@@ -65,8 +65,8 @@ pub fn tail(
     list: &[u8; 64],
     count: usize,
 ) -> u32
-    requires { ⌜ (wires ≤ 128) × Nodes (now sources) wires × Nodes (now targets) wires ⌝ }
-    requires { ⌜ (length (now list) ≡ 64) × (count ≤ 64) × Nodes (now list) count × LinesFit nodes (now list) count ⌝ }
+    requires { ⌜ (wires ≤ 128) × Within 64 (now sources) wires × Within 64 (now targets) wires ⌝ }
+    requires { ⌜ (length (now list) ≡ 64) × (count ≤ 64) × Within 64 (now list) count × LinesFit nodes (now list) count ⌝ }
     ensures { λ r. ⌜ r ≡ tailBy nodes (wiresOf (now (sources .entry)) (now (targets .entry)) wires) (take count (now (list .entry))) ⌝ }
 {
     let at = places(list, count);
