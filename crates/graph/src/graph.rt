@@ -47,7 +47,7 @@ pub struct Order {
 }
 
 // The visiting list of the wires whose sources are gathered in the two arrays.
-pub fn visiting_list(counts: &[u8; 64], lists: &[u8; 512]) -> Order
+pub fn visiting_list<'a>(counts: &'a [u8; 64], lists: &'a [u8; 512]) -> Order
     requires { ⌜ Table (now counts) (now lists) ⌝ }
     ensures { λ r. ⌜ ((ws : List Wire) → Gathered ws (now (counts .entry)) (now (lists .entry)) → Lists (visitingList ws) (r .nodes) (r .count)) ⌝ }
 {
@@ -83,9 +83,9 @@ pub fn is_late(places: &[u8; 64], count: usize, source: usize, target: usize) ->
 }
 
 // How many of the wires are late in the list of `count` nodes whose places are given.
-pub fn late_count(
-    sources: &[u8; 128],
-    targets: &[u8; 128],
+pub fn late_count<'a>(
+    sources: &'a [u8; 128],
+    targets: &'a [u8; 128],
     wires: usize,
     places: &[u8; 64],
     count: usize,

@@ -57,22 +57,22 @@ fn listed_lines(nodes: [NodeRecord; 64], list: &[u8; 64], count: usize) -> usize
 }
 
 // The tail of a board with these nodes, wires and visiting list.
-pub fn tail(
+fn tail<'a>(
     nodes: [NodeRecord; 64],
-    sources: &[u8; 128],
-    targets: &[u8; 128],
+    sources: &'a [u8; 128],
+    targets: &'a [u8; 128],
     wires: usize,
     list: &[u8; 64],
     count: usize,
-) -> u32
+) -> usize
     requires { ⌜ (wires ≤ 128) × Within 64 (now sources) wires × Within 64 (now targets) wires ⌝ }
     requires { ⌜ (length (now list) ≡ 64) × (count ≤ 64) × Within 64 (now list) count × LinesFit nodes (now list) count ⌝ }
-    ensures { λ r. ⌜ r ≡ tailBy nodes (wiresOf (now (sources .entry)) (now (targets .entry)) wires) (take count (now (list .entry))) ⌝ }
+    ensures { λ r. ⌜ (r ≡ tailBy nodes (wiresOf (now (sources .entry)) (now (targets .entry)) wires) (take count (now (list .entry)))) × (r ≤ endless) ⌝ }
 {
     let at = places(list, count);
     if late_count(sources, targets, wires, &at, count) == 0 {
-        listed_lines(nodes, list, count) as u32
+        listed_lines(nodes, list, count)
     } else {
-        ENDLESS as u32
+        ENDLESS
     }
 }
