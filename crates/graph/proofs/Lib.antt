@@ -19,3 +19,5 @@ pub mod Late
 pub mod Placing
 pub mod Lines
 pub mod VisitCases
+pub mod Formed
+pub mod Accepted

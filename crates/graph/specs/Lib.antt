@@ -13,3 +13,4 @@ pub mod Listed
 pub mod Late
 pub mod Tail
 pub mod Walks
+pub mod Formed
