@@ -11,13 +11,13 @@ pub mod Loops
 pub mod Tabling
 pub mod Joined
 pub mod Six
+pub mod Formed
+pub mod Accepted
 pub mod Repeats
 pub mod Going
 pub mod Listed
-pub mod Wired
 pub mod Late
 pub mod Placing
 pub mod Lines
+pub mod Wired
 pub mod VisitCases
-pub mod Formed
-pub mod Accepted

@@ -8,9 +8,9 @@ pub mod Wires
 pub mod Phases
 pub mod Gather
 pub mod Read
+pub mod Formed
 pub mod Visit
 pub mod Listed
 pub mod Late
 pub mod Tail
 pub mod Walks
-pub mod Formed

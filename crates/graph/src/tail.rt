@@ -5,8 +5,11 @@ ghost use Prim.Native.Nat.{_<_, _≤_};
 ghost use lib.ListN.{length, take};
 ghost use Rattle.graph.specs.Wires.{wiresOf};
 ghost use Rattle.graph.specs.Phases.{Within};
-ghost use Rattle.graph.specs.Tail.{delays, onlyDelays, listedLines, endless, tailBy, LinesFit};
+ghost use Rattle.graph.specs.Tail.{delays, onlyDelays, listedLines, endless, tailBy, tailAnswer, LinesFit};
 use crate::graph::late_count;
+use crate::graph::visiting_list;
+use crate::judge::read_board;
+use crate::answer::Answer;
 use crate::graph::places;
 use crate::sources::wide;
 use nodes::kind::NodeKind;
@@ -75,4 +78,29 @@ fn tail<'a>(
     } else {
         ENDLESS
     }
+}
+
+// The tail call: a refusal, or 0 and the tail.
+pub fn tail_of(s: &[u8]) -> Answer
+    ensures { λ r. ⌜ r ≡ tailAnswer (now (s .entry)) ⌝ }
+{
+    let board = read_board(s);
+    let refused = board.refused;
+    if refused.number != 0 {
+        return refused;
+    }
+    let order = visiting_list(&board.counts, &board.lists);
+    let nodes = board.nodes;
+    let list = order.nodes;
+    Answer::new(
+        0,
+        tail(
+            nodes,
+            &board.sources,
+            &board.targets,
+            board.wires,
+            &list,
+            order.count,
+        ),
+    )
 }
