@@ -1,10 +1,8 @@
 -- What a call knows of an accepted board's wires: they are as the visiting list, the late wires and the tail ask. Assumes nothing.
-use mathlib.Core.Path.{_≡_, refl, sym, subst}
-use Prim.Native.Nat.{ℕ, _<_, _≤_}
+use mathlib.Core.Path.{_≡_, refl, subst}
+use Prim.Native.Nat.{ℕ, _<_}
 use native.Mathlib.Nat.{le-trans}
-use native.Mathlib.Omega.{arith}
 use mathlib.Core.List.{List}
-use lib.ListN.{getD}
 use Rattle.reading.specs.Order.{Wire, Each}
 use Rattle.reading.proofs.Order.{each-source}
 use Rattle.graph.specs.Judge.{readBoard}

@@ -4,15 +4,17 @@ ghost use mathlib.Core.Path.{_≡_};
 ghost use mathlib.Core.List.{[], _∷_, _++_};
 ghost use Prim.Native.Nat.{_+_, _*_, _<_, _≤_};
 ghost use lib.ListN.{length, take};
+ghost use Rattle.graph.specs.Judge.{readBoard};
 ghost use Rattle.graph.specs.Phases.{Within};
 ghost use Rattle.graph.specs.Wires.{wiresOf};
 ghost use Rattle.graph.specs.Visit.{visitingList, Table, Gathered};
 ghost use Rattle.graph.specs.Late.{lateWires, Placed};
-ghost use Rattle.order.specs.Text.{number, spaced, spacedAll, line, orderWord, lateWord, refusedWord, lateLines, orderText, Wrote};
+ghost use Rattle.order.specs.Text.{number, spaced, spacedAll, line, orderWord, lateWord, refusedWord, lateLines, orderText, textOf, Wrote};
 use graph::graph::is_late;
-use graph::sources::wide;
 use graph::graph::places;
 use graph::graph::visiting_list;
+use graph::judge::read_board;
+use graph::sources::wide;
 
 fn put(out: &mut [u8], at: usize, byte: u8) -> usize
     requires { ⌜ at < length (now out) ⌝ }
@@ -127,11 +129,11 @@ fn put_order(out: &mut [u8], list: &[u8; 64], count: usize) -> usize
 }
 
 // The text of a board with these wires, whose sources are gathered in `counts` and `lists`.
-pub fn order_text(
-    counts: &[u8; 64],
-    lists: &[u8; 512],
-    sources: &[u8; 128],
-    targets: &[u8; 128],
+fn order_text<'a>(
+    counts: &'a [u8; 64],
+    lists: &'a [u8; 512],
+    sources: &'a [u8; 128],
+    targets: &'a [u8; 128],
     wires: usize,
     out: &mut [u8],
 ) -> usize
@@ -148,9 +150,29 @@ pub fn order_text(
 }
 
 // The text of a refusal.
-pub fn refusal_text(number: u32, place: u32, out: &mut [u8]) -> usize
+fn refusal_text(number: u32, place: u32, out: &mut [u8]) -> usize
     requires { ⌜ 2048 ≤ length (now out) ⌝ }
     ensures { λ r. ⌜ Wrote (now (out .entry)) 0 (line refusedWord number place) (now (out .exit)) r ⌝ }
 {
     put_line(out, 0, b"refused", number as usize, place as usize)
+}
+
+// The text of the board that the bytes hold.
+pub fn board_text(s: &[u8], out: &mut [u8]) -> usize
+    requires { ⌜ 2048 ≤ length (now out) ⌝ }
+    ensures { λ r. ⌜ Wrote (now (out .entry)) 0 (textOf (readBoard (now (s .entry)))) (now (out .exit)) r ⌝ }
+{
+    let board = read_board(s);
+    let refused = board.refused;
+    if refused.number != 0 {
+        return refusal_text(refused.number, refused.place, out);
+    }
+    order_text(
+        &board.counts,
+        &board.lists,
+        &board.sources,
+        &board.targets,
+        board.wires,
+        out,
+    )
 }

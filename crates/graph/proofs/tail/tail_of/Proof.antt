@@ -1,12 +1,9 @@
 -- `graph::tail::tail_of` meets its contract: a refused board is answered so, and the arrays of an accepted one are as the tail asks.
 -- Assumes nothing.
-use mathlib.Core.Path.{_≡_, sym, ap, _∙_}
-use mathlib.Core.List.{List}
-use Prim.Native.Nat.{ℕ}
+use mathlib.Core.Path.{sym, ap, _∙_}
 use borrow.Author.Needs.{needs}
 use Rattle.graph.specs.Answer.{answer}
 use Rattle.graph.specs.Judge.{answerBy}
-use Rattle.graph.specs.Board.{Reading}
 use Rattle.graph.specs.Read.{parsedOf}
 use Rattle.graph.specs.Visit.{visitingList, Lists}
 use Rattle.graph.specs.Tail.{tailBy, tailOf, tailAnswer}
