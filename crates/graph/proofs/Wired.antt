@@ -9,7 +9,8 @@ use Rattle.graph.specs.Judge.{readBoard}
 use Rattle.graph.specs.Phases.{Within}
 use Rattle.graph.specs.Read.{parsedOf, Read}
 use Rattle.graph.specs.Formed.{Joins}
-use Rattle.graph.specs.Visit.{visitingList, Lists, Table, Gathered}
+use Rattle.graph.specs.Visit.{visitingList, Lists}
+use Rattle.graph.specs.Walking.{Table, Gathered}
 use Rattle.graph.specs.Listed.{SourcesBelow, ListsReached}
 use Rattle.graph.specs.Tail.{tailBy, tailOf, LinesFit}
 use Rattle.graph.specs.declared.board.Board.{Board}

@@ -10,6 +10,7 @@ pub mod Gather
 pub mod Read
 pub mod Formed
 pub mod Visit
+pub mod Walking
 pub mod Listed
 pub mod Late
 pub mod Tail

@@ -1,13 +1,14 @@
-// The visiting list of a board, its late wires and its tail.
+// The visiting list of a board, and its late wires.
 ghost use mathlib.Core.Path.{_≡_};
 ghost use mathlib.Core.List.{List};
-ghost use Prim.Native.Nat.{ℕ, _+_, _<_, _≤_};
+ghost use Prim.Native.Nat.{ℕ, _<_, _≤_};
 ghost use lib.ListN.{length, take};
 ghost use Rattle.reading.specs.Order.{Wire};
 ghost use Rattle.graph.specs.Board.{wire};
 ghost use Rattle.graph.specs.Wires.{wiresOf};
 ghost use Rattle.graph.specs.Phases.{Within};
-ghost use Rattle.graph.specs.Visit.{visitingList, Lists, Table, Gathered, Ready, Visited};
+ghost use Rattle.graph.specs.Visit.{visitingList, Lists};
+ghost use Rattle.graph.specs.Walking.{Table, Gathered, Ready, Visited};
 ghost use Rattle.graph.specs.Late.{isLate, lateWires, Placed};
 use crate::sources::wide;
 

@@ -1,7 +1,7 @@
 // The tail: how many samples a board's output can go on after its input has turned zero for good.
 ghost use mathlib.Core.Path.{_≡_};
 ghost use mathlib.Core.Bool.{cond};
-ghost use Prim.Native.Nat.{_<_, _≤_};
+ghost use Prim.Native.Nat.{_≤_};
 ghost use lib.ListN.{length, take};
 ghost use Rattle.graph.specs.Wires.{wiresOf};
 ghost use Rattle.graph.specs.Phases.{Within};
