@@ -15,7 +15,8 @@ use Rattle.reading.specs.Order.{Wire, sources}
 use Rattle.reading.specs.Visit.{Walk, markNode, listNode, each, go}
 use Rattle.reading.proofs.Table.{mem-head, mem-other}
 use Rattle.graph.specs.Sources.{distinctSources}
-use Rattle.graph.specs.Visit.{Nodes, Gathered, Stands, unmarked, Visited}
+use Rattle.graph.specs.Phases.{Within}
+use Rattle.graph.specs.Walking.{Gathered, Stands, unmarked, Visited}
 use Rattle.graph.proofs.Repeats.{each-append, each-distinct, go-skips, go-new}
 
 -- a node that was not marked is marked: there is one unmarked node less
@@ -53,7 +54,7 @@ stands-list m l c v w h s = record {
   list = rw add-one (take-suc-set l c v h ∙ ap (λ (x : List ℕ). x ++ (v ∷ [])) (s .list));
 }
 
-more-below : (l : List ℕ) (c v : ℕ) → v < 64 → c < length l → Nodes l c → Nodes (set l c v) (c + 1)
+more-below : (l : List ℕ) (c v : ℕ) → v < 64 → c < length l → Within 64 l c → Within 64 (set l c v) (c + 1)
 more-below l c v node h below i le = pick (ℕ-discrete i c)
   where
     pick : Dec (i ≡ c) → getD (set l c v) i 0 < 64
@@ -67,7 +68,7 @@ pub record Going (counts lists : List ℕ) (v : ℕ) (m₀ l₀ : List ℕ) (cou
   pub list-kept : length l ≡ length l₀
   pub fewer : unmarked m ≤ unmarked m₀
   pub total : c + unmarked m ≡ count + unmarked m₀
-  pub below : Nodes l₀ count → Nodes l c
+  pub below : Within 64 l₀ count → Within 64 l c
   pub walk : (ws : List Wire) → Gathered ws counts lists → (k : ℕ) → unmarked m₀ ≤ k → (w : Walk) → Stands m₀ l₀ count w
       → Stands m l c (each (go ws k) (take i (distinctSources ws v)) w)
 

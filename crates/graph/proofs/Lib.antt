@@ -1,3 +1,4 @@
+-- Laws that the proofs of `graph` cite, and theorems for its callers.
 pub mod Choice
 pub mod Sums
 pub mod Fits
@@ -33,3 +34,11 @@ pub mod RoundWorked
 pub mod Formed
 pub mod Accepted
 pub mod JudgeCases
+pub mod Repeats
+pub mod Going
+pub mod Listed
+pub mod Late
+pub mod Placing
+pub mod Lines
+pub mod Wired
+pub mod VisitCases

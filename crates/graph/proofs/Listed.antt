@@ -1,17 +1,22 @@
 -- The visiting list lists the reached nodes, each once, node 0 last, and no wire out of a node without wires in is late: what callers know
 -- of it, from the theory of the walk in `reading`. Assumes nothing.
-use mathlib.Core.Path.{_≡_, refl, ap, _∙_}
-use Prim.Native.Nat.{ℕ, suc, _+_, _<_, _≤_}
-use native.Mathlib.Nat.{le-refl}
+use mathlib.Core.Path.{_≡_, refl, ap, subst, _∙_}
+use Prim.Native.Nat.{ℕ, zero, suc, _+_, _<_, _≤_}
+use native.Mathlib.Nat.{le-refl, le-trans, not-suc-le-zero, le-of-suc-le-suc}
 use native.Mathlib.Omega.{arith}
-use mathlib.Core.Bool.{Bool, cond, not}
+use mathlib.Core.Bool.{Bool, true, cond, not}
 use mathlib.Core.List.{List, [], _∷_}
 use borrow.Author.Tests.{ne-eqb}
-use lib.Dec.{lit<}
+use lib.Dec.{eqb, lit<}
+use lib.ListN.{length, getD, take}
+use lib.Seq.{length-take-le, getD-take}
+use Rattle.reading.specs.Table.{mem}
 use Rattle.reading.specs.Order.{Wire, sources}
 use Rattle.reading.specs.Visit.{markNode, each, go, Reached, start, along}
+use Rattle.reading.proofs.Table.{mem-head, or-right}
 use Rattle.reading.proofs.Visit.{visiting-once, visiting-input-first, visiting-closed, reached-listed, listed-reached}
-use Rattle.graph.specs.Visit.{visitingList}
+use Rattle.graph.specs.Phases.{Within}
+use Rattle.graph.specs.Visit.{visitingList, Lists}
 use Rattle.graph.specs.Listed.{SourcesBelow, ListsReached}
 
 -- a number above every wire's target
@@ -47,3 +52,18 @@ lists-reached ws below = record {
 
     quiet : sources ws (above ws) ≡ []
     quiet = no-sources ws (above ws) (le-refl _)
+
+-- ---- the list in an array
+
+mem-at : (l : List ℕ) (i : ℕ) → i < length l → mem (getD l i 0) l ≡ true
+mem-at [] i h = absurd (not-suc-le-zero h)
+mem-at (x ∷ l) zero h = mem-head x l
+mem-at (x ∷ l) (suc i) h = or-right (eqb (getD l i 0) x) (mem-at l i (le-of-suc-le-suc h))
+
+-- its nodes are those of a board of n nodes
+pub listed-within : (ws : List Wire) (nodes : List ℕ) (count : ℕ) → Lists (visitingList ws) nodes count
+    → (n : ℕ) → 0 < n → n ≤ 64 → SourcesBelow ws n → Within n nodes count
+listed-within ws nodes count l n pos few below i h =
+    let long : length (take count nodes) ≡ count = length-take-le count nodes (omega (arith, l .size, l .fits)) in
+    let listed : mem (getD (take count nodes) i 0) (visitingList ws) ≡ true = subst (λ (m : List ℕ). mem (getD (take count nodes) i 0) m ≡ true) (l .same) (mem-at (take count nodes) i (omega arith)) in
+    subst (λ (k : ℕ). k < n) (getD-take count nodes i 0 h) (lists-reached ws (λ j s e. le-trans (below j s e) few) .below n pos below (getD (take count nodes) i 0) listed)

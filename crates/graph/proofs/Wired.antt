@@ -1,66 +1,65 @@
--- What a caller of the visiting list has at hand: wires between nodes below n, and their sources gathered, are as `visiting_list` asks.
--- Assumes nothing.
-use mathlib.Core.Path.{_≡_, subst, subst⁻¹}
-use Prim.Native.Nat.{ℕ, zero, suc, _+_, _<_, _≤_}
-use native.Mathlib.Nat.{not-suc-le-zero}
-use native.Mathlib.Decide.{decLt}
-use native.Mathlib.Omega.{arith}
-use mathlib.Core.Bool.{Bool, true, false, cond}
-use mathlib.Core.List.{List, [], _∷_, _++_}
-use lib.Dec.{eqb}
-use lib.ListN.{length, getD, length-append, List·getD-append}
-use lib.Seq.{getD-at}
-use Rattle.reading.specs.Table.{mem}
-use Rattle.reading.specs.Order.{Wire, Each, sources}
-use Rattle.reading.proofs.Table.{mem-head, or-right}
+-- What a call knows of an accepted board's wires: they are as the visiting list, the late wires and the tail ask. Assumes nothing.
+use mathlib.Core.Path.{_≡_, refl, subst}
+use Prim.Native.Nat.{ℕ, _<_}
+use native.Mathlib.Nat.{le-trans}
+use mathlib.Core.List.{List}
+use Rattle.reading.specs.Order.{Wire, Each}
 use Rattle.reading.proofs.Order.{each-source}
-use Rattle.graph.specs.Sources.{addNew, addAll, distinct}
-use Rattle.graph.specs.Wires.{wiresFrom, wiresOf}
-use Rattle.graph.specs.Visit.{Table, Gathered}
-use Rattle.graph.specs.Listed.{SourcesBelow}
+use Rattle.graph.specs.Judge.{readBoard}
+use Rattle.graph.specs.Phases.{Within}
+use Rattle.graph.specs.Read.{parsedOf, Read}
+use Rattle.graph.specs.Formed.{Joins}
+use Rattle.graph.specs.Visit.{visitingList, Lists}
+use Rattle.graph.specs.Walking.{Table, Gathered}
+use Rattle.graph.specs.Listed.{SourcesBelow, ListsReached}
+use Rattle.graph.specs.Tail.{tailBy, tailOf, LinesFit}
+use Rattle.graph.specs.declared.board.Board.{Board}
+use Rattle.graph.proofs.Accepted.{accepted-formed, count-is, table-at}
+use Rattle.graph.proofs.Listed.{lists-reached, listed-within}
+use Rattle.graph.proofs.Lines.{tail-of, lines-fit}
 
--- ---- the sources of wires in arrays
+joins-below : (n : ℕ) (ws : List Wire) → Each (Joins n) ws → SourcesBelow ws n
+joins-below n ws h k s e = let f = each-source (Joins n) ws h k s e in subst (λ (i : ℕ). i < n) (f .2) (f .1 .source-in)
 
-abbrev SourceBelow : ℕ → Wire → Type 0
-SourceBelow m w = w .source < m
+-- the board's wires
+abbrev wiresIn : Board → List Wire
+wiresIn b = parsedOf b .wires
 
-each-below : (ss ts : List ℕ) (m n i : ℕ) → ((j : ℕ) → j < i + n → getD ss j 0 < m) → Each (SourceBelow m) (wiresFrom ss ts i n)
-each-below ss ts m zero i h = tt
-each-below ss ts m (suc n) i h = (h i (omega arith), each-below ss ts m n (suc i) (λ j b. h j (omega arith)))
+module _ (s : List ℕ) (b : Board) (read : Read (readBoard s) b) (accepted : b .refused .number ≡ 0) where
+  pub some-nodes : 0 < b .count
+  some-nodes = subst (λ (n : ℕ). 0 < n) (count-is s b read accepted) (accepted-formed s b read accepted .some-nodes)
 
-pub sources-below : (ss ts : List ℕ) (n m : ℕ) → ((j : ℕ) → j < n → getD ss j 0 < m) → SourcesBelow (wiresOf ss ts n) m
-sources-below ss ts n m h k s e =
-    let f = each-source (SourceBelow m) (wiresOf ss ts n) (each-below ss ts m n 0 (λ j b. h j (omega arith))) k s e in
-    subst (λ (i : ℕ). i < m) (f .2) (f .1)
+  pub sources-below : SourcesBelow (wiresIn b) (b .count)
+  sources-below = subst (SourcesBelow (wiresIn b)) (count-is s b read accepted) (joins-below _ (wiresIn b) (accepted-formed s b read accepted .records .joins))
 
--- ---- the sources gathered
+  -- the two ends of the wires, in their arrays
+  pub sources-within : Within 64 (b .sources) (b .wires)
+  sources-within j h = le-trans (read .sound .sources-in j h) (read .sound .few-nodes)
 
-abbrev AllBelow : ℕ → List ℕ → Type 0
-AllBelow m l = (j : ℕ) → j < length l → getD l j 0 < m
+  pub targets-within : Within 64 (b .targets) (b .wires)
+  targets-within j h = le-trans (read .sound .targets-in j h) (read .sound .few-nodes)
 
-snoc-below : (m : ℕ) (l : List ℕ) (x : ℕ) → AllBelow m l → x < m → AllBelow m (l ++ (x ∷ []))
-snoc-below m l x h b j le = pick (decLt j (length l))
-  where
-    pick : Dec (j < length l) → getD (l ++ (x ∷ [])) j 0 < m
-    pick (yes i) = subst⁻¹ (λ (y : ℕ). y < m) (List·getD-append l (x ∷ []) 0 j i) (h j i)
-    pick (no n) =
-        let e : length l ≡ j = omega (arith, length-append l (x ∷ [])) in
-        subst⁻¹ (λ (y : ℕ). y < m) (getD-at l x [] 0 j e) b
+  -- the table of sources is whole
+  pub table : Table (b .counts) (b .lists)
+  table = record {
+    few = λ v h. table-at s b read accepted v h .few;
+    nodes = λ v j h l. le-trans (table-at s b read accepted v h .source-in j l) (read .sound .few-nodes);
+  }
 
-all-below : (m : ℕ) (xs l : List ℕ) → ((x : ℕ) → mem x xs ≡ true → x < m) → AllBelow m l → AllBelow m (addAll l xs)
-all-below m [] l h a = a
-all-below m (x ∷ xs) l h a = all-below m xs (addNew l x) (λ y e. h y (or-right (eqb y x) e)) (pick (mem x l))
-  where
-    pick : (b : Bool) → AllBelow m (cond b l (l ++ (x ∷ [])))
-    pick true = a
-    pick false = snoc-below m l x a (h x (mem-head x xs))
+  pub gathered : Gathered (wiresIn b) (b .counts) (b .lists)
+  gathered = record { size = λ v h. table-at s b read accepted v h .count-is; source = λ v j h l. table-at s b read accepted v h .source-is j l }
 
-distinct-below : (m : ℕ) (xs : List ℕ) → ((x : ℕ) → mem x xs ≡ true → x < m) → AllBelow m (distinct xs)
-unfolding distinct
-distinct-below m xs h = all-below m xs [] h (λ j b. absurd (not-suc-le-zero b))
+  -- what holds of the visiting list
+  pub lists-all : ListsReached (wiresIn b) (visitingList (wiresIn b))
+  lists-all = lists-reached (wiresIn b) (λ k i e. le-trans (sources-below k i e) (read .sound .few-nodes))
 
-pub table-of : (ws : List Wire) (counts lists : List ℕ) → SourcesBelow ws 64 → ((v : ℕ) → v < 64 → getD counts v 0 ≤ 8) → Gathered ws counts lists → Table counts lists
-table-of ws counts lists below few t = record {
-  few = few;
-  nodes = λ v j h b. subst⁻¹ (λ (y : ℕ). y < 64) (t .source v j h b) (distinct-below 64 (sources ws v) (below v) j (subst (λ (n : ℕ). j < n) (t .size v h) b));
-}
+  module _ (nodes : List ℕ) (count : ℕ) (l : Lists (visitingList (wiresIn b)) nodes count) where
+    -- listed nodes are the board's
+    pub listed-in : Within (b .count) nodes count
+    listed-in = listed-within (wiresIn b) nodes count l (b .count) some-nodes (read .sound .few-nodes) sources-below
+
+    pub lines-listed : LinesFit (b .nodes) nodes count
+    lines-listed = lines-fit (parsedOf b) (b .nodes) (b .count) refl some-nodes (read .sound .few-nodes) sources-below (accepted-formed s b read accepted .records .few-lines) nodes count listed-in
+
+  pub board-tail : tailBy (b .nodes) (wiresIn b) (visitingList (wiresIn b)) ≡ tailOf (parsedOf b)
+  board-tail = tail-of (parsedOf b) (b .nodes) (b .count) refl some-nodes (read .sound .few-nodes) sources-below

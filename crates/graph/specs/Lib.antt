@@ -15,3 +15,9 @@ pub mod Tail
 pub mod Walks
 pub mod Write
 pub mod Formed
+pub mod Visit
+pub mod Walking
+pub mod Listed
+pub mod Late
+pub mod Tail
+pub mod Walks

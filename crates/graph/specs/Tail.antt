@@ -11,8 +11,10 @@ use Rattle.nodes.specs.declared.kind.NodeKind.the-variants.{Pass, Sum, Destinat
 use Rattle.nodes.specs.declared.kind.NodeRecord.{NodeRecord}
 use Rattle.reading.specs.Order.{Wire}
 use Rattle.graph.specs.Board.{Parsed}
+use Rattle.graph.specs.Judge.{readBoard, answerBy}
 use Rattle.graph.specs.Visit.{visitingList}
 use Rattle.graph.specs.Late.{lateWires}
+use Rattle.graph.specs.declared.answer.Answer.{Answer}
 
 -- types 1 to 5 and 7: silence in is silence out, at the latest after the line's length. An add writes its number, an all-pass and a one-pole
 -- ring on, and a sine sounds by itself
@@ -52,6 +54,10 @@ tailBy ns ws l = cond (eqb (length (lateWires l ws)) 0 && onlyDelays ns l) (list
 
 unfoldable pub tailOf : Parsed → ℕ
 tailOf p = tailBy (p .nodes) (p .wires) (visitingList (p .wires))
+
+-- the tail call's answer
+unfoldable pub tailAnswer : List ℕ → Answer
+tailAnswer s = answerBy tailOf (readBoard s)
 
 -- ---- what the code asks: the lines of the first n listed nodes are no longer than a board's together
 

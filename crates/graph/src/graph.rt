@@ -1,19 +1,16 @@
-// The visiting list of a board, its late wires and its tail.
+// The visiting list of a board, and its late wires.
 ghost use mathlib.Core.Path.{_≡_};
 ghost use mathlib.Core.List.{List};
-ghost use Prim.Native.Nat.{ℕ, _+_, _<_, _≤_};
+ghost use Prim.Native.Nat.{ℕ, _<_, _≤_};
 ghost use lib.ListN.{length, take};
 ghost use Rattle.reading.specs.Order.{Wire};
 ghost use Rattle.graph.specs.Board.{wire};
 ghost use Rattle.graph.specs.Wires.{wiresOf};
-ghost use Rattle.graph.specs.Visit.{visitingList, Nodes, Lists, Table, Gathered, Ready, Visited};
+ghost use Rattle.graph.specs.Phases.{Within};
+ghost use Rattle.graph.specs.Visit.{visitingList, Lists};
+ghost use Rattle.graph.specs.Walking.{Table, Gathered, Ready, Visited};
 ghost use Rattle.graph.specs.Late.{isLate, lateWires, Placed};
-
-pub fn wide(x: u8) -> usize
-    ensures { λ r. ⌜ r ≡ x ⌝ }
-{
-    x as usize
-}
+use crate::sources::wide;
 
 // The walk from `node`, which is not marked yet: marks it, goes to each of its sources that is not
 // marked, then lists it after the `count` nodes listed so far. Returns how many are listed then.
@@ -51,7 +48,7 @@ pub struct Order {
 }
 
 // The visiting list of the wires whose sources are gathered in the two arrays.
-pub fn visiting_list(counts: &[u8; 64], lists: &[u8; 512]) -> Order
+pub fn visiting_list<'a>(counts: &'a [u8; 64], lists: &'a [u8; 512]) -> Order
     requires { ⌜ Table (now counts) (now lists) ⌝ }
     ensures { λ r. ⌜ ((ws : List Wire) → Gathered ws (now (counts .entry)) (now (lists .entry)) → Lists (visitingList ws) (r .nodes) (r .count)) ⌝ }
 {
@@ -63,7 +60,7 @@ pub fn visiting_list(counts: &[u8; 64], lists: &[u8; 512]) -> Order
 
 // Each node's place in a list; `count` for a node that is not in it.
 pub fn places(nodes: &[u8; 64], count: usize) -> [u8; 64]
-    requires { ⌜ (length (now nodes) ≡ 64) × (count ≤ 64) × Nodes (now nodes) count ⌝ }
+    requires { ⌜ (length (now nodes) ≡ 64) × (count ≤ 64) × Within 64 (now nodes) count ⌝ }
     ensures { λ r. ⌜ Placed (take count (now (nodes .entry))) r ⌝ }
 {
     let mut r = [count as u8; 64];
@@ -87,14 +84,14 @@ pub fn is_late(places: &[u8; 64], count: usize, source: usize, target: usize) ->
 }
 
 // How many of the wires are late in the list of `count` nodes whose places are given.
-pub fn late_count(
-    sources: &[u8; 128],
-    targets: &[u8; 128],
+pub fn late_count<'a>(
+    sources: &'a [u8; 128],
+    targets: &'a [u8; 128],
     wires: usize,
     places: &[u8; 64],
     count: usize,
 ) -> usize
-    requires { ⌜ (wires ≤ 128) × Nodes (now sources) wires × Nodes (now targets) wires ⌝ }
+    requires { ⌜ (wires ≤ 128) × Within 64 (now sources) wires × Within 64 (now targets) wires ⌝ }
     ensures { λ r. ⌜ ((l : List ℕ) → length l ≡ count → Placed l (now (places .entry)) → r ≡ length (lateWires l (wiresOf (now (sources .entry)) (now (targets .entry)) wires))) ⌝ }
 {
     let mut n = 0;

@@ -2,6 +2,7 @@
 // are known here only by the promises of the crate `nodes`.
 pub mod answer;
 pub mod board;
+pub mod graph;
 pub mod judge;
 pub mod record;
 pub mod sources;

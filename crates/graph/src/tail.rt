@@ -1,14 +1,17 @@
 // The tail: how many samples a board's output can go on after its input has turned zero for good.
 ghost use mathlib.Core.Path.{_≡_};
 ghost use mathlib.Core.Bool.{cond};
-ghost use Prim.Native.Nat.{_<_, _≤_};
+ghost use Prim.Native.Nat.{_≤_};
 ghost use lib.ListN.{length, take};
 ghost use Rattle.graph.specs.Wires.{wiresOf};
-ghost use Rattle.graph.specs.Visit.{Nodes};
-ghost use Rattle.graph.specs.Tail.{delays, onlyDelays, listedLines, endless, tailBy, LinesFit};
+ghost use Rattle.graph.specs.Phases.{Within};
+ghost use Rattle.graph.specs.Tail.{delays, onlyDelays, listedLines, endless, tailBy, tailAnswer, LinesFit};
+use crate::answer::Answer;
 use crate::graph::late_count;
 use crate::graph::places;
-use crate::graph::wide;
+use crate::graph::visiting_list;
+use crate::judge::read_board;
+use crate::sources::wide;
 use nodes::kind::NodeKind;
 use nodes::kind::NodeRecord;
 use nodes::kind::line_of;
@@ -37,7 +40,7 @@ fn delays(k: NodeKind) -> bool
 // The sum of the lines of the first `count` nodes of the list; endless if one of them does not only
 // delay.
 fn listed_lines(nodes: [NodeRecord; 64], list: &[u8; 64], count: usize) -> usize
-    requires { ⌜ (length (now list) ≡ 64) × (count ≤ 64) × Nodes (now list) count × LinesFit nodes (now list) count ⌝ }
+    requires { ⌜ (length (now list) ≡ 64) × (count ≤ 64) × Within 64 (now list) count × LinesFit nodes (now list) count ⌝ }
     ensures { λ r. ⌜ (r ≡ cond (onlyDelays nodes (take count (now (list .entry)))) (listedLines nodes (take count (now (list .entry)))) endless) × (r ≤ endless) ⌝ }
 {
     let mut sum = 0;
@@ -57,22 +60,47 @@ fn listed_lines(nodes: [NodeRecord; 64], list: &[u8; 64], count: usize) -> usize
 }
 
 // The tail of a board with these nodes, wires and visiting list.
-pub fn tail(
+fn tail<'a>(
     nodes: [NodeRecord; 64],
-    sources: &[u8; 128],
-    targets: &[u8; 128],
+    sources: &'a [u8; 128],
+    targets: &'a [u8; 128],
     wires: usize,
     list: &[u8; 64],
     count: usize,
-) -> u32
-    requires { ⌜ (wires ≤ 128) × Nodes (now sources) wires × Nodes (now targets) wires ⌝ }
-    requires { ⌜ (length (now list) ≡ 64) × (count ≤ 64) × Nodes (now list) count × LinesFit nodes (now list) count ⌝ }
-    ensures { λ r. ⌜ r ≡ tailBy nodes (wiresOf (now (sources .entry)) (now (targets .entry)) wires) (take count (now (list .entry))) ⌝ }
+) -> usize
+    requires { ⌜ (wires ≤ 128) × Within 64 (now sources) wires × Within 64 (now targets) wires ⌝ }
+    requires { ⌜ (length (now list) ≡ 64) × (count ≤ 64) × Within 64 (now list) count × LinesFit nodes (now list) count ⌝ }
+    ensures { λ r. ⌜ (r ≡ tailBy nodes (wiresOf (now (sources .entry)) (now (targets .entry)) wires) (take count (now (list .entry)))) × (r ≤ endless) ⌝ }
 {
     let at = places(list, count);
     if late_count(sources, targets, wires, &at, count) == 0 {
-        listed_lines(nodes, list, count) as u32
+        listed_lines(nodes, list, count)
     } else {
-        ENDLESS as u32
+        ENDLESS
     }
+}
+
+// The tail call: a refusal, or 0 and the tail.
+pub fn tail_of(s: &[u8]) -> Answer
+    ensures { λ r. ⌜ r ≡ tailAnswer (now (s .entry)) ⌝ }
+{
+    let board = read_board(s);
+    let refused = board.refused;
+    if refused.number != 0 {
+        return refused;
+    }
+    let order = visiting_list(&board.counts, &board.lists);
+    let nodes = board.nodes;
+    let list = order.nodes;
+    Answer::new(
+        0,
+        tail(
+            nodes,
+            &board.sources,
+            &board.targets,
+            board.wires,
+            &list,
+            order.count,
+        ),
+    )
 }

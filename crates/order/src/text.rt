@@ -4,14 +4,18 @@ ghost use mathlib.Core.Path.{_≡_};
 ghost use mathlib.Core.List.{[], _∷_, _++_};
 ghost use Prim.Native.Nat.{_+_, _*_, _<_, _≤_};
 ghost use lib.ListN.{length, take};
+ghost use Rattle.graph.specs.Judge.{readBoard};
+ghost use Rattle.graph.specs.Phases.{Within};
 ghost use Rattle.graph.specs.Wires.{wiresOf};
-ghost use Rattle.graph.specs.Visit.{visitingList, Nodes, Table, Gathered};
+ghost use Rattle.graph.specs.Visit.{visitingList};
+ghost use Rattle.graph.specs.Walking.{Table, Gathered};
 ghost use Rattle.graph.specs.Late.{lateWires, Placed};
-ghost use Rattle.order.specs.Text.{number, spaced, spacedAll, line, orderWord, lateWord, refusedWord, lateLines, orderText, Wrote};
+ghost use Rattle.order.specs.Text.{number, spaced, spacedAll, line, orderWord, lateWord, refusedWord, lateLines, orderText, textOf, Wrote};
 use graph::graph::is_late;
 use graph::graph::places;
 use graph::graph::visiting_list;
-use graph::graph::wide;
+use graph::judge::read_board;
+use graph::sources::wide;
 
 fn put(out: &mut [u8], at: usize, byte: u8) -> usize
     requires { ⌜ at < length (now out) ⌝ }
@@ -56,7 +60,7 @@ fn put_spaced(out: &mut [u8], at: usize, v: usize) -> usize
 
 // The first `count` nodes of a list.
 fn put_nodes(out: &mut [u8], at: usize, list: &[u8; 64], count: usize) -> usize
-    requires { ⌜ (at + 3 * count ≤ length (now out)) × (length (now list) ≡ 64) × (count ≤ 64) × Nodes (now list) count ⌝ }
+    requires { ⌜ (at + 3 * count ≤ length (now out)) × (length (now list) ≡ 64) × (count ≤ 64) × Within 64 (now list) count ⌝ }
     ensures { λ r. ⌜ Wrote (now (out .entry)) at (spacedAll (take count (now (list .entry)))) (now (out .exit)) r ⌝ }
 {
     let mut n = at;
@@ -98,7 +102,7 @@ fn put_lates(
     count: usize,
     places: &[u8; 64],
 ) -> usize
-    requires { ⌜ (at + 11 * wires ≤ length (now out)) × (wires ≤ 128) × Nodes (now sources) wires × Nodes (now targets) wires ⌝ }
+    requires { ⌜ (at + 11 * wires ≤ length (now out)) × (wires ≤ 128) × Within 64 (now sources) wires × Within 64 (now targets) wires ⌝ }
     requires { ⌜ (length (take count (now list)) ≡ count) × Placed (take count (now list)) (now places) ⌝ }
     ensures { λ r. ⌜ Wrote (now (out .entry)) at (lateLines (lateWires (take count (now (list .entry))) (wiresOf (now (sources .entry)) (now (targets .entry)) wires))) (now (out .exit)) r ⌝ }
 {
@@ -117,7 +121,7 @@ fn put_lates(
 
 // The line of the listed nodes.
 fn put_order(out: &mut [u8], list: &[u8; 64], count: usize) -> usize
-    requires { ⌜ (6 + 3 * count ≤ length (now out)) × (length (now list) ≡ 64) × (count ≤ 64) × Nodes (now list) count ⌝ }
+    requires { ⌜ (6 + 3 * count ≤ length (now out)) × (length (now list) ≡ 64) × (count ≤ 64) × Within 64 (now list) count ⌝ }
     ensures { λ r. ⌜ Wrote (now (out .entry)) 0 ((orderWord ++ spacedAll (take count (now (list .entry)))) ++ (10 ∷ [])) (now (out .exit)) r ⌝ }
 {
     let a = put_word(out, 0, b"order");
@@ -126,15 +130,15 @@ fn put_order(out: &mut [u8], list: &[u8; 64], count: usize) -> usize
 }
 
 // The text of a board with these wires, whose sources are gathered in `counts` and `lists`.
-pub fn order_text(
-    counts: &[u8; 64],
-    lists: &[u8; 512],
-    sources: &[u8; 128],
-    targets: &[u8; 128],
+fn order_text<'a>(
+    counts: &'a [u8; 64],
+    lists: &'a [u8; 512],
+    sources: &'a [u8; 128],
+    targets: &'a [u8; 128],
     wires: usize,
     out: &mut [u8],
 ) -> usize
-    requires { ⌜ (2048 ≤ length (now out)) × (wires ≤ 128) × Nodes (now sources) wires × Nodes (now targets) wires ⌝ }
+    requires { ⌜ (2048 ≤ length (now out)) × (wires ≤ 128) × Within 64 (now sources) wires × Within 64 (now targets) wires ⌝ }
     requires { ⌜ Table (now counts) (now lists) × Gathered (wiresOf (now sources) (now targets) wires) (now counts) (now lists) ⌝ }
     ensures { λ r. ⌜ Wrote (now (out .entry)) 0 (orderText (visitingList (wiresOf (now (sources .entry)) (now (targets .entry)) wires)) (wiresOf (now (sources .entry)) (now (targets .entry)) wires)) (now (out .exit)) r ⌝ }
 {
@@ -147,9 +151,29 @@ pub fn order_text(
 }
 
 // The text of a refusal.
-pub fn refusal_text(number: u32, place: u32, out: &mut [u8]) -> usize
+fn refusal_text(number: u32, place: u32, out: &mut [u8]) -> usize
     requires { ⌜ 2048 ≤ length (now out) ⌝ }
     ensures { λ r. ⌜ Wrote (now (out .entry)) 0 (line refusedWord number place) (now (out .exit)) r ⌝ }
 {
     put_line(out, 0, b"refused", number as usize, place as usize)
+}
+
+// The text of the board that the bytes hold.
+pub fn board_text(s: &[u8], out: &mut [u8]) -> usize
+    requires { ⌜ 2048 ≤ length (now out) ⌝ }
+    ensures { λ r. ⌜ Wrote (now (out .entry)) 0 (textOf (readBoard (now (s .entry)))) (now (out .exit)) r ⌝ }
+{
+    let board = read_board(s);
+    let refused = board.refused;
+    if refused.number != 0 {
+        return refusal_text(refused.number, refused.place, out);
+    }
+    order_text(
+        &board.counts,
+        &board.lists,
+        &board.sources,
+        &board.targets,
+        board.wires,
+        out,
+    )
 }

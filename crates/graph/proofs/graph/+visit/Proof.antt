@@ -6,14 +6,14 @@ use mathlib.Core.Logic.{inl, inr}
 use Prim.Native.Nat.{ℕ, suc, _+_, _*_, _-_, _<_, _≤_}
 use native.Mathlib.Omega.{arith}
 use lib.ListN.{getD, set, length-set}
-use Rattle.graph.specs.Visit.{unmarked}
+use Rattle.graph.specs.Walking.{unmarked}
 use Rattle.graph.proofs.Going.{unmarked-set, Going, going-start, going-past, going-into, going-done}
 use borrow.Fn.Kinds.{In}
 use borrow.Fn.PlainCycle.{Measures, is, falls, and}
 use Rattle.graph.proofs.graph.visit.Reads as visit
 use Rattle.graph.proofs.graph.visit.Kinds as visit-kinds
 use Rattle.graph.proofs.graph.+visit.Lts-visit as visit-lts
-use Rattle.graph.proofs.graph.wide.Reads as wide-reads
+use Rattle.graph.proofs.sources.wide.Reads as wide-reads
 use Rattle.graph.proofs.graph.+visit.{statement}
 use Rattle.graph.proofs.graph.+visit.Tie.{close}
 

@@ -5,7 +5,8 @@ use native.Mathlib.Omega.{arith}
 use borrow.Author.Needs.{needs}
 use mathlib.Core.List.{[]}
 use lib.ListN.{getD-replicate}
-use Rattle.graph.specs.Visit.{visitingList, unmarked}
+use Rattle.graph.specs.Visit.{visitingList}
+use Rattle.graph.specs.Walking.{unmarked}
 use Rattle.graph.proofs.graph.visiting_list.Statement.{statement}
 use Rattle.graph.proofs.graph.visiting_list.Tie as tie
 

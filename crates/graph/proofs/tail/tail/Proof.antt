@@ -20,12 +20,6 @@ late-count-requires c κs = search needs
 listed-lines-requires : tie.Need-listed-lines-requires
 listed-lines-requires c κs = search needs
 
-cast-result : tie.Need-cast-result
-cast-result c = search needs
-
-cast-result-2 : tie.Need-cast-result-2
-cast-result-2 c = search needs
-
 -- the late wires that are counted are those of the list
 counted : (c : tie.After-late-count) →
     let a = c .before .before .before .args in
@@ -37,10 +31,13 @@ counted c =
     (c .before .before .places .ensures)
 
 returns : tie.Need-returns
-returns c = c .listed-lines .ensures .0 ∙ sym (tail-on-time _ _ _ (eq-eqb _ 0 (sym (counted (c .before .before)) ∙ c .before .if1 .taken)))
+returns c = (
+  c .listed-lines .ensures .0 ∙ sym (tail-on-time _ _ _ (eq-eqb _ 0 (sym (counted (c .before .before)) ∙ c .before .if1 .taken))),
+  c .listed-lines .ensures .1,
+)
 
 returns-2 : tie.Need-returns-2
-returns-2 c = sym (tail-late _ _ _ (ne-eqb _ 0 (λ e. c .if1 .left (counted (c .before) ∙ e))))
+returns-2 c = (sym (tail-late _ _ _ (ne-eqb _ 0 (λ e. c .if1 .left (counted (c .before) ∙ e)))), omega arith)
 
 pub tail-spec : {M : Type 1} → statement M
 tail-spec =
@@ -49,7 +46,5 @@ tail-spec =
     places-requires
     late-count-requires
     listed-lines-requires
-    cast-result
-    cast-result-2
     returns
     returns-2)

@@ -50,7 +50,7 @@ is-late-requires c κs = ends c
 put-late-requires : tie.Need-put-late-requires Inv-loop μ-loop
 put-late-requires c κs =
     let here = ends (c .before .before .before) in
-    (here .0, here .1, omega (arith, c .before .before .before .before .before .before .before .before .loop .inv .2 .size, c .before .before .before .before .before .before .before .before .before .before .pre .0 .0))
+    (omega (arith, here .0, here .1), omega (arith, here .0, here .1), omega (arith, c .before .before .before .before .before .before .before .before .loop .inv .2 .size, c .before .before .before .before .before .before .before .before .before .before .pre .0 .0))
 
 add-i : tie.Need-add-i Inv-loop μ-loop
 add-i c = omega arith
