@@ -2,12 +2,15 @@
 -- Assumes nothing.
 use mathlib.Core.Path.{_≡_, refl, sym, ap, _∙_}
 use mathlib.Core.Logic.{⊎-elim}
+use mathlib.Core.Bool.{Bool, true, false}
 use mathlib.Core.List.{List}
-use Prim.Native.Nat.{ℕ, zero, suc, _+_, _≤_, _<_}
+use Prim.Native.Nat.{ℕ, zero, suc, _≤_, _<_}
 use native.Mathlib.Nat.{le-of-suc-le-suc, eq-or-lt-of-le}
 use native.Mathlib.Omega.{arith}
-use lib.ListN.{length, getD, set, length-set}
-use lib.Seq.{getD-set-same, getD-set-other}
+use lib.Dec.{ltb}
+use borrow.Author.Tests.{ltb-true, ltb-false}
+use lib.ListN.{length, set, length-set}
+use lib.Seq.{getD-set-same, getD-set-other, ext-getD}
 use lib.Ieee.{Float, nan}
 use Rattle.nodes.specs.Iter.{iter}
 use Rattle.nodes.specs.Block.{sample, fill}
@@ -38,3 +41,16 @@ pub fill-same : (f g : ℕ → Float) (n : ℕ) (x : List Float) → ((i : ℕ) 
 unfolding fill iter
 fill-same f g zero x h = refl
 fill-same f g (suc n) x h = ap (set (fill f n x) n) (h n (omega arith)) ∙ ap (λ (y : List Float). set y n (g n)) (fill-same f g n x (λ i b. h i (omega arith)))
+
+-- filling again what was filled
+pub fill-over : (f g : ℕ → Float) (n : ℕ) (x : List Float) → n ≤ length x → fill g n (fill f n x) ≡ fill g n x
+fill-over f g n x long =
+    ext-getD nan (fill g n (fill f n x)) (fill g n x)
+    (length-fill g n (fill f n x) ∙ length-fill f n x ∙ sym (length-fill g n x))
+    (λ i h. at i (ltb i n) refl)
+  where
+    at : (i : ℕ) (b : Bool) → ltb i n ≡ b → sample (fill g n (fill f n x)) i ≡ sample (fill g n x) i
+    at i true e =
+        fill-at g n (fill f n x) (omega (arith, length-fill f n x)) i (ltb-true i n e) ∙ sym (fill-at g n x long i (ltb-true i n e))
+    at i false e =
+        let h : n ≤ i = ltb-false i n e in fill-ahead g n (fill f n x) i h ∙ fill-ahead f n x i h ∙ sym (fill-ahead g n x i h)

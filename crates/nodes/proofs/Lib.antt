@@ -1,3 +1,5 @@
 pub mod Iterated
 pub mod Filled
 pub mod Cells
+pub mod Totals
+pub mod Plain
