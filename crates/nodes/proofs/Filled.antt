@@ -4,7 +4,7 @@ use mathlib.Core.Path.{_≡_, refl, sym, ap, _∙_}
 use mathlib.Core.Logic.{⊎-elim}
 use mathlib.Core.Bool.{Bool, true, false}
 use mathlib.Core.List.{List}
-use Prim.Native.Nat.{ℕ, zero, suc, _≤_, _<_}
+use Prim.Native.Nat.{ℕ, zero, suc, _+_, _≤_, _<_}
 use native.Mathlib.Nat.{le-of-suc-le-suc, eq-or-lt-of-le}
 use native.Mathlib.Omega.{arith}
 use lib.Dec.{ltb}
@@ -12,8 +12,9 @@ use borrow.Author.Tests.{ltb-true, ltb-false}
 use lib.ListN.{length, set, length-set}
 use lib.Seq.{getD-set-same, getD-set-other, ext-getD}
 use lib.Ieee.{Float, nan}
+use Rattle.leaves.specs.Floats.{floatAt}
 use Rattle.nodes.specs.Iter.{iter}
-use Rattle.nodes.specs.Block.{sample, fill}
+use Rattle.nodes.specs.Block.{sample, fetched, fetchedIf, fill}
 
 pub length-fill : (f : ℕ → Float) (n : ℕ) (x : List Float) → length (fill f n x) ≡ length x
 unfolding fill iter
@@ -54,3 +55,18 @@ fill-over f g n x long =
         fill-at g n (fill f n x) (omega (arith, length-fill f n x)) i (ltb-true i n e) ∙ sym (fill-at g n x long i (ltb-true i n e))
     at i false e =
         let h : n ≤ i = ltb-false i n e in fill-ahead g n (fill f n x) i h ∙ fill-ahead f n x i h ∙ sym (fill-ahead g n x i h)
+
+-- samples that are fetched where they are asked for
+module _ (asked : Bool) (ws : List ℕ) (at n : ℕ) (x y : List Float) where
+  pub fetch-asked : asked ≡ true → y ≡ fill (fetched ws at) n x → y ≡ fetchedIf asked ws at n x
+  unfolding fetchedIf
+  fetch-asked e f = f ∙ ap (λ (b : Bool). fetchedIf b ws at n x) (sym e)
+
+  pub fetch-not : asked ≡ false → y ≡ x → y ≡ fetchedIf asked ws at n x
+  unfolding fetchedIf
+  fetch-not e f = f ∙ ap (λ (b : Bool). fetchedIf b ws at n x) (sym e)
+
+  pub fetch-at : asked ≡ true → n ≤ length x → y ≡ fetchedIf asked ws at n x → (i : ℕ) → i < n → floatAt ws (at + i) ≡ sample y i
+  unfolding fetchedIf
+  fetch-at e long f i h =
+      sym (ap (λ (u : List Float). sample u i) (f ∙ ap (λ (b : Bool). fetchedIf b ws at n x) e) ∙ fill-at (fetched ws at) n x long i h)

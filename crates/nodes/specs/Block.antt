@@ -21,6 +21,10 @@ fill f n x = iter (λ i y. set y i (f i)) n x
 abbrev pub fetched : List ℕ → ℕ → ℕ → Float
 fetched ws at i = floatAt ws (at + i)
 
+-- the samples from value `at` on, where they are asked for
+unfoldable pub fetchedIf : Bool → List ℕ → ℕ → ℕ → List Float → List Float
+fetchedIf asked ws at n x = cond asked (fill (fetched ws at) n x) x
+
 abbrev pub quiet : ℕ → Float
 quiet i = zeroF
 
