@@ -15,7 +15,7 @@ use Rattle.leaves.specs.Floors.{floorOf}
 use Rattle.leaves.specs.Position.{positionOf, restOf}
 use Rattle.leaves.specs.OnePole.{onePoleOf, onePoleStep}
 use Rattle.nodes.specs.Kind.{channelsOf}
-use Rattle.nodes.specs.Rule.{Brought, State, first, two, operand, allPass, between, tap, keeps, leftOf, leftBy, rightOf, carryAfter, xLine, yLine, placeAfter, lineAfter, sampleBy, stateBy}
+use Rattle.nodes.specs.Rule.{Brought, State, first, two, allPass, between, tap, keeps, leftOf, leftBy, rightOf, carryAfter, xLine, yLine, placeAfter, lineAfter, sampleBy, stateBy}
 use Rattle.nodes.specs.Cell.{Cell, valuesOf, cellOf, frameAt, putFrame, stepCell, runCell, runValues}
 use Rattle.nodes.specs.Block.{sample, alone, given, nothing}
 use Rattle.nodes.specs.Node.{Operands}
@@ -107,8 +107,8 @@ module _ {k : NodeKind} (r : ReadsOperands k) (N : ℕ) (bs ds : ℕ → Brought
           line = lineAfter k (s .place) (toBits binary32 (e .firsts j)) (toBits binary32 (y j)) (s .line);
         };
         samples = putFrame (channelsOf k) N i
-          (cond (r .goes (bs i) (ds i) j) (frameAt N i (c .samples)) (record { left = toBits binary32 (y j); right = toBits binary32 (r .right (bs i) (ds i) j) }))
-          (c .samples);
+            (cond (r .goes (bs i) (ds i) j) (frameAt N i (c .samples)) (record { left = toBits binary32 (y j); right = toBits binary32 (r .right (bs i) (ds i) j) }))
+            (c .samples);
       }
 
   run-alike : (ws : List ℕ) → ((i : ℕ) → i < N → Alike (bs i) (ds i)) → runValues k N bs ws ≡ runValues k N ds ws

@@ -5,13 +5,13 @@
 -- Assumes nothing.
 use mathlib.Core.Path.{_≡_, refl, sym, ap, subst, _∙_}
 use mathlib.Core.List.{List, [], _∷_, map}
-use Prim.Native.Nat.{ℕ, _+_, _≤_, _<_}
+use Prim.Native.Nat.{ℕ, _≤_, _<_}
 use native.Mathlib.Omega.{arith}
 use borrow.Author.Tests.{lt-ltb}
 use lib.Dec.{ltb}
 use lib.ListN.{length, getD, length-map}
 use lib.Ieee.{Float, nan}
-use Rattle.nodes.specs.Rule.{Brought, total}
+use Rattle.nodes.specs.Rule.{total}
 use Rattle.nodes.specs.Block.{sample, fill, fetchedIf, samplesAt, totalAt}
 use Rattle.nodes.specs.Node.{broughtAt, Operands, Gives, Supplies}
 use Rattle.nodes.specs.declared.kind.NodeKind.{NodeKind}

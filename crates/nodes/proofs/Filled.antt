@@ -2,7 +2,7 @@
 -- Assumes nothing.
 use mathlib.Core.Path.{_≡_, refl, sym, ap, _∙_}
 use mathlib.Core.Logic.{⊎-elim}
-use mathlib.Core.Bool.{Bool, true, false}
+use mathlib.Core.Bool.{Bool, true, false, cond}
 use mathlib.Core.List.{List}
 use Prim.Native.Nat.{ℕ, zero, suc, _+_, _≤_, _<_}
 use native.Mathlib.Nat.{le-of-suc-le-suc, eq-or-lt-of-le}
@@ -70,3 +70,11 @@ module _ (asked : Bool) (ws : List ℕ) (at n : ℕ) (x y : List Float) where
   unfolding fetchedIf
   fetch-at e long f i h =
       sym (ap (λ (u : List Float). sample u i) (f ∙ ap (λ (b : Bool). fetchedIf b ws at n x) e) ∙ fill-at (fetched ws at) n x long i h)
+
+  pub fetch-long : y ≡ fetchedIf asked ws at n x → length y ≡ length x
+  unfolding fetchedIf
+  fetch-long f = ap length f ∙ go asked
+    where
+      go : (b : Bool) → length (cond b (fill (fetched ws at) n x) x) ≡ length x
+      go true = length-fill (fetched ws at) n x
+      go false = refl

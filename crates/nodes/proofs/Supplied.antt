@@ -4,24 +4,23 @@
 use mathlib.Core.Path.{_≡_, refl, sym, ap, subst, _∙_}
 use mathlib.Core.Bool.{Bool, true, false, _&&_}
 use mathlib.Core.List.{List}
-use Prim.Native.Nat.{ℕ, _+_, _*_, _≤_, _<_}
+use Prim.Native.Nat.{ℕ, _+_, _≤_, _<_}
 use native.Mathlib.Omega.{arith}
 use borrow.Author.Tests.{ltb-true, leb-true, eq-eqb, ne-eqb}
 use lib.Dec.{leb, T}
 use lib.ListN.{length, getD}
-use lib.Ieee.{Float, binary32, ofBits, toBits}
+use lib.Ieee.{Float, ofBits}
 use Rattle.leaves.specs.Words.{words, length-words}
 use Rattle.leaves.specs.Floats.{floatAt}
 use Rattle.leaves.specs.Floors.{whole, within}
-use Rattle.nodes.specs.Kind.{inBand, fewest, most, sourcesFit, cellSize}
+use Rattle.nodes.specs.Kind.{fewest, most, cellSize}
 use Rattle.nodes.specs.Rule.{Brought, keeps, leftOf, rightOf, carryAfter, placeAfter, lineAfter, stateBy}
-use Rattle.nodes.specs.Cell.{cellFits, numberFits, carryFits, placeFits, runValues}
-use Rattle.nodes.specs.Block.{sample, putBlock, alone, given, nothing}
+use Rattle.nodes.specs.Cell.{numberFits, carryFits, placeFits, runValues}
+use Rattle.nodes.specs.Block.{sample, putBlock}
 use Rattle.nodes.specs.Node.{Supplies, CellReady}
 use Rattle.nodes.specs.declared.kind.NodeKind.{NodeKind}
-use Rattle.nodes.specs.declared.kind.NodeKind.the-variants.{Pass, Sum, Destination, Balance, Mul, Add, Delay, AllPass, OnePole, Sine}
-use Rattle.nodes.proofs.Plain.{Plain, stored-mono, stored-stereo, block-kept}
-use Rattle.nodes.proofs.Alike.{mul-reads, add-reads, delay-reads, all-pass-reads, one-pole-reads, sine-reads, given-run, alone-run, nothing-run}
+use Rattle.nodes.specs.declared.kind.NodeKind.the-variants.{Pass, Sum, Destination, Balance, Delay, AllPass, Sine}
+use Rattle.nodes.proofs.Plain.{stored-mono, stored-stereo, block-kept}
 
 -- ---- what the judge's answer says
 
@@ -58,6 +57,20 @@ module _ {cell : List ℕ} {k : NodeKind} {N n : ℕ} (ready : CellReady cell k 
   pub place-fits : place ≡ true
   place-fits = both-true (number && carry) place (ready .judged) .1
 
+-- the place of a ring is below its length; a frequency and a phase lie within their ranges
+module _ {cell : List ℕ} {N n : ℕ} where
+  pub delay-place : {l : ℕ} → CellReady cell (Delay l) N n → getD (words cell) 2 0 < l
+  unfolding placeFits
+  delay-place ready = ltb-true _ _ (place-fits ready)
+
+  pub all-pass-place : {l : ℕ} {f : Float} → CellReady cell (AllPass l f) N n → getD (words cell) 2 0 < l
+  unfolding placeFits
+  all-pass-place ready = ltb-true _ _ (place-fits ready)
+
+  pub sine-ranges : {f : Float} → CellReady cell (Sine f) N n → T (within (whole 11025 2) (floatAt (words cell) 0)) × T (within (whole 1 0) (floatAt (words cell) 1))
+  unfolding numberFits carryFits within ofBits
+  sine-ranges ready = (subst T (sym (number-fits ready)) tt, subst T (sym (carry-fits ready)) tt)
+
 -- ---- the arms
 
 -- what is left of a node's cell, vs, is its run on whatever supplies the blocks
@@ -70,17 +83,19 @@ module _ {cell : List ℕ} {N n : ℕ} {x m : List Float} {vs : List ℕ} where
   sum-runs ready e bs supply =
       e ∙ stored-mono Sum (λ s b. refl) N bs (words cell) (cell-long ready) (sample x) refl (λ i h. refl) (supply .gives)
 
-  pub destination-runs : CellReady cell Destination N n → vs ≡ putBlock m (3 + N) N (putBlock x 3 N (words cell)) → Runs cell N n x m vs Destination
+  pub destination-runs : {us : List ℕ} → CellReady cell Destination N n → us ≡ putBlock x 3 N (words cell) → vs ≡ putBlock m (3 + N) N us → Runs cell N n x m vs Destination
   unfolding keeps leftOf rightOf stateBy carryAfter placeAfter lineAfter
-  destination-runs ready e bs supply =
+  destination-runs ready d e bs supply =
       e
+      ∙ ap (putBlock m (3 + N) N) d
       ∙ stored-stereo Destination (λ s b. refl) N bs (words cell) (cell-long ready) (sample x) (sample m) refl (λ i h. refl) (λ i h. supply .gives i h .0) (λ i h. supply .gives i h .1)
 
-  pub balance-runs : CellReady cell Balance N n → vs ≡ putBlock m (3 + N) N (putBlock x 3 N (words cell)) → Runs cell N n x m vs Balance
+  pub balance-runs : {us : List ℕ} → CellReady cell Balance N n → us ≡ putBlock x 3 N (words cell) → vs ≡ putBlock m (3 + N) N us → Runs cell N n x m vs Balance
   unfolding keeps leftOf rightOf stateBy carryAfter placeAfter lineAfter
-  balance-runs ready e bs supply =
+  balance-runs ready d e bs supply =
       let two : 2 ≤ n = at-least ready in
       e
+      ∙ ap (putBlock m (3 + N) N) d
       ∙ stored-stereo Balance (λ s b. refl) N bs (words cell) (cell-long ready) (sample x) (sample m) refl (λ i h. refl)
       (λ i h. supply .gives i h .0 (omega arith)) (λ i h. supply .gives i h .1 (omega arith))
 
@@ -96,13 +111,3 @@ module _ {cell : List ℕ} {N n : ℕ} {x m : List Float} {vs : List ℕ} where
   unfolding keeps stateBy carryAfter placeAfter lineAfter
   pass-kept ready none e bs supply =
       e ∙ block-kept Pass (λ s b. refl) N bs (words cell) (cell-long ready) refl (λ i h. eq-eqb _ _ (supply .counted i h ∙ none))
-
--- ---- floats in range
-
--- a frequency and a phase that were judged
-pub in-band : (w : ℕ) → inBand w ≡ true → T (within (whole 11025 2) (ofBits binary32 w))
-unfolding within ofBits
-in-band w e = subst T (sym e) tt
-
-pub is-true : (b : Bool) → b ≡ true → T b
-is-true b e = subst T (sym e) tt

@@ -8,9 +8,9 @@ ghost use Rattle.leaves.specs.Words.{words};
 ghost use Rattle.nodes.specs.Rule.{allPass};
 ghost use Rattle.nodes.specs.Block.{given};
 ghost use Rattle.nodes.specs.Cell.{runValues};
-use crate::kind::NodeKind;
 use crate::delayn::stretch;
 use crate::delayn::wrap;
+use crate::kind::NodeKind;
 use leaves::bytes::put_word;
 use leaves::bytes::word_at;
 use leaves::float::load;
@@ -27,15 +27,7 @@ fn output(g: f32, x: f32, old_x: f32, old_y: f32) -> f32
 
 // The samples from `done` on, `count` of them, in place of the inputs from value `at` on; the
 // outputs stand n values further.
-fn filter(
-    cell: &mut [u8],
-    n: usize,
-    at: usize,
-    g: f32,
-    x: &[f32; 128],
-    done: usize,
-    count: usize,
-) {
+fn filter(cell: &mut [u8], n: usize, at: usize, g: f32, x: &[f32; 128], done: usize, count: usize) {
     let mut i = 0;
     while i < count {
         let y = to_bits(output(g, x[done + i], load(cell, at + i), load(cell, at + n + i)));
@@ -66,7 +58,11 @@ fn between(cell: &[u8], ring: usize, older: usize, newer: usize, r: f32) -> f32 
 
 // place + i, wrapped at n, where place is below n and i at most n.
 fn wrapped(place: usize, i: usize, n: usize) -> usize {
-    if place < n - i { place + i } else { place - (n - i) }
+    if place < n - i {
+        place + i
+    } else {
+        place - (n - i)
+    }
 }
 
 // One sample, where the modulation m says which neighbours are read.
@@ -101,14 +97,7 @@ fn run_modulated(
     place
 }
 
-pub fn all_pass(
-    cell: &mut [u8],
-    n: usize,
-    size: usize,
-    two: bool,
-    x: &[f32; 128],
-    m: &[f32; 128],
-)
+pub fn all_pass(cell: &mut [u8], n: usize, size: usize, two: bool, x: &[f32; 128], m: &[f32; 128])
     requires { ⌜ (size ≤ 128) × (n ≤ 132300) × (length (now cell) ≡ 4 * (3 + size + n * 2)) × (getD (words (now cell)) 2 0 < n) ⌝ }
     ensures { λ _. ⌜ ((f : Float) → words (now (cell .exit)) ≡ runValues (NodeKind.AllPass n f) size (given two (now (x .entry)) (now (m .entry))) (words (now (cell .entry)))) ⌝ }
 {

@@ -66,8 +66,9 @@ fn bring(
     requires { ⌜ (size ≤ 128) × (length (now lefts) ≡ 64) × (length (now rights) ≡ 64) × (length (now x) ≡ 128) × (length (now m) ≡ 128) ⌝ }
     requires { ⌜ (InMemory (now list) (now lefts) size (length (now memory))) × (InMemory (now list) (now rights) size (length (now memory))) ⌝ }
     requires { ⌜ (second < 64) × (4 * (getD (now lefts) second 0 + size) ≤ length (now memory)) ⌝ }
-    ensures { λ _. ⌜ Supplies kind (length (now (list .entry))) size (now (x .exit)) (now (m .exit))
+    ensures blocks { λ _. ⌜ Supplies kind (length (now (list .entry))) size (now (x .exit)) (now (m .exit))
         (broughtAt (words (now (memory .entry))) (now (lefts .entry)) (now (rights .entry)) (now (list .entry)) second) ⌝ }
+    ensures room { λ _. ⌜ (length (now (x .exit)) ≡ 128) × (length (now (m .exit)) ≡ 128) ⌝ }
 {
     match kind {
         NodeKind::Sum => total(memory, list, lefts, size, x),

@@ -1,5 +1,5 @@
 -- `nodes::node::bring` meets its contract: in each arm the kind is known, and its blocks are sums or the operands. Assumes nothing.
-use mathlib.Core.Path.{_≡_}
+use mathlib.Core.Path.{_≡_, refl, ap, _∙_}
 use mathlib.Core.List.{List}
 use Prim.Native.Nat.{ℕ, _<_}
 use native.Mathlib.Omega.{arith}
@@ -9,37 +9,57 @@ use lib.ListN.{length, getD}
 use lib.Ieee.{Float}
 use Rattle.leaves.specs.Words.{words}
 use Rattle.nodes.specs.Rule.{Brought, total}
-use Rattle.nodes.specs.Block.{sample, fill, fetchedIf, totalAt}
+use Rattle.nodes.specs.Block.{sample, fill, fetchedIf, samplesAt, totalAt}
 use Rattle.nodes.specs.Node.{broughtAt, Gives, Operands, Supplies}
 use Rattle.nodes.specs.declared.kind.NodeKind.{NodeKind}
+use Rattle.nodes.proofs.Filled.{length-fill, fetch-long}
 use Rattle.nodes.proofs.Brought.{total-brought, operands-brought, supplies}
 use borrow.Author.Needs.{needs}
 use Rattle.nodes.proofs.node.bring.Statement.{statement}
 use Rattle.nodes.proofs.node.bring.Tie as tie
 
-abbrev brings : tie.Start → ℕ → Brought
-brings s = broughtAt (words (now (s .args .memory))) (now (s .args .lefts)) (now (s .args .rights)) (now (s .args .list)) (s .args .second)
+module _ (s : tie.Start) where
+  abbrev ws : List ℕ
+  ws = words (now (s .args .memory))
 
--- what the calls leave
-summed : (s : tie.Start) {y : List Float} → y ≡ fill (totalAt (words (now (s .args .memory))) (now (s .args .lefts)) (now (s .args .list))) (s .args .size) (now (s .args .x))
-    → (i : ℕ) → i < s .args .size → total (brings s i .left) ≡ sample y i
-summed s e = total-brought (words (now (s .args .memory))) (now (s .args .lefts)) (now (s .args .list)) (s .args .size) (now (s .args .x)) _ (omega (arith, s .pre .0)) e
+  abbrev lefts : List ℕ
+  lefts = now (s .args .lefts)
 
-summed-right : (s : tie.Start) {y : List Float} → y ≡ fill (totalAt (words (now (s .args .memory))) (now (s .args .rights)) (now (s .args .list))) (s .args .size) (now (s .args .m))
-    → (i : ℕ) → i < s .args .size → total (brings s i .right) ≡ sample y i
-summed-right s e = total-brought (words (now (s .args .memory))) (now (s .args .rights)) (now (s .args .list)) (s .args .size) (now (s .args .m)) _ (omega (arith, s .pre .0)) e
+  abbrev list : List ℕ
+  list = now (s .args .list)
 
-fetched : (s : tie.Start) {y z : List Float}
-    → (y ≡ fetchedIf (ltb 0 (length (now (s .args .list)))) (words (now (s .args .memory))) (getD (now (s .args .lefts)) (getD (now (s .args .list)) 0 0) 0) (s .args .size) (now (s .args .x)))
-    × (z ≡ fetchedIf (ltb 1 (length (now (s .args .list)))) (words (now (s .args .memory))) (getD (now (s .args .lefts)) (s .args .second) 0) (s .args .size) (now (s .args .m)))
-    → (i : ℕ) → i < s .args .size → Operands (length (now (s .args .list))) (brings s i) (sample y i) (sample z i)
-fetched s p = operands-brought (words (now (s .args .memory))) (now (s .args .lefts)) (now (s .args .rights)) (now (s .args .list)) (s .args .second) (s .args .size) (now (s .args .x)) (now (s .args .m)) _ _ (omega (arith, s .pre .0)) (omega (arith, s .pre .0)) (p .0) (p .1)
+  abbrev size : ℕ
+  size = s .args .size
 
--- a block for each kind, from each of its places
-supply : (s : tie.Start) {k : NodeKind} {y z : List Float} → s .args .kind ≡ k
-    → ((i : ℕ) → i < s .args .size → Gives k (length (now (s .args .list))) (brings s i) (sample y i) (sample z i))
-    → Supplies (s .args .kind) (length (now (s .args .list))) (s .args .size) y z (brings s)
-supply s e g = supplies (words (now (s .args .memory))) (now (s .args .lefts)) (now (s .args .rights)) (now (s .args .list)) (s .args .second) (s .args .size) e g
+  abbrev brings : ℕ → Brought
+  brings = broughtAt ws lefts (now (s .args .rights)) list (s .args .second)
+
+  -- what is to be shown of the blocks y and z
+  done : {k : NodeKind} {y z : List Float} → s .args .kind ≡ k
+      → ((i : ℕ) → i < size → Gives k (length list) (brings i) (sample y i) (sample z i))
+      → (length y ≡ length (now (s .args .x))) × (length z ≡ length (now (s .args .m)))
+      → Supplies (s .args .kind) (length list) size y z brings × ((length y ≡ 128) × (length z ≡ 128))
+  done e g l = (supplies ws lefts (now (s .args .rights)) list (s .args .second) size e g, (omega (arith, s .pre .0), omega (arith, s .pre .0)))
+
+  -- a sum of the blocks at `starts`, in place of x
+  module _ (starts : List ℕ) (x : List Float) (long : length x ≡ 128) {y : List Float} (e : y ≡ fill (totalAt ws starts list) size x) where
+    summed : (i : ℕ) → i < size → total (samplesAt ws starts list i) ≡ sample y i
+    summed = total-brought ws starts list size x y (omega (arith, s .pre .0)) e
+
+    summed-long : length y ≡ length x
+    summed-long = ap length e ∙ length-fill (totalAt ws starts list) size x
+
+  -- the operands
+  module _ {y z : List Float}
+      (p : (y ≡ fetchedIf (ltb 0 (length list)) ws (getD lefts (getD list 0 0) 0) size (now (s .args .x)))
+      × (z ≡ fetchedIf (ltb 1 (length list)) ws (getD lefts (s .args .second) 0) size (now (s .args .m)))) where
+    fetched : (i : ℕ) → i < size → Operands (length list) (brings i) (sample y i) (sample z i)
+    fetched =
+        operands-brought ws lefts (now (s .args .rights)) list (s .args .second) size (now (s .args .x)) (now (s .args .m)) y z
+        (omega (arith, s .pre .0)) (omega (arith, s .pre .0)) (p .0) (p .1)
+
+    fetched-long : (length y ≡ length (now (s .args .x))) × (length z ≡ length (now (s .args .m)))
+    fetched-long = (fetch-long _ _ _ _ _ _ (p .0), fetch-long _ _ _ _ _ _ (p .1))
 
 enum-told : tie.Need-enum-told
 enum-told c = search needs
@@ -105,36 +125,71 @@ operands-requires-8 : tie.Need-operands-requires-8
 operands-requires-8 c κs = search needs
 
 returns : tie.Need-returns
-returns c = let s = c .before .before .before .before .before .before in supply s (c .before .before .enum-told .given .1) (summed s (c .total .ensures))
+returns c =
+    let s = c .before .before .before .before .before .before in
+    let x = now (s .args .x) in
+    let e = c .total .ensures in
+    done s (c .before .before .enum-told .given .1) (summed s (lefts s) x (s .pre .0 .3) e) (summed-long s (lefts s) x (s .pre .0 .3) e, refl)
 
 returns-2 : tie.Need-returns-2
 returns-2 c =
     let s = c .before .before .before .before .before .before .before .before in
-    supply s (c .before .before .before .before .enum-told2 .given .1) (λ i h. (summed s (c .before .before .total2 .ensures) i h, summed-right s (c .total3 .ensures) i h))
+    let x = now (s .args .x) in
+    let m = now (s .args .m) in
+    let rights = now (s .args .rights) in
+    let e = c .before .before .total2 .ensures in
+    let f = c .total3 .ensures in
+    done s (c .before .before .before .before .enum-told2 .given .1)
+    (λ i h. (summed s (lefts s) x (s .pre .0 .3) e i h, summed s rights m (s .pre .0 .4) f i h))
+    (summed-long s (lefts s) x (s .pre .0 .3) e, summed-long s rights m (s .pre .0 .4) f)
 
 returns-3 : tie.Need-returns-3
-returns-3 c = let s = c .before .before .before .before .before .before .before in supply s (c .before .before .before .enum-told3 .given .1) (fetched s (c .operands .ensures))
+returns-3 c =
+    let s = c .before .before .before .before .before .before .before in
+    let p = c .operands .ensures in
+    done s (c .before .before .before .enum-told3 .given .1) (fetched s p) (fetched-long s p)
 
 returns-4 : tie.Need-returns-4
-returns-4 c = let s = c .before .before .before .before .before .before .before in supply s (c .before .before .before .enum-told4 .given .1) (fetched s (c .operands2 .ensures))
+returns-4 c =
+    let s = c .before .before .before .before .before .before .before in
+    let p = c .operands2 .ensures in
+    done s (c .before .before .before .enum-told4 .given .1) (fetched s p) (fetched-long s p)
 
 returns-5 : tie.Need-returns-5
-returns-5 c = let s = c .before .before .before .before .before .before .before .before in supply s (c .before .before .before .before .kind .given .1) (fetched s (c .operands3 .ensures))
+returns-5 c =
+    let s = c .before .before .before .before .before .before .before .before in
+    let p = c .operands3 .ensures in
+    done s (c .before .before .before .before .kind .given .1) (fetched s p) (fetched-long s p)
 
 returns-6 : tie.Need-returns-6
-returns-6 c = let s = c .before .before .before .before .before .before .before .before in supply s (c .before .before .before .before .kind2 .given .1) (fetched s (c .operands4 .ensures))
+returns-6 c =
+    let s = c .before .before .before .before .before .before .before .before in
+    let p = c .operands4 .ensures in
+    done s (c .before .before .before .before .kind2 .given .1) (fetched s p) (fetched-long s p)
 
 returns-7 : tie.Need-returns-7
-returns-7 c = let s = c .before .before .before .before .before .before .before .before in supply s (c .before .before .before .before .kind3 .given .1) (fetched s (c .operands5 .ensures))
+returns-7 c =
+    let s = c .before .before .before .before .before .before .before .before in
+    let p = c .operands5 .ensures in
+    done s (c .before .before .before .before .kind3 .given .1) (fetched s p) (fetched-long s p)
 
 returns-8 : tie.Need-returns-8
-returns-8 c = let s = c .before .before .before .before .before .before .before .before in supply s (c .before .before .before .before .kind4 .given .1) (fetched s (c .operands6 .ensures))
+returns-8 c =
+    let s = c .before .before .before .before .before .before .before .before in
+    let p = c .operands6 .ensures in
+    done s (c .before .before .before .before .kind4 .given .1) (fetched s p) (fetched-long s p)
 
 returns-9 : tie.Need-returns-9
-returns-9 c = let s = c .before .before .before .before .before .before .before .before in supply s (c .before .before .before .before .kind5 .given .1) (fetched s (c .operands7 .ensures))
+returns-9 c =
+    let s = c .before .before .before .before .before .before .before .before in
+    let p = c .operands7 .ensures in
+    done s (c .before .before .before .before .kind5 .given .1) (fetched s p) (fetched-long s p)
 
 returns-10 : tie.Need-returns-10
-returns-10 c = let s = c .before .before .before .before .before .before .before .before in supply s (c .before .before .before .before .kind6 .given .1) (fetched s (c .operands8 .ensures))
+returns-10 c =
+    let s = c .before .before .before .before .before .before .before .before in
+    let p = c .operands8 .ensures in
+    done s (c .before .before .before .before .kind6 .given .1) (fetched s p) (fetched-long s p)
 
 pub bring-spec : {M : Type 1} → statement M
 bring-spec =

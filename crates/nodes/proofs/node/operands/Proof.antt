@@ -34,7 +34,7 @@ first-fetched c =
     let s = c .before .before .before in
     ⊎-elim
     (λ w. fetch-asked _ _ _ _ _ _ (lt-ltb _ _ (w .0 .taken)) (w .6 ∙ w .5 .ensures
-      ∙ ap (λ (j : ℕ). fill (fetched (words (now (s .args .memory))) (getD (now (s .args .lefts)) j 0)) (s .args .size) (now (s .args .x))) (w .2 .ensures)))
+    ∙ ap (λ (j : ℕ). fill (fetched (words (now (s .args .memory))) (getD (now (s .args .lefts)) j 0)) (s .args .size) (now (s .args .x))) (w .2 .ensures)))
     (λ w. fetch-not _ _ _ _ _ _ (le-ltb _ _ (w .0 .left)) (w .1))
     (c .if1 .came)
 
