@@ -6,3 +6,6 @@ pub mod Plain
 pub mod Alike
 pub mod Supplied
 pub mod Brought
+pub mod Kept
+pub mod Fresh
+pub mod Carried

@@ -3,3 +3,7 @@ pub mod block;
 pub mod kind;
 pub mod operator;
 pub mod sum;
+pub mod cell;
+pub mod kind;
+pub mod onepole;
+pub mod sin_osc;
