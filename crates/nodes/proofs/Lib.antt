@@ -9,3 +9,4 @@ pub mod Brought
 pub mod Kept
 pub mod Fresh
 pub mod Carried
+pub mod Rings
