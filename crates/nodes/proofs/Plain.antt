@@ -19,7 +19,7 @@ use Rattle.nodes.specs.Kind.{channelsOf, cellSize}
 use Rattle.nodes.specs.Iter.{iter}
 use Rattle.nodes.specs.Rule.{Brought, Frame, State, first, operand, keeps, leftOf, leftBy, rightOf, carryAfter, placeAfter, lineAfter, sampleBy, stateBy}
 use Rattle.nodes.specs.Cell.{Cell, valuesOf, cellOf, frameAt, putFrame, stepCell, runCell, runValues}
-use Rattle.nodes.specs.Block.{stored, withNumber, withOther, given}
+use Rattle.nodes.specs.Block.{stored, opNumber, opSources, given}
 use Rattle.nodes.specs.declared.kind.NodeKind.{NodeKind}
 use Rattle.nodes.specs.declared.kind.NodeKind.the-variants.{Mul, Add}
 use Rattle.nodes.proofs.Iterated.{iter-builds}
@@ -145,16 +145,16 @@ add-operator f = record { plain = λ s b. refl; mono = refl; goes = λ b. refl; 
 
 -- from the values ws of a cell the loop leaves vs
 module _ {op : Float → Float → Float} {k : NodeKind} (o : Operator op k) (N : ℕ) (two : Bool) (x m : List Float) (ws vs : List ℕ) (long : length ws ≡ cellSize N k) where
-  pub operator-two : two ≡ true → vs ≡ stored (withOther op x m) 3 N ws → vs ≡ runValues k N (given two x m) ws
+  pub operator-two : two ≡ true → vs ≡ stored (opSources op x m) 3 N ws → vs ≡ runValues k N (given two x m) ws
   operator-two is e =
       e
-      ∙ stored-mono k (o .plain) N (given true x m) ws long (withOther op x m) (o .mono) (λ i h. o .goes _) (λ i h. o .rule _ _)
+      ∙ stored-mono k (o .plain) N (given true x m) ws long (opSources op x m) (o .mono) (λ i h. o .goes _) (λ i h. o .rule _ _)
       ∙ ap (λ (b : Bool). runValues k N (given b x m) ws) (sym is)
 
-  pub operator-one : (g : Float) → two ≡ false → g ≡ floatAt ws 0 → vs ≡ stored (withNumber op x g) 3 N ws → vs ≡ runValues k N (given two x m) ws
+  pub operator-one : (g : Float) → two ≡ false → g ≡ floatAt ws 0 → vs ≡ stored (opNumber op x g) 3 N ws → vs ≡ runValues k N (given two x m) ws
   unfolding cellOf
   operator-one g is number e =
       e
-      ∙ ap (λ (f : Float). stored (withNumber op x f) 3 N ws) number
-      ∙ stored-mono k (o .plain) N (given false x m) ws long (withNumber op x (floatAt ws 0)) (o .mono) (λ i h. o .goes _) (λ i h. o .rule _ _)
+      ∙ ap (λ (f : Float). stored (opNumber op x f) 3 N ws) number
+      ∙ stored-mono k (o .plain) N (given false x m) ws long (opNumber op x (floatAt ws 0)) (o .mono) (λ i h. o .goes _) (λ i h. o .rule _ _)
       ∙ ap (λ (b : Bool). runValues k N (given b x m) ws) (sym is)

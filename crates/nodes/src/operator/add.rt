@@ -5,7 +5,7 @@ ghost use lib.ListN.{length};
 ghost use lib.Ieee as ieee;
 ghost use lib.Ieee.{Float, binary32};
 ghost use Rattle.leaves.specs.Words.{words};
-ghost use Rattle.nodes.specs.Block.{stored, withNumber, withOther, given};
+ghost use Rattle.nodes.specs.Block.{stored, opNumber, opSources, given};
 ghost use Rattle.nodes.specs.Cell.{runValues};
 use crate::kind::NodeKind;
 use leaves::float::load;
@@ -13,7 +13,7 @@ use leaves::float::store;
 
 fn add_number(cell: &mut [u8], number: f32, size: usize, x: &[f32; 128])
     requires { ⌜ (size ≤ 128) × (4 * (3 + size) ≤ length (now cell)) ⌝ }
-    ensures { λ _. ⌜ words (now (cell .exit)) ≡ stored (withNumber (ieee.add binary32) (now (x .entry)) number) 3 size (words (now (cell .entry))) ⌝ }
+    ensures { λ _. ⌜ words (now (cell .exit)) ≡ stored (opNumber (ieee.add binary32) (now (x .entry)) number) 3 size (words (now (cell .entry))) ⌝ }
 {
     let mut i = 0;
     while i < size {
@@ -24,7 +24,7 @@ fn add_number(cell: &mut [u8], number: f32, size: usize, x: &[f32; 128])
 
 fn add_sources(cell: &mut [u8], size: usize, x: &[f32; 128], m: &[f32; 128])
     requires { ⌜ (size ≤ 128) × (4 * (3 + size) ≤ length (now cell)) ⌝ }
-    ensures { λ _. ⌜ words (now (cell .exit)) ≡ stored (withOther (ieee.add binary32) (now (x .entry)) (now (m .entry))) 3 size (words (now (cell .entry))) ⌝ }
+    ensures { λ _. ⌜ words (now (cell .exit)) ≡ stored (opSources (ieee.add binary32) (now (x .entry)) (now (m .entry))) 3 size (words (now (cell .entry))) ⌝ }
 {
     let mut i = 0;
     while i < size {

@@ -4,14 +4,14 @@ use Prim.Native.Nat.{_≤_, _-_}
 use native.Mathlib.Omega.{arith}
 use lib.ListN.{length}
 use Rattle.leaves.specs.Words.{words}
-use Rattle.nodes.specs.Block.{stored, withOther}
+use Rattle.nodes.specs.Block.{stored, opSources}
 use Rattle.nodes.proofs.Iterated.{iter-none, iter-then, iter-end}
 use lib.Ieee.{binary32, add}
 use Rattle.nodes.proofs.operator.add.add_sources.Statement.{statement}
 use Rattle.nodes.proofs.operator.add.add_sources.Tie as tie
 
 abbrev Inv-loop : tie.InvT-loop
-Inv-loop cell₀ size x m i₀ cell i = (i ≤ size) × (length cell ≡ length cell₀) × (words cell ≡ stored (withOther (add binary32) x m) 3 i (words cell₀))
+Inv-loop cell₀ size x m i₀ cell i = (i ≤ size) × (length cell ≡ length cell₀) × (words cell ≡ stored (opSources (add binary32) x m) 3 i (words cell₀))
 
 abbrev μ-loop : tie.MeasureT-loop
 μ-loop cell₀ size x m i₀ cell i = size - i

@@ -4,14 +4,14 @@ use Prim.Native.Nat.{_≤_, _-_}
 use native.Mathlib.Omega.{arith}
 use lib.ListN.{length}
 use Rattle.leaves.specs.Words.{words}
-use Rattle.nodes.specs.Block.{stored, withNumber}
+use Rattle.nodes.specs.Block.{stored, opNumber}
 use Rattle.nodes.proofs.Iterated.{iter-none, iter-then, iter-end}
 use lib.Ieee.{binary32, mul}
 use Rattle.nodes.proofs.operator.mul.mul_number.Statement.{statement}
 use Rattle.nodes.proofs.operator.mul.mul_number.Tie as tie
 
 abbrev Inv-loop : tie.InvT-loop
-Inv-loop cell₀ number size x i₀ cell i = (i ≤ size) × (length cell ≡ length cell₀) × (words cell ≡ stored (withNumber (mul binary32) x number) 3 i (words cell₀))
+Inv-loop cell₀ number size x i₀ cell i = (i ≤ size) × (length cell ≡ length cell₀) × (words cell ≡ stored (opNumber (mul binary32) x number) 3 i (words cell₀))
 
 abbrev μ-loop : tie.MeasureT-loop
 μ-loop cell₀ number size x i₀ cell i = size - i
