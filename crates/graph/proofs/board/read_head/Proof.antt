@@ -1,12 +1,11 @@
 -- `graph::board::read_head` meets its contract: each arm knows what was found at offset 0, where only a head or a refusal can be.
 -- Assumes nothing.
-use mathlib.Core.Path.{_≡_, sym, subst, _∙_}
+use mathlib.Core.Path.{_≡_, sym, _∙_}
 use native.Mathlib.Omega.{arith}
-use lib.ListN.{length}
 use denote.Ref.{now}
 use Rattle.graph.specs.Board.{going, headed, takeFound, stepOf}
 use Rattle.graph.specs.declared.record.Found.{Found}
-use Rattle.graph.specs.declared.record.Found.the-variants.{Head, Node, Wire, End, Refused}
+use Rattle.graph.specs.declared.record.Found.the-variants.{Head, Refused}
 use Rattle.graph.proofs.Found.{room-of}
 use Rattle.graph.proofs.Parts.{head-as, step-takes}
 use borrow.Author.Needs.{needs}

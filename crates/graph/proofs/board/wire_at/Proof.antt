@@ -1,6 +1,5 @@
 -- `graph::board::wire_at` meets its contract: each arm knows what was found. Assumes nothing.
-use mathlib.Core.Path.{_≡_, sym, ap, subst, _∙_}
-use lib.ListN.{length}
+use mathlib.Core.Path.{_≡_, sym, ap, _∙_}
 use denote.Ref.{now}
 use Rattle.graph.specs.Record.{foundAt}
 use Rattle.graph.specs.Phases.{wireRead}
