@@ -34,11 +34,3 @@ pub mod RoundWorked
 pub mod Formed
 pub mod Accepted
 pub mod JudgeCases
-pub mod Repeats
-pub mod Going
-pub mod Listed
-pub mod Late
-pub mod Placing
-pub mod Lines
-pub mod Wired
-pub mod VisitCases

@@ -15,9 +15,4 @@ pub mod Tail
 pub mod Walks
 pub mod Write
 pub mod Formed
-pub mod Visit
 pub mod Walking
-pub mod Listed
-pub mod Late
-pub mod Tail
-pub mod Walks

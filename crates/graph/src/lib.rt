@@ -6,5 +6,4 @@ pub mod graph;
 pub mod judge;
 pub mod record;
 pub mod sources;
-pub mod graph;
 pub mod tail;
