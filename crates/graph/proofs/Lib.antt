@@ -10,6 +10,7 @@ pub mod Loops
 pub mod Tabling
 pub mod Joined
 pub mod Six
+pub mod Ending
 pub mod Formed
 pub mod Accepted
 pub mod JudgeCases
