@@ -31,6 +31,7 @@ pub mod RoundSix
 pub mod RoundRefused
 pub mod Round
 pub mod RoundWorked
+pub mod Ending
 pub mod Formed
 pub mod Accepted
 pub mod JudgeCases
