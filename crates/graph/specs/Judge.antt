@@ -3,10 +3,10 @@ use Prim.Native.Nat.{ℕ, zero, suc}
 use mathlib.Core.List.{List, [], _∷_}
 use mathlib.Core.Bool.{Bool, false, cond, _&&_}
 use lib.ListN.{length}
-use lib.Dec.{ltb, eqb}
+use lib.Dec.{eqb}
 use Rattle.nodes.specs.Kind.{isPass, sourcesFit}
 use Rattle.nodes.specs.declared.kind.NodeRecord.{NodeRecord}
-use Rattle.reading.specs.Order.{Wire, sources}
+use Rattle.reading.specs.Order.{sources}
 use Rattle.graph.specs.Answer.{answer}
 use Rattle.graph.specs.Sources.{distinctSources}
 use Rattle.graph.specs.Board.{Parsed, Reading, going, refused, whole, readRecords, memoryLength}
