@@ -1,0 +1,37 @@
+-- Laws that the proofs of `graph` cite, and theorems for its callers.
+pub mod Choice
+pub mod Sums
+pub mod Fits
+pub mod Found
+pub mod Run
+pub mod Wiring
+pub mod Answers
+pub mod Parts
+pub mod Loops
+pub mod Tabling
+pub mod Joined
+pub mod Six
+-- Laws that the proofs of `graph` cite, and theorems for its callers.
+pub mod Repeats
+pub mod Going
+pub mod Listed
+pub mod Wired
+pub mod Late
+pub mod Placing
+pub mod Lines
+pub mod VisitCases
+pub mod RoundRule
+pub mod RoundBytes
+pub mod RoundRecords
+pub mod RoundRun
+pub mod RoundBack
+pub mod RoundObeys
+pub mod RoundSources
+pub mod RoundSix
+pub mod RoundRefused
+pub mod Round
+pub mod RoundWorked
+pub mod Ending
+pub mod Formed
+pub mod Accepted
+pub mod JudgeCases

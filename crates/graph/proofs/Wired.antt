@@ -1,0 +1,65 @@
+-- What a call knows of an accepted board's wires: they are as the visiting list, the late wires and the tail ask. Assumes nothing.
+use mathlib.Core.Path.{_≡_, refl, subst}
+use Prim.Native.Nat.{ℕ, _<_}
+use native.Mathlib.Nat.{le-trans}
+use mathlib.Core.List.{List}
+use Rattle.reading.specs.Order.{Wire, Each}
+use Rattle.reading.proofs.Order.{each-source}
+use Rattle.graph.specs.Judge.{readBoard}
+use Rattle.graph.specs.Phases.{Within}
+use Rattle.graph.specs.Read.{parsedOf, Read}
+use Rattle.graph.specs.Formed.{Joins}
+use Rattle.graph.specs.Visit.{visitingList, Lists}
+use Rattle.graph.specs.Walking.{Table, Gathered}
+use Rattle.graph.specs.Listed.{SourcesBelow, ListsReached}
+use Rattle.graph.specs.Tail.{tailBy, tailOf, LinesFit}
+use Rattle.graph.specs.declared.board.Board.{Board}
+use Rattle.graph.proofs.Accepted.{accepted-formed, count-is, table-at}
+use Rattle.graph.proofs.Listed.{lists-reached, listed-within}
+use Rattle.graph.proofs.Lines.{tail-of, lines-fit}
+
+joins-below : (n : ℕ) (ws : List Wire) → Each (Joins n) ws → SourcesBelow ws n
+joins-below n ws h k s e = let f = each-source (Joins n) ws h k s e in subst (λ (i : ℕ). i < n) (f .2) (f .1 .source-in)
+
+-- the board's wires
+abbrev wiresIn : Board → List Wire
+wiresIn b = parsedOf b .wires
+
+module _ (s : List ℕ) (b : Board) (read : Read (readBoard s) b) (accepted : b .refused .number ≡ 0) where
+  pub some-nodes : 0 < b .count
+  some-nodes = subst (λ (n : ℕ). 0 < n) (count-is s b read accepted) (accepted-formed s b read accepted .some-nodes)
+
+  pub sources-below : SourcesBelow (wiresIn b) (b .count)
+  sources-below = subst (SourcesBelow (wiresIn b)) (count-is s b read accepted) (joins-below _ (wiresIn b) (accepted-formed s b read accepted .records .joins))
+
+  -- the two ends of the wires, in their arrays
+  pub sources-within : Within 64 (b .sources) (b .wires)
+  sources-within j h = le-trans (read .sound .sources-in j h) (read .sound .few-nodes)
+
+  pub targets-within : Within 64 (b .targets) (b .wires)
+  targets-within j h = le-trans (read .sound .targets-in j h) (read .sound .few-nodes)
+
+  -- the table of sources is whole
+  pub table : Table (b .counts) (b .lists)
+  table = record {
+    few = λ v h. table-at s b read accepted v h .few;
+    nodes = λ v j h l. le-trans (table-at s b read accepted v h .source-in j l) (read .sound .few-nodes);
+  }
+
+  pub gathered : Gathered (wiresIn b) (b .counts) (b .lists)
+  gathered = record { size = λ v h. table-at s b read accepted v h .count-is; source = λ v j h l. table-at s b read accepted v h .source-is j l }
+
+  -- what holds of the visiting list
+  pub lists-all : ListsReached (wiresIn b) (visitingList (wiresIn b))
+  lists-all = lists-reached (wiresIn b) (λ k i e. le-trans (sources-below k i e) (read .sound .few-nodes))
+
+  module _ (nodes : List ℕ) (count : ℕ) (l : Lists (visitingList (wiresIn b)) nodes count) where
+    -- listed nodes are the board's
+    pub listed-in : Within (b .count) nodes count
+    listed-in = listed-within (wiresIn b) nodes count l (b .count) some-nodes (read .sound .few-nodes) sources-below
+
+    pub lines-listed : LinesFit (b .nodes) nodes count
+    lines-listed = lines-fit (parsedOf b) (b .nodes) (b .count) refl some-nodes (read .sound .few-nodes) sources-below (accepted-formed s b read accepted .records .few-lines) nodes count listed-in
+
+  pub board-tail : tailBy (b .nodes) (wiresIn b) (visitingList (wiresIn b)) ≡ tailOf (parsedOf b)
+  board-tail = tail-of (parsedOf b) (b .nodes) (b .count) refl some-nodes (read .sound .few-nodes) sources-below

@@ -1,0 +1,50 @@
+-- `graph::board::head_body` meets its contract: each arm knows whether the block size is in its range. Assumes nothing.
+use native.Mathlib.Omega.{arith}
+use Rattle.graph.proofs.Fits.{size-fits}
+use Rattle.graph.proofs.Answers.{accepted-as}
+use Rattle.graph.proofs.Parts.{head-as}
+use borrow.Author.Needs.{needs}
+use Rattle.graph.proofs.board.head_body.Statement.{statement}
+use Rattle.graph.proofs.board.head_body.Tie as tie
+
+u16-at-requires : tie.Need-u16-at-requires
+u16-at-requires c κs = search needs
+
+u16-at-requires-2 : tie.Need-u16-at-requires-2
+u16-at-requires-2 c κs = search needs
+
+new-requires : tie.Need-new-requires
+new-requires c κs = search needs
+
+cast-t9 : tie.Need-cast-t9
+cast-t9 c = search needs
+
+cast-t10 : tie.Need-cast-t10
+cast-t10 c = search needs
+
+no-head-requires : tie.Need-no-head-requires
+no-head-requires c κs = search needs
+
+returns : tie.Need-returns
+returns c =
+    record {
+      reads = simp (← c .before .before .before .u16-at .ensures, ← c .before .before .u16-at2 .ensures, c .before .if1 .taken) (accepted-as _ (c .new .ensures));
+      small = size-fits (c .before .before .before .u16-at .result) (c .before .if1 .taken) .1;
+      input-small = omega (arith, c .before .before .u16-at2 .ok);
+    }
+
+returns-2 : tie.Need-returns-2
+returns-2 c = head-as (simp (← c .before .before .before .u16-at .ensures, c .before .if1 .left)) (c .no-head .ensures)
+
+pub head-body-spec : {M : Type 1} → statement M
+head-body-spec =
+    tie.close
+    (tie.spec
+    u16-at-requires
+    u16-at-requires-2
+    new-requires
+    cast-t9
+    cast-t10
+    no-head-requires
+    returns
+    returns-2)

@@ -1,0 +1,75 @@
+-- `graph::board::node_body` meets its contract: the fields are those of the definition, and each arm knows the rule. Assumes nothing.
+use mathlib.Core.Path.{_≡_, _∙_}
+use Prim.Native.Nat.{_+_}
+use denote.Ref.{now}
+use Rattle.leaves.specs.Bytes.{u16At, u32At}
+use Rattle.nodes.specs.Kind.{ruleOf}
+use Rattle.graph.specs.Phases.{nodeRead}
+use borrow.Author.Needs.{needs}
+use Rattle.graph.proofs.board.node_body.Statement.{statement}
+use Rattle.graph.proofs.board.node_body.Tie as tie
+
+fields : (c : tie.After-rule-of) →
+    let a = c .before .before .before .before .before .args in
+    c .rule-of .result ≡ ruleOf (u16At (now (a .s)) (a .at + 4)) (u32At (now (a .s)) (a .at + 6)) (u32At (now (a .s)) (a .at + 10))
+fields c = c .rule-of .ensures ∙ rw (c .before .before .before .u16-at .ensures, c .before .before .u32-at .ensures, c .before .u32-at2 .ensures)
+
+add-u16-at : tie.Need-add-u16-at
+add-u16-at c = search needs
+
+u16-at-requires : tie.Need-u16-at-requires
+u16-at-requires c κs = search needs
+
+add-u32-at : tie.Need-add-u32-at
+add-u32-at c = search needs
+
+u32-at-requires : tie.Need-u32-at-requires
+u32-at-requires c κs = search needs
+
+add-u32-at-2 : tie.Need-add-u32-at-2
+add-u32-at-2 c = search needs
+
+u32-at-requires-2 : tie.Need-u32-at-requires-2
+u32-at-requires-2 c κs = search needs
+
+rule-of-requires : tie.Need-rule-of-requires
+rule-of-requires c κs = search needs
+
+enum-known-k : tie.Need-enum-known-k
+enum-known-k c = search needs
+
+node-fits-requires : tie.Need-node-fits-requires
+node-fits-requires c κs = search needs
+
+enum-told : tie.Need-enum-told
+enum-told c = search needs
+
+returns : tie.Need-returns
+unfolding nodeRead
+returns c = simp (← fields (c .before .before .before .before .before), c .before .before .before .k .given .1, ← c .before .node-fits .ensures, c .if1 .taken)
+
+returns-2 : tie.Need-returns-2
+unfolding nodeRead
+returns-2 c = simp (← fields (c .before .before .before .before .before), c .before .before .before .k .given .1, ← c .before .node-fits .ensures, c .if1 .left)
+
+returns-3 : tie.Need-returns-3
+unfolding nodeRead
+returns-3 c = simp (← fields (c .before .before), c .enum-told .given .1)
+
+pub node-body-spec : {M : Type 1} → statement M
+node-body-spec =
+    tie.close
+    (tie.spec
+    add-u16-at
+    u16-at-requires
+    add-u32-at
+    u32-at-requires
+    add-u32-at-2
+    u32-at-requires-2
+    rule-of-requires
+    enum-known-k
+    node-fits-requires
+    enum-told
+    returns
+    returns-2
+    returns-3)

@@ -1,0 +1,21 @@
+-- `graph::board::placed` meets its contract: each arm knows whether the node is the first. Assumes nothing.
+use borrow.Author.Tests.{eq-eqb, ne-eqb}
+use borrow.Author.Needs.{needs}
+use Rattle.graph.proofs.board.placed.Statement.{statement}
+use Rattle.graph.proofs.board.placed.Tie as tie
+
+is-destination-requires : tie.Need-is-destination-requires
+is-destination-requires c κs = search needs
+
+is-destination-requires-2 : tie.Need-is-destination-requires-2
+is-destination-requires-2 c κs = search needs
+
+returns : tie.Need-returns
+returns c = simp (eq-eqb _ _ (c .before .if1 .taken), c .is-destination .ensures)
+
+returns-2 : tie.Need-returns-2
+returns-2 c = simp (ne-eqb _ _ (c .before .if1 .left), c .is-destination2 .ensures)
+
+pub placed-spec : {M : Type 1} → statement M
+placed-spec =
+    tie.close (tie.spec is-destination-requires is-destination-requires-2 returns returns-2)

@@ -1,0 +1,149 @@
+-- `graph::board::read_nodes` meets its contract. The loop's invariant is `NodesSoFar`, and its measure what is left of the bytes.
+-- Assumes nothing.
+use Prim.Native.Nat.{_+_, _-_, _*_, _≤_}
+use mathlib.Core.Path.{refl}
+use native.Mathlib.Omega.{arith}
+use borrow.Author.Needs.{needs}
+use lib.ListN.{length}
+use denote.Ref.{now}
+use Rattle.graph.specs.declared.board.NodeRead.the-variants as node
+use Rattle.graph.proofs.Sums.{samples-few}
+use Rattle.graph.proofs.Parts.{NodeStep}
+use Rattle.graph.proofs.Loops.{NodesSoFar, nodes-start, node-here, nodes-more, nodes-over, nodes-refused}
+use Rattle.graph.proofs.board.read_nodes.Statement.{statement}
+use Rattle.graph.proofs.board.read_nodes.Tie as tie
+
+abbrev Inv-loop : tie.InvT-loop
+Inv-loop s size nodes₀ count₀ lines₀ values₀ next₀ nodes count lines values next = NodesSoFar s size nodes count lines values next
+
+abbrev μ-loop : tie.MeasureT-loop
+μ-loop s size nodes₀ count₀ lines₀ values₀ next₀ nodes count lines values next = length s - next
+
+blank-requires : tie.Need-blank-requires Inv-loop μ-loop
+blank-requires c κs = search needs
+
+loop-holds : tie.Need-loop-holds Inv-loop μ-loop
+loop-holds c = nodes-start _ _ _ refl (c .before .before .pre .1)
+
+node-at-requires : tie.Need-node-at-requires Inv-loop μ-loop
+node-at-requires c κs = c .loop .inv .few-lines
+
+enum-known-kind : tie.Need-enum-known-kind Inv-loop μ-loop
+enum-known-kind c = search needs
+
+channels-of-requires : tie.Need-channels-of-requires Inv-loop μ-loop
+channels-of-requires c κs = search needs
+
+line-of-requires : tie.Need-line-of-requires Inv-loop μ-loop
+line-of-requires c κs = search needs
+
+-- what the node's record says
+here : (c : tie.After-kind Inv-loop μ-loop) →
+    let at = c .before .before .before in
+    NodeStep (now (at .before .before .before .args .s)) (at .loop .next) (at .loop .count) (at .loop .lines) (node.Is (c .kind .given .0 .0))
+here c = node-here _ _ _ _ _ _ _ (c .before .before .before .loop .inv) (c .before .before .node-at .ensures) (c .kind .given .1)
+
+-- the sums stay small
+samples : (c : tie.After-line-of Inv-loop μ-loop) → c .before .before .before .before .before .before .before .before .before .args .size * c .before .channels-of .result ≤ 256
+samples c =
+    let start = c .before .before .before .before .before .before .before .before .before in
+    rw (c .before .channels-of .ensures) (samples-few (start .args .size) (c .before .before .before .kind .given .0 .0) (start .pre .0))
+
+few : (c : tie.After-line-of Inv-loop μ-loop) → c .before .before .before .before .before .before .loop .lines + c .line-of .result ≤ 262144
+few c = rw (c .line-of .ensures .0) (here (c .before .before .before) .1 .few-lines)
+
+mul-nodes : tie.Need-mul-nodes Inv-loop μ-loop
+mul-nodes c = omega (arith, here (c .before .before .before) .1 .room)
+
+array-set-from-nodes : tie.Need-array-set-from-nodes Inv-loop μ-loop
+array-set-from-nodes c = here (c .before .before .before) .1 .room
+
+add-count : tie.Need-add-count Inv-loop μ-loop
+add-count c = omega (arith, here (c .before .before .before) .1 .room)
+
+add-lines : tie.Need-add-lines Inv-loop μ-loop
+add-lines c = omega (arith, few c)
+
+mul-values : tie.Need-mul-values Inv-loop μ-loop
+mul-values c = omega (arith, samples c)
+
+add-values : tie.Need-add-values Inv-loop μ-loop
+add-values c = omega (arith, samples c)
+
+add-values-2 : tie.Need-add-values-2 Inv-loop μ-loop
+add-values-2 c = omega (arith, samples c, few c)
+
+add-values-3 : tie.Need-add-values-3 Inv-loop μ-loop
+add-values-3 c = omega (arith, samples c, few c, c .before .before .before .before .before .before .loop .inv .few-values, c .before .before .before .before .before .before .loop .inv .few)
+
+add-next : tie.Need-add-next Inv-loop μ-loop
+add-next c = omega (arith, c .before .before .before .before .before .before .loop .inv .next-is, c .before .before .before .before .before .before .loop .inv .few)
+
+loop-less : tie.Need-loop-less Inv-loop μ-loop
+loop-less c = omega (arith, here (c .before .before .before) .2)
+
+loop-again : tie.Need-loop-again Inv-loop μ-loop
+loop-again c = let start = c .before .before .before .before .before .before .before .before .before in
+    rw (c .before .channels-of .ensures, c .line-of .ensures .0) (nodes-more _ _ _ _ _ _ _ (c .before .before .before .before .before .before .loop .inv) (c .before .before .before .kind .given .0 .0) (here (c .before .before .before)) (start .pre .0))
+
+enum-told : tie.Need-enum-told Inv-loop μ-loop
+enum-told c = search needs
+
+new-requires : tie.Need-new-requires Inv-loop μ-loop
+new-requires c κs = omega arith
+
+new-requires-2 : tie.Need-new-requires-2 Inv-loop μ-loop
+new-requires-2 c κs = search needs
+
+returns : tie.Need-returns Inv-loop μ-loop
+returns c =
+    let at = c .before .before .before .before .before in
+    rw (c .new2 .ensures)
+    (nodes-over _ _ _ _ _ _ _ (at .loop .inv) (c .before .new .ensures) (node-here _ _ _ _ _ _ _ (at .loop .inv) (c .before .before .before .before .node-at .ensures) (c .before .before .enum-told .given .1)))
+
+enum-known-number : tie.Need-enum-known-number Inv-loop μ-loop
+enum-known-number c = search needs
+
+new-requires-3 : tie.Need-new-requires-3 Inv-loop μ-loop
+new-requires-3 c κs = let h = c .before .before .before .before .loop .inv in omega (arith, h .next-is, h .few)
+
+new-requires-4 : tie.Need-new-requires-4 Inv-loop μ-loop
+new-requires-4 c κs = search needs
+
+returns-2 : tie.Need-returns-2 Inv-loop μ-loop
+returns-2 c =
+    let at = c .before .before .before .before .before .before in
+    rw (c .new4 .ensures)
+    (nodes-refused _ _ _ _ _ _ _ (at .loop .inv) _ (c .before .new3 .ensures) (node-here _ _ _ _ _ _ _ (at .loop .inv) (c .before .before .before .before .before .node-at .ensures) (c .before .before .before .number .given .1)))
+
+pub read-nodes-spec : {M : Type 1} → statement M
+read-nodes-spec =
+    tie.close
+    (tie.spec
+    Inv-loop
+    μ-loop
+    blank-requires
+    loop-holds
+    node-at-requires
+    enum-known-kind
+    channels-of-requires
+    line-of-requires
+    mul-nodes
+    array-set-from-nodes
+    add-count
+    add-lines
+    mul-values
+    add-values
+    add-values-2
+    add-values-3
+    add-next
+    loop-less
+    loop-again
+    enum-told
+    new-requires
+    new-requires-2
+    returns
+    enum-known-number
+    new-requires-3
+    new-requires-4
+    returns-2)

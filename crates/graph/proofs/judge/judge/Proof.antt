@@ -1,0 +1,33 @@
+-- `graph::judge::judge` meets its contract: the board stands for the reading, and each arm knows whether that is a refusal. Assumes nothing.
+use mathlib.Core.Path.{sym, ap, _∙_}
+use Prim.Native.Nat.{ℕ, _*_}
+use Rattle.graph.specs.Answer.{answer}
+use Rattle.graph.proofs.Answers.{or-accepts, or-refuses}
+use Rattle.graph.proofs.Six.{judged-whole, judged-refused}
+use borrow.Author.Needs.{needs}
+use Rattle.graph.proofs.judge.judge.Statement.{statement}
+use Rattle.graph.proofs.judge.judge.Tie as tie
+
+read-board-requires : tie.Need-read-board-requires
+read-board-requires c κs = search needs
+
+mul-new : tie.Need-mul-new
+mul-new c = search needs
+
+new-requires : tie.Need-new-requires
+new-requires c κs = search needs
+
+returns : tie.Need-returns
+returns c =
+    let b = c .before .before .before .before .before .read-board .result in
+    let read = c .before .before .before .before .before .read-board .ensures in
+    c .new .ensures ∙ ap (λ (v : ℕ). answer 0 (4 * v)) (read .sound .values-sum) ∙ sym (judged-whole _ _ (read .reading ∙ or-accepts (b .refused) _ (c .before .before .if1 .taken)))
+
+returns-2 : tie.Need-returns-2
+returns-2 c =
+    let b = c .before .before .before .read-board .result in
+    let read = c .before .before .before .read-board .ensures in
+    sym (judged-refused _ _ _ (read .reading ∙ or-refuses (b .refused) _ (c .if1 .left)))
+
+pub judge-spec : {M : Type 1} → statement M
+judge-spec = tie.close (tie.spec read-board-requires mul-new new-requires returns returns-2)

@@ -1,0 +1,78 @@
+-- `graph::record::found_at` meets its contract: at each `return` the tests that led there say which case of `foundAt` holds. Past the
+-- end nothing is left. Assumes nothing.
+use Prim.Native.Nat.{_-_, _<_}
+use mathlib.Core.Path.{_∙_}
+use lib.ListN.{length}
+use denote.Ref.{now}
+use borrow.Author.Tests.{lt-ltb, le-ltb}
+use native.Mathlib.Omega.{arith}
+use borrow.Author.Needs.{needs}
+use Rattle.graph.specs.Record.{foundAt}
+use Rattle.graph.proofs.record.found_at.Statement.{statement}
+use Rattle.graph.proofs.record.found_at.Tie as tie
+
+returns : tie.Need-returns
+unfolding foundAt
+returns c =
+    let a = c .before .before .args in
+    let few : length (now (a .s)) - a .at < 4 = omega arith in
+    simp (lt-ltb _ _ few)
+
+sub-left : tie.Need-sub-left
+sub-left c = search needs
+
+returns-2 : tie.Need-returns-2
+unfolding foundAt
+returns-2 c = simp (lt-ltb _ _ (c .if2 .taken))
+
+u16-at-requires : tie.Need-u16-at-requires
+u16-at-requires c κs = search needs
+
+cast-if3 : tie.Need-cast-if3
+cast-if3 c = search needs
+
+returns-3 : tie.Need-returns-3
+unfolding foundAt
+returns-3 c = simp (le-ltb _ _ (c .before .before .if2 .left), ← c .before .u16-at .ensures, lt-ltb _ _ (c .if3 .taken))
+
+add-u16-at : tie.Need-add-u16-at
+add-u16-at c = search needs
+
+u16-at-requires-2 : tie.Need-u16-at-requires-2
+u16-at-requires-2 c κs = search needs
+
+in-order-requires : tie.Need-in-order-requires
+in-order-requires c κs = search needs
+
+found-of-requires : tie.Need-found-of-requires
+found-of-requires c κs = search needs
+
+returns-4 : tie.Need-returns-4
+unfolding foundAt
+returns-4 c =
+    let third = c .before .before .before .before in
+    c .found-of .ensures
+    ∙ simp (le-ltb _ _ (third .before .before .if2 .left), ← third .before .u16-at .ensures, le-ltb _ _ (third .if3 .left), ← c .before .before .before .u16-at2 .ensures, ← c .before .before .in-order .ensures, c .before .if4 .taken)
+
+returns-5 : tie.Need-returns-5
+unfolding foundAt
+returns-5 c =
+    let third = c .before .before .before in
+    simp (le-ltb _ _ (third .before .before .if2 .left), ← third .before .u16-at .ensures, le-ltb _ _ (third .if3 .left), ← c .before .before .u16-at2 .ensures, ← c .before .in-order .ensures, c .if4 .left)
+
+pub found-at-spec : {M : Type 1} → statement M
+found-at-spec =
+    tie.close
+    (tie.spec
+    returns
+    sub-left
+    returns-2
+    u16-at-requires
+    cast-if3
+    returns-3
+    add-u16-at
+    u16-at-requires-2
+    in-order-requires
+    found-of-requires
+    returns-4
+    returns-5)

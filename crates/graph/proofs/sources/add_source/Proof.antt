@@ -1,0 +1,64 @@
+-- `graph::sources::add_source` meets its contract: each `return` knows the tests of the definition that led there. Assumes nothing.
+use mathlib.Core.Path.{_≡_, sym, _∙_}
+use native.Mathlib.Omega.{arith}
+use borrow.Author.Needs.{needs}
+use borrow.Author.Tests.{lt-ltb, le-ltb, eq-eqb, ne-eqb}
+use denote.Ref.{now}
+use Rattle.graph.specs.Gather.{among}
+use Rattle.graph.proofs.sources.add_source.Statement.{statement}
+use Rattle.graph.proofs.sources.add_source.Tie as tie
+
+tested : (c : tie.After-among) →
+    let a = c .before .before .before .before .args in
+    among (now (a .lists)) (a .start) (a .count) (a .x) ≡ c .among .result
+tested c = sym (c .among .ensures ∙ rw (c .before .before .wide .ensures))
+
+returns : tie.Need-returns
+returns c = (simp (lt-ltb _ _ (c .if1 .taken)), simp (lt-ltb _ _ (c .if1 .taken)))
+
+wide-requires : tie.Need-wide-requires
+wide-requires c κs = search needs
+
+among-requires : tie.Need-among-requires
+among-requires c κs = search needs
+
+returns-2 : tie.Need-returns-2
+returns-2 c =
+    let few = le-ltb _ _ (c .before .before .before .before .if1 .left) in
+    let there = tested (c .before) ∙ c .if2 .taken in
+    (simp (few, there), simp (few, there))
+
+returns-3 : tie.Need-returns-3
+returns-3 c =
+    let few = le-ltb _ _ (c .before .before .before .before .before .if1 .left) in
+    let new = tested (c .before .before) ∙ c .before .if2 .left in
+    (simp (few, new) (omega arith), simp (few, new, eq-eqb _ _ (c .if3 .taken)))
+
+add-lists : tie.Need-add-lists
+add-lists c = search needs
+
+element-write-lists : tie.Need-element-write-lists
+element-write-lists c = search needs
+
+add-result : tie.Need-add-result
+add-result c = search needs
+
+returns-4 : tie.Need-returns-4
+returns-4 c =
+    let few = le-ltb _ _ (c .before .before .before .before .before .if1 .left) in
+    let new = tested (c .before .before) ∙ c .before .if2 .left in
+    (simp (few, new), simp (few, new, ne-eqb _ _ (c .if3 .left), c .before .before .before .before .wide .ensures))
+
+pub add-source-spec : {M : Type 1} → statement M
+add-source-spec =
+    tie.close
+    (tie.spec
+    returns
+    wide-requires
+    among-requires
+    returns-2
+    returns-3
+    add-lists
+    element-write-lists
+    add-result
+    returns-4)

@@ -1,0 +1,68 @@
+-- `nodes::cell::cell_fits` meets its contract. Assumes nothing.
+use borrow.Author.Needs.{needs}
+use mathlib.Core.Path.{_≡_, sym, ap, _∙_}
+use mathlib.Core.Bool.{Bool, _&&_}
+use mathlib.Core.List.{List}
+use Prim.Native.Nat.{ℕ, _+_}
+use native.Mathlib.Nat.{add-zero}
+use lib.ListN.{getD, drop}
+use lib.Seq.{getD-drop}
+use Rattle.leaves.specs.Words.{words}
+use Rattle.nodes.specs.Cell.{numberFits, carryFits, placeFits, cellFits}
+use Rattle.nodes.specs.declared.kind.NodeKind.{NodeKind}
+use Rattle.nodes.proofs.cell.cell_fits.Statement.{statement}
+use Rattle.nodes.proofs.cell.cell_fits.Tie as tie
+
+-- the three judgements, of the values that stand there
+judged : (k : NodeKind) (ws : List ℕ) (at a b p : ℕ) (x y z : Bool) → a ≡ getD ws at 0 → b ≡ getD ws (at + 1) 0 → p ≡ getD ws (at + 2) 0
+    → x ≡ numberFits k a → y ≡ carryFits k b → z ≡ placeFits k p → x && y && z ≡ cellFits k (drop at ws)
+judged k ws at a b p x y z ea eb ep ex ey ez =
+    let ga : getD (drop at ws) 0 0 ≡ a = getD-drop at ws 0 0 ∙ ap (λ (i : ℕ). getD ws i 0) (add-zero at) ∙ sym ea in
+    let gb : getD (drop at ws) 1 0 ≡ b = getD-drop at ws 1 0 ∙ sym eb in
+    let gp : getD (drop at ws) 2 0 ≡ p = getD-drop at ws 2 0 ∙ sym ep in
+    cc
+
+word-at-requires : tie.Need-word-at-requires
+word-at-requires c κs = search needs
+
+number-fits-requires : tie.Need-number-fits-requires
+number-fits-requires c κs = search needs
+
+add-word-at : tie.Need-add-word-at
+add-word-at c = search needs
+
+word-at-requires-2 : tie.Need-word-at-requires-2
+word-at-requires-2 c κs = search needs
+
+carry-fits-requires : tie.Need-carry-fits-requires
+carry-fits-requires c κs = search needs
+
+add-word-at-2 : tie.Need-add-word-at-2
+add-word-at-2 c = search needs
+
+word-at-requires-3 : tie.Need-word-at-requires-3
+word-at-requires-3 c κs = search needs
+
+place-fits-requires : tie.Need-place-fits-requires
+place-fits-requires c κs = search needs
+
+returns : tie.Need-returns
+returns c =
+    let given = c .before .before .before .before .before .before .before .args in
+    judged _ (words (given .memory .now)) (given .at) _ _ _ _ _ _
+    (c .before .before .before .before .before .word-at .ensures) (c .before .before .before .word-at2 .ensures) (c .before .word-at3 .ensures)
+    (c .before .before .before .before .number-fits .ensures) (c .before .before .carry-fits .ensures) (c .place-fits .ensures)
+
+pub cell-fits-spec : {M : Type 1} → statement M
+cell-fits-spec =
+    tie.close
+    (tie.spec
+    word-at-requires
+    number-fits-requires
+    add-word-at
+    word-at-requires-2
+    carry-fits-requires
+    add-word-at-2
+    word-at-requires-3
+    place-fits-requires
+    returns)
