@@ -141,7 +141,7 @@ module _ (k : NodeKind) (N : ℕ) (bs : ℕ → Brought) where
   unfolding stepCell stateBy
   step-number i c = refl
 
-  step-samples : (i : ℕ) (c : Cell) → length (stepCell k N bs i c .samples) ≡ length (c .samples)
+  pub step-samples : (i : ℕ) (c : Cell) → length (stepCell k N bs i c .samples) ≡ length (c .samples)
   unfolding stepCell putFrame
   step-samples i c = frame-long (eqb (channelsOf k) 2) (c .samples) i (N + i) _ _
 

@@ -6,23 +6,23 @@
 --     operator-two, operator-one   an operator on two sources, or on one and its number
 -- Assumes nothing.
 use mathlib.Core.Path.{_≡_, refl, sym, ap, _∙_}
-use mathlib.Core.Bool.{Bool, true, false, cond}
+use mathlib.Core.Bool.{Bool, true, false}
 use mathlib.Core.List.{List}
 use Prim.Native.Nat.{ℕ, zero, suc, _+_, _*_, _≤_, _<_}
 use native.Mathlib.Omega.{arith}
-use lib.Dec.{eqb}
 use lib.ListN.{length, set, length-set}
 use lib.Seq.{set-comm, set-getD}
 use lib.Ieee.{Float, binary32, ofBits, toBits, add, mul}
 use Rattle.leaves.specs.Floats.{floatAt}
 use Rattle.nodes.specs.Kind.{channelsOf, cellSize}
 use Rattle.nodes.specs.Iter.{iter}
-use Rattle.nodes.specs.Rule.{Brought, Frame, State, first, operand, keeps, leftOf, leftBy, rightOf, carryAfter, placeAfter, lineAfter, sampleBy, stateBy}
+use Rattle.nodes.specs.Rule.{Brought, State, first, operand, keeps, leftOf, leftBy, rightOf, carryAfter, placeAfter, lineAfter, sampleBy, stateBy}
 use Rattle.nodes.specs.Cell.{Cell, valuesOf, cellOf, frameAt, putFrame, stepCell, runCell, runValues}
 use Rattle.nodes.specs.Block.{stored, opNumber, opSources, given}
 use Rattle.nodes.specs.declared.kind.NodeKind.{NodeKind}
 use Rattle.nodes.specs.declared.kind.NodeKind.the-variants.{Mul, Add}
 use Rattle.nodes.proofs.Iterated.{iter-builds}
+use Rattle.nodes.proofs.Kept.{step-samples}
 use Rattle.nodes.proofs.Cells.{withSamples, values-cell, samples-long, set-sample}
 
 -- ---- stores of blocks
@@ -46,14 +46,6 @@ stored-both y z at next (suc n) ws h =
 
 -- ---- a block run
 
-length-frame : (channels N i : ℕ) (f : Frame) (l : List ℕ) → length (putFrame channels N i f l) ≡ length l
-unfolding putFrame
-length-frame channels N i f l = go (eqb channels 2)
-  where
-    go : (b : Bool) → length (cond b (set (set l i (f .left)) (N + i) (f .right)) (set l i (f .left))) ≡ length l
-    go true = simp length-set
-    go false = simp length-set
-
 -- the state stays as it is
 abbrev pub Plain : NodeKind → Type 0
 Plain k = (s : State) (b : Brought) → stateBy k s b ≡ s
@@ -70,7 +62,7 @@ module _ (k : NodeKind) (plain : Plain k) (N : ℕ) (bs : ℕ → Brought) where
       c N (refl, refl, refl)
       (λ i h t p. (
         plain (t .state) (bs i) ∙ p .0,
-        length-frame (channelsOf k) N i (sampleBy k (t .state) (frameAt N i (t .samples)) (bs i)) (t .samples) ∙ p .1,
+        step-samples k N bs i t ∙ p .1,
         ap (w i) (p .2) ∙ turn i h t (p .0) (p .1),
       ))
       .2

@@ -1,75 +1,56 @@
--- The run of each type on the blocks that it is given is its run on what the wires bring (`Supplies`): the ten arms of `run_cell`, and
--- what the judge's answer says of the cell and the sources in each.
+-- What a node's block run is required to be ready with, as its types ask it; and the types that only store their blocks: pass, sum,
+-- destination and balance run on the blocks as on what the wires bring (`Supplies`).
 -- Assumes nothing.
 use mathlib.Core.Path.{_≡_, refl, sym, ap, subst, _∙_}
-use mathlib.Core.Bool.{Bool, true, false, _&&_}
 use mathlib.Core.List.{List}
 use Prim.Native.Nat.{ℕ, _+_, _≤_, _<_}
 use native.Mathlib.Omega.{arith}
 use borrow.Author.Tests.{ltb-true, leb-true, eq-eqb, ne-eqb}
 use lib.Dec.{leb, T}
 use lib.ListN.{length, getD}
-use lib.Ieee.{Float, ofBits}
+use lib.Ieee.{Float}
 use Rattle.leaves.specs.Words.{words, length-words}
 use Rattle.leaves.specs.Floats.{floatAt}
 use Rattle.leaves.specs.Floors.{whole, within}
 use Rattle.nodes.specs.Kind.{fewest, most, cellSize}
 use Rattle.nodes.specs.Rule.{Brought, keeps, leftOf, rightOf, carryAfter, placeAfter, lineAfter, stateBy}
-use Rattle.nodes.specs.Cell.{numberFits, carryFits, placeFits, runValues}
+use Rattle.nodes.specs.Cell.{cellOf, numberFits, carryFits, placeFits, runValues}
 use Rattle.nodes.specs.Block.{sample, putBlock}
 use Rattle.nodes.specs.Node.{Supplies, CellReady}
 use Rattle.nodes.specs.declared.kind.NodeKind.{NodeKind}
 use Rattle.nodes.specs.declared.kind.NodeKind.the-variants.{Pass, Sum, Destination, Balance, Delay, AllPass, Sine}
+use Rattle.nodes.proofs.Kept.{Judged, both, fits-judged, in-band}
 use Rattle.nodes.proofs.Plain.{stored-mono, stored-stereo, block-kept}
 
--- ---- what the judge's answer says
+-- ---- what is ready
 
-both-true : (a b : Bool) → (a && b) ≡ true → (a ≡ true) × (b ≡ true)
-both-true true b e = (refl, e)
-both-true false b e = (e, cc)
-
--- the cell is lent whole, and its values are as the judge asks
+-- the cell is lent whole, with as many sources as its type takes
 module _ {cell : List ℕ} {k : NodeKind} {N n : ℕ} (ready : CellReady cell k N n) where
   pub cell-long : length (words cell) ≡ cellSize N k
   cell-long = omega (arith, length-words cell, ready .whole)
 
   pub at-least : fewest k ≤ n
-  at-least = leb-true (fewest k) n (both-true (leb (fewest k) n) (leb n (most k)) (ready .counted) .0)
+  at-least = leb-true (fewest k) n (both (leb (fewest k) n) (leb n (most k)) (ready .counted) .0)
 
   pub at-most : n ≤ most k
-  at-most = leb-true n (most k) (both-true (leb (fewest k) n) (leb n (most k)) (ready .counted) .1)
+  at-most = leb-true n (most k) (both (leb (fewest k) n) (leb n (most k)) (ready .counted) .1)
 
-  abbrev number : Bool
-  number = numberFits k (getD (words cell) 0 0)
-
-  abbrev carry : Bool
-  carry = carryFits k (getD (words cell) 1 0)
-
-  abbrev place : Bool
-  place = placeFits k (getD (words cell) 2 0)
-
-  pub number-fits : number ≡ true
-  number-fits = both-true number carry (both-true (number && carry) place (ready .judged) .0) .0
-
-  pub carry-fits : carry ≡ true
-  carry-fits = both-true number carry (both-true (number && carry) place (ready .judged) .0) .1
-
-  pub place-fits : place ≡ true
-  place-fits = both-true (number && carry) place (ready .judged) .1
+  judged : Judged k (cellOf N k (words cell) .state)
+  judged = fits-judged k N (words cell) (ready .judged)
 
 -- the place of a ring is below its length; a frequency and a phase lie within their ranges
 module _ {cell : List ℕ} {N n : ℕ} where
   pub delay-place : {l : ℕ} → CellReady cell (Delay l) N n → getD (words cell) 2 0 < l
-  unfolding placeFits
-  delay-place ready = ltb-true _ _ (place-fits ready)
+  unfolding cellOf placeFits
+  delay-place ready = ltb-true _ _ (judged ready .place)
 
   pub all-pass-place : {l : ℕ} {f : Float} → CellReady cell (AllPass l f) N n → getD (words cell) 2 0 < l
-  unfolding placeFits
-  all-pass-place ready = ltb-true _ _ (place-fits ready)
+  unfolding cellOf placeFits
+  all-pass-place ready = ltb-true _ _ (judged ready .place)
 
   pub sine-ranges : {f : Float} → CellReady cell (Sine f) N n → T (within (whole 11025 2) (floatAt (words cell) 0)) × T (within (whole 1 0) (floatAt (words cell) 1))
-  unfolding numberFits carryFits within ofBits
-  sine-ranges ready = (subst T (sym (number-fits ready)) tt, subst T (sym (carry-fits ready)) tt)
+  unfolding cellOf numberFits carryFits
+  sine-ranges ready = (subst T (sym (judged ready .number) ∙ in-band (getD (words cell) 0 0)) tt, subst T (sym (judged ready .carry)) tt)
 
 -- ---- the arms
 
