@@ -1,5 +1,5 @@
 //! Random cases: calls on accepted boards from fresh memory, and damaged boards, memories, lengths and values.
-use crate::boards::{random_board, to_bytes, Limits};
+use crate::boards::{node, random_board, to_bytes, Limits};
 use crate::cases::{Call, Case};
 use crate::model::{judge, Board};
 use crate::random::Random;
@@ -103,6 +103,36 @@ fn damage_board(r: &mut Random, board: &mut Vec<u8>) {
     }
 }
 
+/// A board at, just below or just above one of the limits: lines together, nodes, wires, sources of a sum, N.
+fn edge_board(r: &mut Random) -> Board {
+    let plain = node(1, 0, 0.0);
+    let mut board = Board { size: r.between(1, 3), input: 1, nodes: vec![node(3, 0, 0.0), plain.clone()], wires: vec![(1, 0)] };
+    let over = r.between(0, 3);
+    match r.below(5) {
+        0 => {
+            let n = r.between(1, 60000);
+            let rest = 262144 - 132300 - 2 * n - 1 + over;
+            let part = r.between(1, rest - 1);
+            let lines = [(7, 132300), (8, n as u32), (7, part as u32), (7, (rest - part) as u32)];
+            for (k, (kind, n)) in lines.into_iter().enumerate() {
+                board.nodes.push(node(kind, n, 0.0));
+                board.wires.push((k + 1, k + 2));
+            }
+        }
+        1 => board.nodes.resize(63 + over, plain),
+        2 => board.wires = vec![(1, 0); 127 + over],
+        3 => {
+            board.nodes.resize(3 + 6 + over, plain);
+            let sum = r.pick(&[0, 2]);
+            board.nodes[2] = node(2, 0, 0.0);
+            board.wires = (3..board.nodes.len()).map(|k| (k, sum)).chain((3..6).map(|k| (k, sum))).collect();
+            r.shuffle(&mut board.wires);
+        }
+        _ => board.size = r.pick(&[0, 1, 127, 128, 129, 65535]),
+    }
+    board
+}
+
 /// Words of a memory: any bits where any may stand, and values at the edge of what is judged.
 fn memory_changes(r: &mut Random, board: &Board) -> Vec<(usize, u32)> {
     let mut changes = vec![];
@@ -160,6 +190,9 @@ fn any_call(r: &mut Random, size: usize) -> Call {
 /// A case of any kind: `plate` is a board to start from, else a random one.
 pub fn any_case(r: &mut Random, plate: Option<Vec<u8>>, limits: Limits) -> Case {
     let mut board = plate.unwrap_or_else(|| {
+        if r.one_in(20) {
+            return to_bytes(&edge_board(r));
+        }
         let most = r.pick(&[9, 9, 9, 128]);
         let size = r.between(1, most);
         to_bytes(&random_board(r, &[size], limits))
