@@ -164,7 +164,11 @@ fn memory_changes(r: &mut Random, board: &Board) -> Vec<(usize, u32)> {
 }
 
 fn any_call(r: &mut Random, size: usize) -> Call {
-    let value = if r.one_in(3) { f32::from_bits(r.bits()) } else { r.unit() * 50.0 };
+    let value = match r.below(6) {
+        0 => f32::from_bits(r.bits()),
+        1 => r.pick(&[f32::INFINITY, f32::NEG_INFINITY, f32::NAN, -1.0, -0.0, 44100.0, 44100.004, -1e-45]),
+        _ => r.unit() * 50.0,
+    };
     match r.below(10) {
         0 => Call::Message(r.below(80) as u32, value),
         1 | 2 => Call::Message(r.below(14) as u32, value),

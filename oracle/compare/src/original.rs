@@ -7,6 +7,7 @@ use glicol_synth::filter::{AllPassFilterGain, OnePole};
 use glicol_synth::operator::{Add, Mul};
 use glicol_synth::oscillator::SinOsc;
 use glicol_synth::{AudioContext, AudioContextBuilder, BoxedNodeSend, Buffer, Input, Message, Node, NodeData, Pass, Sum};
+pub use glicol_synth::replaced::sine;
 use hashbrown::HashMap;
 use petgraph::graph::NodeIndex;
 
@@ -114,7 +115,9 @@ impl<const N: usize> Original for OfBoard<N> {
 /// The original plate on an input block, as a node that a graph would run.
 pub struct OfPlate<const N: usize> {
     plate: Plate<N>,
+    /// Where `inputs`, made once, points to.
     input: Box<[Buffer<N>]>,
+    inputs: HashMap<usize, Input<N>>,
     output: [Buffer<N>; 2],
 }
 
@@ -122,7 +125,9 @@ impl<const N: usize> OfPlate<N> {
     pub fn new(mix: f32) -> Self {
         let mut plate = Plate::<N>::new(mix);
         Node::<N>::send_msg(&mut plate, Message::Index(0));
-        OfPlate { plate, input: vec![Buffer::SILENT].into(), output: [Buffer::SILENT, Buffer::SILENT] }
+        let input: Box<[Buffer<N>]> = vec![Buffer::SILENT].into();
+        let inputs = [(0, Input::new(&input, 0, 0))].into_iter().collect();
+        OfPlate { plate, input, inputs, output: [Buffer::SILENT, Buffer::SILENT] }
     }
     pub fn outputs(&self) -> &[Buffer<N>; 2] {
         &self.output
@@ -132,9 +137,7 @@ impl<const N: usize> OfPlate<N> {
 impl<const N: usize> Original for OfPlate<N> {
     fn block(&mut self, input: &[f32]) {
         self.input[0].copy_from_slice(input);
-        let mut inputs = HashMap::new();
-        inputs.insert(0, Input::new(&self.input, 0, 0));
-        self.plate.process(&mut inputs, &mut self.output);
+        self.plate.process(&mut self.inputs, &mut self.output);
     }
     fn message(&mut self, node: usize, value: f32) {
         self.plate.context.send_msg(NodeIndex::new(node), Message::SetToNumber(0, value));
