@@ -11,10 +11,15 @@ found=0 missed=0
 
 # The library without an edit passes: else the run finds nothing.
 mkdir -p "$work"
-try() { # NAME: builds work/NAME and runs the comparison; 0 if no difference was seen, 1 if one was, 2 if there is no library
+# try NAME: builds work/NAME and runs the comparison. 0: it passed; 1: it saw a difference, was killed by a signal or did
+# not end in time; 2: there is no library, or the run could not be built.
+try() {
   "$root/oracle/unproved.sh" "$work/$1" "$work/$1/built" >"$work/$1/log" 2>&1 || return 2
   PLATE_LIB=$work/$1/built/libplate.a timeout 300 "$root/oracle/run.sh" boards "${BOARDS:-1000}" plate "${PLATE:-100}" \
-    seed "${SEED:-1}" >"$work/$1/said" 2>&1 && return 0
+    seed "${SEED:-1}" >"$work/$1/said" 2>&1
+  status=$?
+  [ $status -ne 0 ] || return 0
+  grep -q DIFFERENCE "$work/$1/said" || [ $status -ge 124 ] || return 2
   return 1
 }
 copy() { rm -rf "$work/$1" && mkdir -p "$work/$1" && cp -r "$sources/crates" "$sources/crates.txt" "$work/$1/"; }
@@ -37,8 +42,8 @@ EOS
   try "$name"
   case $? in
   0) missed=$((missed + 1)) && echo "$name: NOT FOUND" ;;
-  1) found=$((found + 1)) && echo "$name: found: $(grep -m1 DIFFERENCE "$work/$name/said" || tail -n1 "$work/$name/said"); $(tail -n1 "$work/$name/said" | cut -c1-140)" ;;
-  *) missed=$((missed + 1)) && echo "$name: not built, see $work/$name/log" ;;
+  1) found=$((found + 1)) && echo "$name: found: $(tail -n1 "$work/$name/said" | cut -c1-160)" ;;
+  *) missed=$((missed + 1)) && echo "$name: not built, see $work/$name/log and said" ;;
   esac
 done
 echo "$found found, $missed missed"

@@ -52,8 +52,16 @@ impl Library {
         let [out0, out1] = &mut self.out;
         unsafe {
             c::plate_block(
-                self.board.as_ptr(), self.board.len(), self.memory.as_mut_ptr(), self.memory.len(),
-                self.input.as_ptr(), self.input.len(), out0.as_mut_ptr(), out0.len(), out1.as_mut_ptr(), out1.len(),
+                self.board.as_ptr(),
+                self.board.len(),
+                self.memory.as_mut_ptr(),
+                self.memory.len(),
+                self.input.as_ptr(),
+                self.input.len(),
+                out0.as_mut_ptr(),
+                out0.len(),
+                out1.as_mut_ptr(),
+                out1.len(),
             )
         }
     }
@@ -99,7 +107,11 @@ fn agree<const N: usize>(blocks: usize) {
         for (channel, out) in [out0, out1].iter().enumerate() {
             let bytes = |block: &[f32]| block.iter().flat_map(|x| x.to_le_bytes()).collect::<Vec<u8>>();
             assert_eq!(bytes(out), library.out[channel], "N {N}, block {k}: straight-line Rust and library");
-            assert_eq!(bytes(&original.outputs()[channel]), library.out[channel], "N {N}, block {k}: original and library");
+            assert_eq!(
+                bytes(&original.outputs()[channel]),
+                library.out[channel],
+                "N {N}, block {k}: original and library"
+            );
         }
     }
 }
@@ -107,15 +119,14 @@ fn agree<const N: usize>(blocks: usize) {
 fn plates<const N: usize>(rounds: usize) {
     agree::<N>(30000 / N);
     let x = noise(N, &mut Random::new(7));
-    let (mut library, mut original, mut line) = (Library::plate(N, &x), OfPlate::<N>::new(MIX), straight::Plate::new(MIX));
+    let (mut library, mut original, mut line) =
+        (Library::plate(N, &x), OfPlate::<N>::new(MIX), straight::Plate::new(MIX));
     let (mut out0, mut out1) = (vec![0.0; N], vec![0.0; N]);
     let [theirs, ours, bound] = least(
         rounds,
         [&mut || original.block(&x), &mut || done(library.block()), &mut || line.block(&x, &mut out0, &mut out1)],
     );
-    println!(
-        "{N:>5} {theirs:>12.0} {ours:>9.0} {bound:>14.0} {:>23.2} {:>20.2}", theirs / ours, ours / bound
-    );
+    println!("{N:>5} {theirs:>12.0} {ours:>9.0} {bound:>14.0} {:>23.2} {:>20.2}", theirs / ours, ours / bound);
 }
 
 fn calls(rounds: usize) {
@@ -123,7 +134,9 @@ fn calls(rounds: usize) {
     let (mut fresh, mut mixed) = (Library::plate(128, &[0.0; 128]), Library::plate(128, &[0.0; 128]));
     let [judge, tail, fresh, mix] = least(
         rounds,
-        [&mut || done(library.judge()), &mut || done(library.tail()), &mut || done(fresh.fresh()), &mut || done(mixed.mix())],
+        [&mut || done(library.judge()), &mut || done(library.tail()), &mut || done(fresh.fresh()), &mut || {
+            done(mixed.mix())
+        }],
     );
     println!("plate, ns a call: judge {judge:.0}, tail {tail:.0}, mix message {mix:.0}, fresh {fresh:.0}");
 }
@@ -132,12 +145,8 @@ fn calls(rounds: usize) {
 /// `second` each also takes the modulation as its second source. Sines, which take nothing, go side by side into a sum,
 /// so that a sine's figure has one addition in it.
 fn chain(size: usize, record: &Node, count: usize, second: bool) -> Board {
-    let mut board = Board {
-        size,
-        input: 1,
-        nodes: vec![node(3, 0, 0.0), node(1, 0, 0.0), node(6, 0, 29.5)],
-        wires: vec![(1, 2)],
-    };
+    let mut board =
+        Board { size, input: 1, nodes: vec![node(3, 0, 0.0), node(1, 0, 0.0), node(6, 0, 29.5)], wires: vec![(1, 2)] };
     let sines = record.kind == 10;
     if sines {
         board.nodes[2] = node(2, 0, 0.0);
@@ -226,7 +235,10 @@ fn growth(rounds: usize) {
 fn main() {
     let rounds = std::env::args().nth(1).map_or(400, |text| text.parse().expect("a number of rounds"));
     println!("plate, ns a block, least of {rounds} runs");
-    println!("{:>5} {:>12} {:>9} {:>14} {:>23} {:>20}", "N", "original", "library", "straight-line", "original / library", "library / straight");
+    println!(
+        "{:>5} {:>12} {:>9} {:>14} {:>23} {:>20}",
+        "N", "original", "library", "straight-line", "original / library", "library / straight"
+    );
     plates::<128>(rounds);
     plates::<64>(rounds);
     plates::<16>(rounds);

@@ -128,7 +128,10 @@ impl Running<'_> {
             if now >= self.zero_from + self.tail as u64 {
                 seen.tails += 1;
                 if !outputs.iter().all(|output| zero(word(output, 4 * i))) {
-                    return Err(format!("output at {now} after the tail {} of input zero from {}", self.tail, self.zero_from));
+                    return Err(format!(
+                        "output at {now} after the tail {} of input zero from {}",
+                        self.tail, self.zero_from
+                    ));
                 }
             }
         }
@@ -150,7 +153,10 @@ impl Running<'_> {
                 for (channel, out) in [&out0, &out1].into_iter().enumerate() {
                     for (&bits, &x) in words(out.get()).iter().zip(original.samples(0, channel)) {
                         if !same_float(bits, x) {
-                            return Err(format!("output {channel}: the original has {x:?}, the library {:?}", f32::from_bits(bits)));
+                            return Err(format!(
+                                "output {channel}: the original has {x:?}, the library {:?}",
+                                f32::from_bits(bits)
+                            ));
                         }
                         seen.not_finite += !x.is_finite() as u64;
                     }
@@ -232,7 +238,9 @@ fn around_node(case: &Case, board: &Board, k: usize) -> Option<Case> {
 /// The case with another block size.
 fn with_size(case: &Case, board: &Board, size: usize) -> Case {
     let calls = case.calls.iter().map(|call| match call {
-        Call::Block(input, ..) if input.len() == 4 * board.size => Call::Block(input[..4 * size].to_vec(), 4 * size, 4 * size),
+        Call::Block(input, ..) if input.len() == 4 * board.size => {
+            Call::Block(input[..4 * size].to_vec(), 4 * size, 4 * size)
+        }
         other => other.clone(),
     });
     Case { board: to_bytes(&Board { size, ..board.clone() }), calls: calls.collect(), ..case.clone() }

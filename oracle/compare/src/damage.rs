@@ -21,6 +21,18 @@ fn whole_block(r: &mut Random, size: usize) -> Call {
     Call::Block(input(r, size), 4 * size, 4 * size)
 }
 
+/// An input block with an infinite or NaN sample, or of a wrong length.
+fn refused_block(r: &mut Random, size: usize) -> Call {
+    let mut block = input(r, size);
+    if r.one_in(2) {
+        let at = 4 * r.below(size);
+        block[at..at + 4].copy_from_slice(&r.pick(&[0x7f800000u32, 0xff800000, 0x7fc00000, 0x7f800001]).to_le_bytes());
+    } else {
+        block.resize(4 * size + r.pick(&[1, 4]) - 2, 0);
+    }
+    Call::Block(block, 4 * size, 4 * size)
+}
+
 /// A number message that the board accepts, if it has a node that takes one.
 fn fitting_message(r: &mut Random, board: &Board) -> Option<Call> {
     let takers: Vec<usize> = (0..board.nodes.len()).filter(|&k| board.nodes[k].takes_number()).collect();
@@ -44,6 +56,9 @@ pub fn accepted_case(r: &mut Random, sizes: &[usize], limits: Limits, blocks: us
         }
         if r.one_in(20) {
             calls.push(Call::Message(r.below(70) as u32, f32::from_bits(r.bits())));
+        }
+        if r.one_in(30) {
+            calls.push(refused_block(r, board.size));
         }
     }
     // Silence until the tail is over.
@@ -69,7 +84,7 @@ fn damage_board(r: &mut Random, board: &mut Vec<u8>) {
     }
     let start = r.pick(&starts);
     let end = (start + u16::from_le_bytes([board[start], board[start + 1]]) as usize).min(board.len()).max(start);
-    match r.below(10) {
+    match r.below(11) {
         0 => board.truncate(r.below(board.len() + 1)),
         1 => board.extend((0..r.between(1, 9)).map(|_| 0)),
         2 => drop(board.drain(start..end)),
@@ -81,7 +96,9 @@ fn damage_board(r: &mut Random, board: &mut Vec<u8>) {
         // A kind or a length.
         4 => board[start + r.below(4).min(end - start - 1)] = r.below(20) as u8,
         // A small value in some field.
-        5 if end > start + 4 => board[start + 4 + r.below(end - start - 4)] = r.pick(&[0, 1, 2, 3, 63, 64, 128, 129, 255]),
+        5 if end > start + 4 => {
+            board[start + 4 + r.below(end - start - 4)] = r.pick(&[0, 1, 2, 3, 63, 64, 128, 129, 255])
+        }
         // A float field.
         6 if end == start + 14 => board[start + 10..end].copy_from_slice(&r.bits().to_le_bytes()),
         // A line's length, at and around its limits.
@@ -89,6 +106,8 @@ fn damage_board(r: &mut Random, board: &mut Vec<u8>) {
             let n: u32 = r.pick(&[0, 1, 131071, 131072, 131073, 132299, 132300, 132301, 70000, 65536]);
             board[start + 6..start + 10].copy_from_slice(&n.to_le_bytes());
         }
+        // A wire to another node, or another input node: the counts of sources go wrong.
+        9 if end == start + 8 => board[start + 6] = r.below(12) as u8,
         // Many wires of one kind.
         8 if end == start + 8 && start > 0 => {
             let copy = board[start..end].to_vec();
@@ -106,7 +125,8 @@ fn damage_board(r: &mut Random, board: &mut Vec<u8>) {
 /// A board at, just below or just above one of the limits: lines together, nodes, wires, sources of a sum, N.
 fn edge_board(r: &mut Random) -> Board {
     let plain = node(1, 0, 0.0);
-    let mut board = Board { size: r.between(1, 3), input: 1, nodes: vec![node(3, 0, 0.0), plain.clone()], wires: vec![(1, 0)] };
+    let mut board =
+        Board { size: r.between(1, 3), input: 1, nodes: vec![node(3, 0, 0.0), plain.clone()], wires: vec![(1, 0)] };
     let over = r.between(0, 3);
     match r.below(5) {
         0 => {
@@ -154,10 +174,14 @@ fn memory_changes(r: &mut Random, board: &Board) -> Vec<(usize, u32)> {
         if r.one_in(2) && node.kind == 10 {
             changes.push((cell + 4, r.pick(&[1f32.to_bits(), 0x80000000, 0x3f7fffff, 0x3f000000, 1])));
         }
-        // Seldom a value that is refused, or nearly.
-        if r.one_in(60) {
-            let bits = r.pick(&[1, 0x80000000, 0x3f800001, 0x7f800000, 0x7fc00001, 0x472c4400, 0x472c4401, node.n, node.n.wrapping_sub(1)]);
-            changes.push((cell + 4 * r.below(3), bits));
+        // Seldom a judged value at the edge of its range.
+        if r.one_in(25) {
+            let (word, bits) = match r.below(3) {
+                0 => (0, r.pick(&[1, 0x80000000, 0x80000001, 0x7f800000, 0x7fc00001, 0x472c4400, 0x472c4401])),
+                1 => (1, r.pick(&[1, 0x80000000, 0x80000001, 0x3f800000, 0x3f800001, 0x7fc00000])),
+                _ => (2, r.pick(&[node.n, node.n.wrapping_sub(1), node.n + 1, 0x80000000])),
+            };
+            changes.push((cell + 4 * word, bits));
         }
     }
     changes

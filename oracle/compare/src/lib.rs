@@ -3,6 +3,7 @@
 pub mod boards;
 pub mod cases;
 pub mod damage;
+pub mod hash;
 pub mod library;
 pub mod model;
 pub mod original;

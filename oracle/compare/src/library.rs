@@ -23,11 +23,24 @@ pub mod c {
         pub fn plate_tail(board: *const u8, board_len: usize) -> Answer;
         pub fn plate_fresh(board: *const u8, board_len: usize, memory: *mut u8, memory_len: usize) -> Answer;
         pub fn plate_block(
-            board: *const u8, board_len: usize, memory: *mut u8, memory_len: usize, input: *const u8, input_len: usize,
-            out0: *mut u8, out0_len: usize, out1: *mut u8, out1_len: usize,
+            board: *const u8,
+            board_len: usize,
+            memory: *mut u8,
+            memory_len: usize,
+            input: *const u8,
+            input_len: usize,
+            out0: *mut u8,
+            out0_len: usize,
+            out1: *mut u8,
+            out1_len: usize,
         ) -> Answer;
         pub fn plate_message(
-            board: *const u8, board_len: usize, memory: *mut u8, memory_len: usize, node: u32, value: f32,
+            board: *const u8,
+            board_len: usize,
+            memory: *mut u8,
+            memory_len: usize,
+            node: u32,
+            value: f32,
         ) -> Answer;
         pub fn plate_mix(board: *const u8, board_len: usize, memory: *mut u8, memory_len: usize, mix: f32) -> Answer;
         pub fn plate_write(n: u32, mix: f32, board: *mut u8, board_len: usize) -> Answer;
@@ -84,8 +97,16 @@ pub fn fresh(board: &Lent, memory: &mut Lent) -> Answer {
 pub fn block(board: &Lent, memory: &mut Lent, input: &Lent, out0: &mut Lent, out1: &mut Lent) -> Answer {
     unsafe {
         c::plate_block(
-            board.pointer(), board.len, memory.pointer_mut(), memory.len, input.pointer(), input.len,
-            out0.pointer_mut(), out0.len, out1.pointer_mut(), out1.len,
+            board.pointer(),
+            board.len,
+            memory.pointer_mut(),
+            memory.len,
+            input.pointer(),
+            input.len,
+            out0.pointer_mut(),
+            out0.len,
+            out1.pointer_mut(),
+            out1.len,
         )
     }
 }

@@ -47,7 +47,11 @@ pub fn stored(x: f32) -> u32 {
 
 impl Node {
     pub fn channels(&self) -> usize {
-        if matches!(self.kind, 3 | 4) { 2 } else { 1 }
+        if matches!(self.kind, 3 | 4) {
+            2
+        } else {
+            1
+        }
     }
     pub fn line(&self) -> usize {
         match self.kind {
@@ -60,7 +64,11 @@ impl Node {
         matches!(self.kind, 5 | 6 | 8 | 10)
     }
     pub fn number_fits(&self, x: f32) -> bool {
-        if self.kind == 10 { (0.0..=44100.0).contains(&x) } else { x.is_finite() }
+        if self.kind == 10 {
+            (0.0..=44100.0).contains(&x)
+        } else {
+            x.is_finite()
+        }
     }
     /// The fields of a node record keep the type's rules.
     fn fits(&self) -> bool {
@@ -130,7 +138,11 @@ impl Board {
     pub fn late(&self) -> Vec<(usize, usize)> {
         let list = self.order();
         let place = |node| list.iter().position(|&k| k == node);
-        self.wires.iter().copied().filter(|&(s, t)| matches!((place(s), place(t)), (Some(s), Some(t)) if s >= t)).collect()
+        self.wires
+            .iter()
+            .copied()
+            .filter(|&(s, t)| matches!((place(s), place(t)), (Some(s), Some(t)) if s >= t))
+            .collect()
     }
     pub fn tail(&self) -> u32 {
         let list = self.order();

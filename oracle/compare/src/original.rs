@@ -6,8 +6,10 @@ use glicol_synth::effect::{Balance, Plate};
 use glicol_synth::filter::{AllPassFilterGain, OnePole};
 use glicol_synth::operator::{Add, Mul};
 use glicol_synth::oscillator::SinOsc;
-use glicol_synth::{AudioContext, AudioContextBuilder, BoxedNodeSend, Buffer, Input, Message, Node, NodeData, Pass, Sum};
 pub use glicol_synth::replaced::sine;
+use glicol_synth::{
+    AudioContext, AudioContextBuilder, BoxedNodeSend, Buffer, Input, Message, Node, NodeData, Pass, Sum,
+};
 use hashbrown::HashMap;
 use petgraph::graph::NodeIndex;
 

@@ -37,7 +37,8 @@ fn plate_board(size: usize, mix: f32) -> Lent {
 fn plate(size: usize, blocks: usize, r: &mut Random) {
     let mix = r.unit();
     let board = plate_board(size, mix);
-    let read = judge(board.get()).unwrap_or_else(|refused| stop(format!("DIFFERENCE: the plate is refused, {refused:?}")));
+    let read =
+        judge(board.get()).unwrap_or_else(|refused| stop(format!("DIFFERENCE: the plate is refused, {refused:?}")));
     let mut original = of_plate(size, mix).unwrap();
     if read.size != size || read.input != 2 || read.nodes.len() != 51 || read.wires != original.wires() {
         stop("DIFFERENCE: the plate's head, nodes or wires are not those of the original".into());
@@ -61,7 +62,11 @@ fn plate(size: usize, blocks: usize, r: &mut Random) {
             expect("mix", library::mix(&board, &mut memory, mix));
             original.mix(mix);
         }
-        let samples = if wild && k > blocks / 2 { input(r, size) } else { (0..size).flat_map(|_| (r.unit() * ((k / 20 % 3) as f32)).to_le_bytes()).collect() };
+        let samples = if wild && k > blocks / 2 {
+            input(r, size)
+        } else {
+            (0..size).flat_map(|_| (r.unit() * ((k / 20 % 3) as f32)).to_le_bytes()).collect()
+        };
         let lent = Lent::new(&samples);
         let (mut out0, mut out1) = (Lent::new(&samples), Lent::new(&samples));
         expect("block", library::block(&board, &mut memory, &lent, &mut out0, &mut out1));
@@ -93,17 +98,24 @@ fn numbers(r: &mut Random) {
         ("all-pass length", model::allpass_length(ms), library::allpass_length(ms)),
     ] {
         if expected != found {
-            stop(format!("DIFFERENCE: {name} of {ms:?} ms ({:08x}): expected {expected:?}, found {found:?}", ms.to_bits()));
+            stop(format!(
+                "DIFFERENCE: {name} of {ms:?} ms ({:08x}): expected {expected:?}, found {found:?}",
+                ms.to_bits()
+            ));
         }
     }
     let (n, mix) = (r.pick(&[0, 1, 2, 64, 128, 129, 65536, u32::MAX]), f32::from_bits(r.bits()));
-    let before: Vec<u8> = (0..r.pick(&[0, 4, PLATE_BYTES - 1, PLATE_BYTES, PLATE_BYTES + 1])).map(|_| r.byte()).collect();
+    let before: Vec<u8> =
+        (0..r.pick(&[0, 4, PLATE_BYTES - 1, PLATE_BYTES, PLATE_BYTES + 1])).map(|_| r.byte()).collect();
     let mut board = Lent::new(&before);
     let expected = model::write_answer(n, mix, before.len());
     let found = library::write(n, mix, &mut board);
     let kept = expected.number == 0 || board.get() == before;
     if expected != found || !kept || !board.guarded() {
-        stop(format!("DIFFERENCE: plate writer, N {n}, mix {mix:?}, {} bytes: expected {expected:?}, found {found:?}", before.len()));
+        stop(format!(
+            "DIFFERENCE: plate writer, N {n}, mix {mix:?}, {} bytes: expected {expected:?}, found {found:?}",
+            before.len()
+        ));
     }
 }
 
