@@ -14,3 +14,8 @@ pub mod Late
 pub mod Tail
 pub mod Walks
 pub mod Write
+pub mod Memory
+pub mod Calls
+pub mod Reading
+pub mod Claim
+pub mod Instance
