@@ -30,3 +30,7 @@ pub mod RoundSix
 pub mod RoundRefused
 pub mod Round
 pub mod RoundWorked
+pub mod FineBoard
+pub mod CallChecks
+pub mod CallCells
+pub mod CallFresh

@@ -15,6 +15,8 @@ pub mod Tail
 pub mod Walks
 pub mod Write
 pub mod Memory
+pub mod Fine
+pub mod Parts
 pub mod Calls
 pub mod Reading
 pub mod Claim
