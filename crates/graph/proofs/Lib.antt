@@ -34,3 +34,4 @@ pub mod FineBoard
 pub mod CallChecks
 pub mod CallCells
 pub mod CallFresh
+pub mod CallLaws
