@@ -1,6 +1,11 @@
 pub mod Iterated
 pub mod Filled
 pub mod Cells
+pub mod Totals
+pub mod Plain
+pub mod Alike
+pub mod Supplied
+pub mod Brought
 pub mod Kept
 pub mod Fresh
 pub mod Carried
@@ -9,3 +14,4 @@ pub mod HistoryFrames
 pub mod HistoryBlocks
 pub mod HistoryRules
 pub mod HistoryFits
+pub mod Rings

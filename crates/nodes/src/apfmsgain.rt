@@ -1,16 +1,18 @@
 // The all-pass filter with a gain: a ring of the last n inputs and one of the last n outputs, with
 // one place, in the cell after the samples.
 ghost use mathlib.Core.Path.{_≡_};
-ghost use Prim.Native.Nat.{_+_, _*_, _≤_, _<_};
+ghost use Prim.Native.Nat.{_+_, _*_, _%_, _≤_, _<_};
 ghost use lib.ListN.{length, getD};
 ghost use lib.Ieee.{Float};
 ghost use Rattle.leaves.specs.Words.{words};
-ghost use Rattle.nodes.specs.Rule.{allPass};
-ghost use Rattle.nodes.specs.Block.{given};
+ghost use Rattle.leaves.specs.Floats.{floatAt};
+ghost use Rattle.nodes.specs.Rule.{allPass, between};
+ghost use Rattle.nodes.specs.Block.{alone, pair, given};
 ghost use Rattle.nodes.specs.Cell.{runValues};
-use crate::kind::NodeKind;
+ghost use Rattle.nodes.specs.Ring.{stretchValues};
 use crate::delayn::stretch;
 use crate::delayn::wrap;
+use crate::kind::NodeKind;
 use leaves::bytes::put_word;
 use leaves::bytes::word_at;
 use leaves::float::load;
@@ -25,17 +27,24 @@ fn output(g: f32, x: f32, old_x: f32, old_y: f32) -> f32
     (-g * x + old_x) + g * old_y
 }
 
-// The samples from `done` on, `count` of them, in place of the inputs from value `at` on; the
-// outputs stand n values further.
+// The samples from `done` on, `count` of them, from ring place `place` on: each input goes in place
+// of the oldest, and its output n values further and into the samples.
 fn filter(
     cell: &mut [u8],
     n: usize,
-    at: usize,
+    size: usize,
+    place: usize,
     g: f32,
     x: &[f32; 128],
     done: usize,
     count: usize,
-) {
+)
+    requires { ⌜ (size ≤ 128) × (n ≤ 132300) × (done + count ≤ size) × (place + count ≤ n)
+        × (length (now cell) ≡ 4 * (3 + size + n * 2)) × (g ≡ floatAt (words (now cell)) 0) ⌝ }
+    ensures { λ _. ⌜ ((f : Float) → words (now (cell .exit))
+        ≡ stretchValues (NodeKind.AllPass n f) size (alone (now (x .entry))) place done count (words (now (cell .entry)))) ⌝ }
+{
+    let at = 3 + size + place;
     let mut i = 0;
     while i < count {
         let y = to_bits(output(g, x[done + i], load(cell, at + i), load(cell, at + n + i)));
@@ -46,78 +55,98 @@ fn filter(
     }
 }
 
-fn run(cell: &mut [u8], n: usize, size: usize, g: f32, x: &[f32; 128]) -> usize {
+// A block of one source, in stretches up to the ring's end.
+fn run(cell: &mut [u8], n: usize, size: usize, g: f32, x: &[f32; 128])
+    requires { ⌜ (size ≤ 128) × (n ≤ 132300) × (length (now cell) ≡ 4 * (3 + size + n * 2))
+        × (getD (words (now cell)) 2 0 < n) × (g ≡ floatAt (words (now cell)) 0) ⌝ }
+    ensures { λ _. ⌜ ((f : Float) → words (now (cell .exit))
+        ≡ runValues (NodeKind.AllPass n f) size (alone (now (x .entry))) (words (now (cell .entry)))) ⌝ }
+{
     let mut place = word_at(cell, 2) as usize;
     let mut done = 0;
     while done < size {
         let count = stretch(place, n, size - done);
-        filter(cell, n, 3 + size + place, g, x, done, count);
+        filter(cell, n, size, place, g, x, done, count);
         done += count;
         place = wrap(place + count, n);
     }
-    place
+    put_word(cell, 2, place as u32);
 }
 
 // The value between two neighbours of the ring that starts at value `ring`: the older has the
 // weight r.
-fn between(cell: &[u8], ring: usize, older: usize, newer: usize, r: f32) -> f32 {
+fn between(cell: &[u8], ring: usize, older: usize, newer: usize, r: f32) -> f32
+    requires { ⌜ (4 * (ring + older) + 4 ≤ length (now cell)) × (4 * (ring + newer) + 4 ≤ length (now cell)) ⌝ }
+    ensures { λ y. ⌜ y ≡ between (floatAt (words (now (cell .entry))) (ring + older)) (floatAt (words (now (cell .entry))) (ring + newer)) r ⌝ }
+{
     load(cell, ring + older) * r + load(cell, ring + newer) * (1.0 - r)
 }
 
-// place + i, wrapped at n, where place is below n and i at most n.
-fn wrapped(place: usize, i: usize, n: usize) -> usize {
-    if place < n - i { place + i } else { place - (n - i) }
+// The place of index i of the ring, counted from the oldest.
+fn wrapped(place: usize, i: usize, n: usize) -> usize
+    requires { ⌜ (place < n) × (i ≤ n) ⌝ }
+    ensures { λ r. ⌜ (r ≡ (place + i) % n) × (r < n) ⌝ }
+{
+    if place < n - i {
+        place + i
+    } else {
+        place - (n - i)
+    }
 }
 
-// One sample, where the modulation m says which neighbours are read.
-fn modulate(cell: &mut [u8], n: usize, ring: usize, place: usize, g: f32, x: f32, m: f32) -> u32 {
-    let at = modulated(m, n as u32);
-    let older = wrapped(place, at.index as usize, n);
-    let newer = wrap(older + 1, n);
-    let old_x = between(cell, ring, older, newer, at.rest);
-    let old_y = between(cell, ring + n, older, newer, at.rest);
-    let y = to_bits(output(g, x, old_x, old_y));
-    store(cell, ring + place, x);
-    put_word(cell, ring + n + place, y);
-    y
-}
-
-fn run_modulated(
+// One sample, where the second source says which neighbours are read.
+fn modulate(
     cell: &mut [u8],
     n: usize,
     size: usize,
+    place: usize,
     g: f32,
     x: &[f32; 128],
     m: &[f32; 128],
-) -> usize {
+    i: usize,
+)
+    requires { ⌜ (size ≤ 128) × (n ≤ 132300) × (i < size) × (place < n)
+        × (length (now cell) ≡ 4 * (3 + size + n * 2)) × (g ≡ floatAt (words (now cell)) 0) ⌝ }
+    ensures { λ _. ⌜ ((f : Float) → words (now (cell .exit))
+        ≡ stretchValues (NodeKind.AllPass n f) size (pair (now (x .entry)) (now (m .entry))) place i 1 (words (now (cell .entry)))) ⌝ }
+{
+    let at = modulated(m[i], n as u32);
+    let older = wrapped(place, at.index as usize, n);
+    let newer = wrap(older + 1, n);
+    let ring = 3 + size;
+    let old_x = between(cell, ring, older, newer, at.rest);
+    let old_y = between(cell, ring + n, older, newer, at.rest);
+    let y = to_bits(output(g, x[i], old_x, old_y));
+    store(cell, ring + place, x[i]);
+    put_word(cell, ring + n + place, y);
+    put_word(cell, 3 + i, y);
+}
+
+// A block of two sources, sample by sample.
+fn run_modulated(cell: &mut [u8], n: usize, size: usize, g: f32, x: &[f32; 128], m: &[f32; 128])
+    requires { ⌜ (size ≤ 128) × (n ≤ 132300) × (length (now cell) ≡ 4 * (3 + size + n * 2))
+        × (getD (words (now cell)) 2 0 < n) × (g ≡ floatAt (words (now cell)) 0) ⌝ }
+    ensures { λ _. ⌜ ((f : Float) → words (now (cell .exit))
+        ≡ runValues (NodeKind.AllPass n f) size (pair (now (x .entry)) (now (m .entry))) (words (now (cell .entry)))) ⌝ }
+{
     let mut place = word_at(cell, 2) as usize;
     let mut i = 0;
     while i < size {
-        let y = modulate(cell, n, 3 + size, place, g, x[i], m[i]);
-        put_word(cell, 3 + i, y);
+        modulate(cell, n, size, place, g, x, m, i);
         place = wrap(place + 1, n);
         i += 1;
     }
-    place
+    put_word(cell, 2, place as u32);
 }
 
-pub fn all_pass(
-    cell: &mut [u8],
-    n: usize,
-    size: usize,
-    two: bool,
-    x: &[f32; 128],
-    m: &[f32; 128],
-)
+pub fn all_pass(cell: &mut [u8], n: usize, size: usize, two: bool, x: &[f32; 128], m: &[f32; 128])
     requires { ⌜ (size ≤ 128) × (n ≤ 132300) × (length (now cell) ≡ 4 * (3 + size + n * 2)) × (getD (words (now cell)) 2 0 < n) ⌝ }
     ensures { λ _. ⌜ ((f : Float) → words (now (cell .exit)) ≡ runValues (NodeKind.AllPass n f) size (given two (now (x .entry)) (now (m .entry))) (words (now (cell .entry)))) ⌝ }
 {
     let g = load(cell, 0);
     if two {
-        let place = run_modulated(cell, n, size, g, x, m);
-        put_word(cell, 2, place as u32);
+        run_modulated(cell, n, size, g, x, m);
     } else {
-        let place = run(cell, n, size, g, x);
-        put_word(cell, 2, place as u32);
+        run(cell, n, size, g, x);
     }
 }

@@ -2,11 +2,11 @@
 // oldest. A block goes through it in stretches that end at the ring's end, so that no sample is
 // tested for the wrap.
 ghost use mathlib.Core.Path.{_≡_};
-ghost use Prim.Native.Nat.{_+_, _*_, _≤_, _<_};
+ghost use Prim.Native.Nat.{ℕ, _+_, _*_, _≤_, _<_};
 ghost use lib.ListN.{length, getD};
 ghost use lib.Ieee.{binary32, ofBits, toBits};
 ghost use Rattle.leaves.specs.Words.{words};
-ghost use Rattle.nodes.specs.Ring.{stretchOf, wrapOf};
+ghost use Rattle.nodes.specs.Ring.{stretchOf, wrapOf, stretchValues};
 ghost use Rattle.nodes.specs.Block.{alone};
 ghost use Rattle.nodes.specs.Cell.{runValues};
 use crate::kind::NodeKind;
@@ -40,8 +40,14 @@ pub fn wrap(end: usize, n: usize) -> usize
     if end < n { end } else { 0 }
 }
 
-// The samples from `done` on, `count` of them, in place of the values from `at` on, which are given.
-fn push(cell: &mut [u8], at: usize, x: &[f32; 128], done: usize, count: usize) {
+// The samples from `done` on, `count` of them, from ring place `place` on. The values that they
+// replace there are given, each as the pattern of its float.
+fn push(cell: &mut [u8], size: usize, place: usize, x: &[f32; 128], done: usize, count: usize)
+    requires { ⌜ (size ≤ 128) × (done + count ≤ size) × (4 * (3 + size + (place + count)) ≤ length (now cell)) ⌝ }
+    ensures { λ _. ⌜ ((n : ℕ) → length (now (cell .entry)) ≡ 4 * (3 + size + n)
+        → words (now (cell .exit)) ≡ stretchValues (NodeKind.Delay n) size (alone (now (x .entry))) place done count (words (now (cell .entry)))) ⌝ }
+{
+    let at = 3 + size + place;
     let mut i = 0;
     while i < count {
         let old = word_at(cell, at + i);
@@ -59,7 +65,7 @@ pub fn delay(cell: &mut [u8], n: usize, size: usize, x: &[f32; 128])
     let mut done = 0;
     while done < size {
         let count = stretch(place, n, size - done);
-        push(cell, 3 + size + place, x, done, count);
+        push(cell, size, place, x, done, count);
         done += count;
         place = wrap(place + count, n);
     }

@@ -1,0 +1,189 @@
+-- `nodes::apfmsgain::filter` meets its contract: after i turns the values are those after i samples. Assumes nothing.
+use mathlib.Core.Path.{_≡_, refl, sym, ap, _∙_}
+use mathlib.Core.List.{List}
+use Prim.Native.Nat.{ℕ, _+_, _≤_, _<_, _-_}
+use native.Mathlib.Omega.{arith}
+use lib.ListN.{length, set}
+use lib.Ieee.{Float, binary32, ofBits, toBits}
+use Rattle.leaves.specs.Words.{words, length-words}
+use Rattle.leaves.specs.Floats.{floatAt}
+use Rattle.nodes.specs.Kind.{cellSize}
+use Rattle.nodes.specs.Rule.{allPass}
+use Rattle.nodes.specs.Block.{sample, alone}
+use Rattle.nodes.specs.Ring.{stretchValues}
+use Rattle.nodes.specs.declared.kind.NodeKind.the-variants.{AllPass}
+use Rattle.nodes.proofs.Rings.{all-pass-ring, stretch-none, float-at, tap-one, all-pass-reads, all-pass-then}
+use Rattle.nodes.proofs.apfmsgain.filter.Statement.{statement}
+use Rattle.nodes.proofs.apfmsgain.filter.Tie as tie
+
+abbrev Inv-loop : tie.InvT-loop
+Inv-loop cell₀ n size place g x done count at i₀ cell i =
+    (i ≤ count) × (length cell ≡ length cell₀)
+    × ((f : Float) → words cell ≡ stretchValues (AllPass n f) size (alone x) place done i (words cell₀))
+
+abbrev μ-loop : tie.MeasureT-loop
+μ-loop cell₀ n size place g x done count at i₀ cell i = count - i
+
+-- a turn: what it reads, its output and its three stores
+turn : (n size place done i : ℕ) (f : Float) (x : List Float) (ws vs us ts rs : List ℕ) (g a b o : Float) (y : ℕ)
+    → vs ≡ stretchValues (AllPass n f) size (alone x) place done i ws
+    → a ≡ floatAt vs (3 + size + place + i)
+    → b ≡ floatAt vs (3 + size + place + n + i)
+    → o ≡ allPass g (sample x (done + i)) a b
+    → y ≡ toBits binary32 o
+    → us ≡ set vs (3 + size + place + i) (toBits binary32 (sample x (done + i)))
+    → ts ≡ set us (3 + size + place + n + i) y
+    → rs ≡ set ts (3 + done + i) y
+    → g ≡ floatAt ws 0 → length ws ≡ cellSize size (AllPass n f) → place + i < n → done + i < size
+    → rs ≡ stretchValues (AllPass n f) size (alone x) place done (i + 1) ws
+turn n size place done i f x ws vs us ts rs g a b o y e e-a e-b e-o e-y e-us e-ts e-rs e-g long in-ring in-block =
+    all-pass-then n f size (alone x) ws place done i (done + i) _ y _ _ _ vs us ts rs e e-us e-ts e-rs refl (λ q c h v.
+    let below : c .state .place < n = omega (arith, h .place) in
+    let old-x = e-a ∙ float-at size q c (h .samples) vs v (0 + c .state .place) _ (omega (arith, h .place)) ∙ tap-one n 0 (c .state) (alone x (done + i)) refl below in
+    let old-y = e-b ∙ float-at size q c (h .samples) vs v (n + c .state .place) _ (omega (arith, h .place)) ∙ tap-one n n (c .state) (alone x (done + i)) refl below in
+    e-y
+    ∙ ap (toBits binary32)
+    (e-o ∙ all-pass-reads n f (c .state) (alone x (done + i)) g a b (e-g ∙ ap (ofBits binary32) (sym (h .number))) old-x old-y))
+    long in-ring in-block refl (omega arith) (omega arith) (omega arith)
+
+add-at : tie.Need-add-at Inv-loop μ-loop
+add-at c = omega arith
+
+add-at-2 : tie.Need-add-at-2 Inv-loop μ-loop
+add-at-2 c = omega arith
+
+loop-holds : tie.Need-loop-holds Inv-loop μ-loop
+loop-holds c =
+    (omega arith, refl, λ f. stretch-none (AllPass _ f) _ (all-pass-ring _ f) _ _ _ (omega (arith, length-words (c .before .args .cell .now))) _ _)
+
+add-output : tie.Need-add-output Inv-loop μ-loop
+add-output c = omega arith
+
+mul-output : tie.Need-mul-output Inv-loop μ-loop
+mul-output c = omega arith
+
+element-copy-out-output : tie.Need-element-copy-out-output Inv-loop μ-loop
+element-copy-out-output c = omega arith
+
+add-load : tie.Need-add-load Inv-loop μ-loop
+add-load c = omega arith
+
+load-requires : tie.Need-load-requires Inv-loop μ-loop
+load-requires c κs = omega arith
+
+add-load-2 : tie.Need-add-load-2 Inv-loop μ-loop
+add-load-2 c = omega arith
+
+add-load-3 : tie.Need-add-load-3 Inv-loop μ-loop
+add-load-3 c = omega arith
+
+load-requires-2 : tie.Need-load-requires-2 Inv-loop μ-loop
+load-requires-2 c κs = omega arith
+
+output-requires : tie.Need-output-requires Inv-loop μ-loop
+output-requires c κs = tt
+
+to-bits-requires : tie.Need-to-bits-requires Inv-loop μ-loop
+to-bits-requires c κs = tt
+
+add-store : tie.Need-add-store Inv-loop μ-loop
+add-store c = omega arith
+
+add-store-2 : tie.Need-add-store-2 Inv-loop μ-loop
+add-store-2 c = omega arith
+
+mul-store : tie.Need-mul-store Inv-loop μ-loop
+mul-store c = omega arith
+
+element-copy-out-store : tie.Need-element-copy-out-store Inv-loop μ-loop
+element-copy-out-store c = omega arith
+
+store-requires : tie.Need-store-requires Inv-loop μ-loop
+store-requires c κs = omega arith
+
+add-put-word : tie.Need-add-put-word Inv-loop μ-loop
+add-put-word c = omega arith
+
+add-put-word-2 : tie.Need-add-put-word-2 Inv-loop μ-loop
+add-put-word-2 c = omega arith
+
+put-word-requires : tie.Need-put-word-requires Inv-loop μ-loop
+put-word-requires c κs = omega arith
+
+add-put-word-3 : tie.Need-add-put-word-3 Inv-loop μ-loop
+add-put-word-3 c = omega arith
+
+add-put-word-4 : tie.Need-add-put-word-4 Inv-loop μ-loop
+add-put-word-4 c = omega arith
+
+put-word-requires-2 : tie.Need-put-word-requires-2 Inv-loop μ-loop
+put-word-requires-2 c κs = omega arith
+
+add-i : tie.Need-add-i Inv-loop μ-loop
+add-i c = omega arith
+
+loop-less : tie.Need-loop-less Inv-loop μ-loop
+loop-less c = omega arith
+
+loop-again : tie.Need-loop-again Inv-loop μ-loop
+loop-again c =
+    let p = c .before .before .before .before .before .before in
+    let t = p .before .before .before .before in
+    let r = t .before .before .before in
+    let u = r .before .before .before .before .before .before .before in
+    let l = u .before in
+    let a = l .before .before .args in (
+      omega (arith, u),
+      omega (arith, u),
+      λ f.
+          turn (a .n) (a .size) (a .place) (a .done) (l .loop .i) f (a .x .now) (words (a .cell .now)) _ _ _ _ _ _ _ _ _ (l .loop .inv .2 f)
+          (r .before .before .before .before .load .ensures) (r .before .before .load2 .ensures) (r .before .output .ensures) (r .to-bits .ensures)
+          (t .store .ensures) (p .put-word .ensures) (c .before .before .put-word2 .ensures)
+          (l .before .before .pre .5) (omega (arith, length-words (a .cell .now), u)) (omega (arith, u)) (omega (arith, u)),
+    )
+
+same-length : tie.Need-same-length Inv-loop μ-loop
+same-length c = omega arith
+
+returns : tie.Need-returns Inv-loop μ-loop
+returns c f =
+    let l = c .before .loop in
+    let a = c .before .before .before .args in
+    let done : l .i ≡ a .count = omega arith in
+    l .inv .2 f ∙ ap (λ (j : ℕ). stretchValues (AllPass (a .n) f) (a .size) (alone (a .x .now)) (a .place) (a .done) j (words (a .cell .now))) done
+
+pub filter-spec : {M : Type 1} → statement M
+filter-spec =
+    tie.close
+    (tie.spec
+    Inv-loop
+    μ-loop
+    add-at
+    add-at-2
+    loop-holds
+    add-output
+    mul-output
+    element-copy-out-output
+    add-load
+    load-requires
+    add-load-2
+    add-load-3
+    load-requires-2
+    output-requires
+    to-bits-requires
+    add-store
+    add-store-2
+    mul-store
+    element-copy-out-store
+    store-requires
+    add-put-word
+    add-put-word-2
+    put-word-requires
+    add-put-word-3
+    add-put-word-4
+    put-word-requires-2
+    add-i
+    loop-less
+    loop-again
+    same-length
+    returns)

@@ -1,0 +1,182 @@
+-- `nodes::apfmsgain::modulate` meets its contract: the neighbours that it reads are those of the rule. Assumes nothing.
+use mathlib.Core.Path.{_≡_, refl, sym, ap, _∙_}
+use mathlib.Core.List.{List}
+use Prim.Native.Nat.{ℕ, _+_, _%_, _≤_, _<_}
+use native.Mathlib.Omega.{arith}
+use lib.ListN.{length, set}
+use lib.Ieee.{Float, binary32, ofBits, toBits}
+use Rattle.leaves.specs.Words.{words, length-words}
+use Rattle.leaves.specs.Floats.{floatAt}
+use Rattle.leaves.specs.Floors.{floorOf}
+use Rattle.leaves.specs.Position.{positionOf, restOf}
+use Rattle.nodes.specs.Kind.{cellSize}
+use Rattle.nodes.specs.Rule.{allPass, between, tap, get}
+use Rattle.nodes.specs.Block.{sample, pair}
+use Rattle.nodes.specs.Ring.{wrapOf, stretchValues}
+use Rattle.nodes.specs.declared.kind.NodeKind.the-variants.{AllPass}
+use Rattle.nodes.proofs.Rings.{wrap-below, all-pass-ring, stretch-none, float-at, tap-two, all-pass-reads, all-pass-then}
+use borrow.Author.Needs.{needs}
+use Rattle.nodes.proofs.apfmsgain.modulate.Statement.{statement}
+use Rattle.nodes.proofs.apfmsgain.modulate.Tie as tie
+
+-- the sample: what it reads, its output and its three stores
+sample-by : (n size place i : ℕ) (f : Float) (x m : List Float) (ws us ts rs : List ℕ) (g a b o rest : Float) (index older newer y : ℕ)
+    → (index ≡ floorOf (positionOf (sample m i) n)) × (rest ≡ restOf (positionOf (sample m i) n)) × (index ≤ n)
+    → (older ≡ (place + index) % n) × (older < n)
+    → newer ≡ wrapOf (older + 1) n
+    → a ≡ between (floatAt ws (3 + size + older)) (floatAt ws (3 + size + newer)) rest
+    → b ≡ between (floatAt ws (3 + size + n + older)) (floatAt ws (3 + size + n + newer)) rest
+    → o ≡ allPass g (sample x i) a b
+    → y ≡ toBits binary32 o
+    → us ≡ set ws (3 + size + place) (toBits binary32 (sample x i))
+    → ts ≡ set us (3 + size + n + place) y
+    → rs ≡ set ts (3 + i) y
+    → g ≡ floatAt ws 0 → length ws ≡ cellSize size (AllPass n f) → place < n → i < size
+    → rs ≡ stretchValues (AllPass n f) size (pair x m) place i 1 ws
+sample-by n size place i f x m ws us ts rs g a b o rest index older newer y e-at e-older e-newer e-a e-b e-o e-y e-us e-ts e-rs e-g long in-ring in-block =
+    all-pass-then n f size (pair x m) ws place i 0 i _ y _ _ _ ws us ts rs (stretch-none (AllPass n f) n (all-pass-ring n f) size (pair x m) ws long place i)
+    e-us e-ts e-rs refl (λ q c h v.
+    let s = c .state in
+    let here : place ≡ s .place = omega (arith, h .place) in
+    let read : (from at : ℕ) (z : Float) → at ≡ 3 + size + from
+    → z ≡ between (floatAt ws (at + older)) (floatAt ws (at + newer)) rest → z ≡ tap n (pair x m i) (get n from s) =
+    λ from at z e-from e-z.
+    e-z
+    ∙ (λ t. between (float-at size q c (h .samples) ws v (from + older) (at + older) (omega arith) t)
+    (float-at size q c (h .samples) ws v (from + newer) (at + newer) (omega arith) t) rest)
+    ∙ tap-two n from s (pair x m i) index older newer rest refl (e-at .0) (e-at .1) (e-older .0 ∙ ap (λ (p : ℕ). (p + index) % n) here)
+    e-newer (e-older .1) in
+    e-y
+    ∙ ap (toBits binary32)
+    (e-o ∙ all-pass-reads n f s (pair x m i) g a b (e-g ∙ ap (ofBits binary32) (sym (h .number)))
+    (read 0 (3 + size) a (omega arith) e-a) (read n (3 + size + n) b refl e-b)))
+    long (omega arith) in-block (omega arith) (omega arith) (omega arith) refl
+
+mul-modulated : tie.Need-mul-modulated
+mul-modulated c = search needs
+
+element-copy-out-modulated : tie.Need-element-copy-out-modulated
+element-copy-out-modulated c = search needs
+
+cast-modulated : tie.Need-cast-modulated
+cast-modulated c = search needs
+
+modulated-requires : tie.Need-modulated-requires
+modulated-requires c κs = search needs
+
+cast-wrapped : tie.Need-cast-wrapped
+cast-wrapped c = search needs
+
+wrapped-requires : tie.Need-wrapped-requires
+wrapped-requires c κs = search needs
+
+add-wrap : tie.Need-add-wrap
+add-wrap c = search needs
+
+wrap-requires : tie.Need-wrap-requires
+wrap-requires c κs = search needs
+
+add-ring : tie.Need-add-ring
+add-ring c = search needs
+
+between-requires : tie.Need-between-requires
+between-requires c κs =
+    let a = c .before .before .before .before .before .before .before .args in
+    let newer = wrap-below (a .n) (c .before .before .wrapped .result + 1) (omega arith) in
+    (omega arith, omega (arith, c .before .wrap .ensures, newer))
+
+add-between : tie.Need-add-between
+add-between c = search needs
+
+between-requires-2 : tie.Need-between-requires-2
+between-requires-2 c κs =
+    let a = c .before .before .before .before .before .before .before .before .before .args in
+    let newer = wrap-below (a .n) (c .before .before .before .before .wrapped .result + 1) (omega arith) in
+    (omega arith, omega (arith, c .before .before .before .wrap .ensures, newer))
+
+mul-output : tie.Need-mul-output
+mul-output c = search needs
+
+element-copy-out-output : tie.Need-element-copy-out-output
+element-copy-out-output c = search needs
+
+output-requires : tie.Need-output-requires
+output-requires c κs = search needs
+
+to-bits-requires : tie.Need-to-bits-requires
+to-bits-requires c κs = search needs
+
+add-store : tie.Need-add-store
+add-store c = search needs
+
+mul-store : tie.Need-mul-store
+mul-store c = search needs
+
+element-copy-out-store : tie.Need-element-copy-out-store
+element-copy-out-store c = search needs
+
+store-requires : tie.Need-store-requires
+store-requires c κs = search needs
+
+add-put-word : tie.Need-add-put-word
+add-put-word c = search needs
+
+add-put-word-2 : tie.Need-add-put-word-2
+add-put-word-2 c = search needs
+
+put-word-requires : tie.Need-put-word-requires
+put-word-requires c κs = search needs
+
+add-put-word-3 : tie.Need-add-put-word-3
+add-put-word-3 c = search needs
+
+put-word-requires-2 : tie.Need-put-word-requires-2
+put-word-requires-2 c κs = search needs
+
+same-length : tie.Need-same-length
+same-length c = search needs
+
+returns : tie.Need-returns
+returns c f =
+    let p = c .before .before .before .before .before .before in
+    let t = p .before .before .before .before in
+    let r = t .before .before .before in
+    let w = r .before .before .before .before .before .before .before in
+    let s = w .before .before .before .before .before .before in
+    let a = s .args in
+    sample-by (a .n) (a .size) (a .place) (a .i) f (a .x .now) (a .m .now) (words (a .cell .now)) _ _ _ _ _ _ _ _ _ _ _ _ (w .before .before .before .modulated .ensures)
+    (w .before .wrapped .ensures) (w .wrap .ensures) (r .before .before .before .before .before .between .ensures) (r .before .before .before .between2 .ensures)
+    (r .before .output .ensures) (r .to-bits .ensures) (t .store .ensures) (p .put-word .ensures) (c .before .before .put-word2 .ensures)
+    (s .pre .5) (omega (arith, length-words (a .cell .now), s)) (omega (arith, s)) (omega (arith, s))
+
+pub modulate-spec : {M : Type 1} → statement M
+modulate-spec =
+    tie.close
+    (tie.spec
+    mul-modulated
+    element-copy-out-modulated
+    cast-modulated
+    modulated-requires
+    cast-wrapped
+    wrapped-requires
+    add-wrap
+    wrap-requires
+    add-ring
+    between-requires
+    add-between
+    between-requires-2
+    mul-output
+    element-copy-out-output
+    output-requires
+    to-bits-requires
+    add-store
+    mul-store
+    element-copy-out-store
+    store-requires
+    add-put-word
+    add-put-word-2
+    put-word-requires
+    add-put-word-3
+    put-word-requires-2
+    same-length
+    returns)
