@@ -139,6 +139,8 @@ fn run_modulated(cell: &mut [u8], n: usize, size: usize, g: f32, x: &[f32; 128],
     put_word(cell, 2, place as u32);
 }
 
+// A block of the source x, or with two sources of x and the modulation m. The gain is the cell's
+// number.
 pub fn all_pass(cell: &mut [u8], n: usize, size: usize, two: bool, x: &[f32; 128], m: &[f32; 128])
     requires { ⌜ (size ≤ 128) × (n ≤ 132300) × (length (now cell) ≡ 4 * (3 + size + n * 2)) × (getD (words (now cell)) 2 0 < n) ⌝ }
     ensures { λ _. ⌜ ((f : Float) → words (now (cell .exit)) ≡ runValues (NodeKind.AllPass n f) size (given two (now (x .entry)) (now (m .entry))) (words (now (cell .entry)))) ⌝ }

@@ -57,6 +57,7 @@ fn push(cell: &mut [u8], size: usize, place: usize, x: &[f32; 128], done: usize,
     }
 }
 
+// A block through the delay, in stretches up to the ring's end; the place is stored at the end.
 pub fn delay(cell: &mut [u8], n: usize, size: usize, x: &[f32; 128])
     requires { ⌜ (size ≤ 128) × (n ≤ 132300) × (length (now cell) ≡ 4 * (3 + size + n)) × (getD (words (now cell)) 2 0 < n) ⌝ }
     ensures { λ _. ⌜ words (now (cell .exit)) ≡ runValues (NodeKind.Delay n) size (alone (now (x .entry))) (words (now (cell .entry))) ⌝ }
