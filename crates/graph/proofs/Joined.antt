@@ -1,5 +1,5 @@
 -- The parts of the reading one after the other: where one is refused the whole is, and all of them give the board. Assumes nothing.
-use Prim.Native.Nat.{ℕ, suc, _+_, _*_, _≤_, _<_}
+use Prim.Native.Nat.{ℕ, suc, _+_, _≤_, _<_}
 use mathlib.Core.Path.{_≡_, refl, sym, ap, _∙_}
 use mathlib.Core.List.{List}
 use native.Mathlib.Nat.{suc-add}
@@ -11,7 +11,7 @@ use Rattle.nodes.specs.declared.kind.NodeRecord.{NodeRecord}
 use Rattle.graph.specs.Record.{foundAt}
 use Rattle.graph.specs.Sources.{Tabled}
 use Rattle.graph.specs.Wires.{wiresOf}
-use Rattle.graph.specs.Board.{Parsed, Reading, going, refused, whole, headed, headBy, endBy, takeFound, stepOf, run, readRecords}
+use Rattle.graph.specs.Board.{Parsed, Reading, going, refused, whole, headed, endBy, takeFound, stepOf, run, readRecords}
 use Rattle.graph.specs.Phases.{orRefused, noded, madeOf, HeadRead, NodesRead, WiresRead}
 use Rattle.graph.specs.Read.{Sound, Read}
 use Rattle.graph.specs.declared.answer.Answer.{Answer}

@@ -35,3 +35,7 @@ pub mod CallChecks
 pub mod CallCells
 pub mod CallFresh
 pub mod CallLaws
+pub mod Ending
+pub mod Formed
+pub mod Accepted
+pub mod JudgeCases

@@ -13,7 +13,7 @@ use Rattle.nodes.specs.declared.kind.NodeRecord.{NodeRecord}
 use Rattle.reading.specs.Order.{Wire}
 use Rattle.graph.specs.Answer.{answer}
 use Rattle.graph.specs.Record.{foundAt}
-use Rattle.graph.specs.Board.{Parsed, Reading, going, refused, headed, linesOf, cellsOf, withNode, endBy, stepOf, run}
+use Rattle.graph.specs.Board.{Parsed, going, refused, headed, linesOf, cellsOf, endBy, stepOf, run}
 use Rattle.graph.specs.Wires.{wiresOf}
 use Rattle.graph.specs.Phases.{orRefused, noded, wired, nodeRead, wireRead, NodesRead, WiresRead, Within}
 use Rattle.graph.specs.declared.answer.Answer.{Answer}

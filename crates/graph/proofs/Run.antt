@@ -1,11 +1,11 @@
 -- Steps of the reading one after the other, and a reading that is done. Assumes nothing.
 use Prim.Native.Nat.{ℕ, zero, suc, _+_, _-_, _≤_}
-use mathlib.Core.Path.{_≡_, refl, sym, ap, _∙_}
+use mathlib.Core.Path.{_≡_, refl, ap, _∙_}
 use mathlib.Core.List.{List}
 use native.Mathlib.Nat.{zero-add, suc-add}
 use native.Mathlib.Omega.{arith}
 use lib.ListN.{length}
-use Rattle.graph.specs.Board.{Parsed, Reading, going, refused, whole, headed, stepOf, run, readRecords}
+use Rattle.graph.specs.Board.{Reading, going, refused, whole, headed, stepOf, run, readRecords}
 
 abbrev pub Done : Reading → Type 0
 Done (going at last p) = ⊥
@@ -33,7 +33,7 @@ module _ (s : List ℕ) where
   run-next (suc n) r = run-next n (stepOf s r)
 
   -- a reading that is done stays as it is
-  run-done : (n : ℕ) (r : Reading) → Done r → run n s r ≡ r
+  pub run-done : (n : ℕ) (r : Reading) → Done r → run n s r ≡ r
   unfolding run stepOf
   run-done zero r d = refl
   run-done (suc n) (going at last p) d = absurd d

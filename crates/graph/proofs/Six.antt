@@ -85,12 +85,12 @@ none-nine (x ∷ xs) =
 
 -- ---- the node at an index
 
-pass-getD : (l : List NodeRecord) (i : ℕ) (d : NodeRecord) → i < length l → passAt l i ≡ isPass ((getD l i d) .kind)
+pub pass-getD : (l : List NodeRecord) (i : ℕ) (d : NodeRecord) → i < length l → passAt l i ≡ isPass ((getD l i d) .kind)
 pass-getD [] i d h = absurd (omega arith)
 pass-getD (r ∷ l) zero d h = refl
 pass-getD (r ∷ l) (suc i) d h = pass-getD l i d (omega arith)
 
-pass-past : (l : List NodeRecord) (i : ℕ) → length l ≤ i → passAt l i ≡ false
+pub pass-past : (l : List NodeRecord) (i : ℕ) → length l ≤ i → passAt l i ≡ false
 pass-past [] i h = refl
 pass-past (r ∷ l) zero h = absurd (omega arith)
 pass-past (r ∷ l) (suc i) h = pass-past l i (omega arith)

@@ -4,7 +4,6 @@ use mathlib.Core.Path.{_≡_, refl, sym, ap, subst, _∙_}
 use mathlib.Core.List.{List, [], _∷_, _++_}
 use mathlib.Core.Bool.{Bool, true, false, cond, _||_, or-false, or-assoc}
 use native.Mathlib.Decide.{ℕ-discrete}
-use native.Mathlib.Nat.{le-refl}
 use native.Mathlib.Omega.{arith}
 use borrow.Author.Tests.{ltb-true, ltb-false, eqb-true, eqb-false, eq-eqb, ne-eqb}
 use lib.ListN.{length, getD, take, set, replicate, length-append, length-set, getD-replicate, List·getD-append}

@@ -21,3 +21,4 @@ pub mod Calls
 pub mod Reading
 pub mod Claim
 pub mod Instance
+pub mod Formed

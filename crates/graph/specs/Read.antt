@@ -1,5 +1,5 @@
 -- The board as the code holds it, in arrays, and the reading that it stands for. Definitions only.
-use Prim.Native.Nat.{ℕ, _≤_, _<_}
+use Prim.Native.Nat.{_≤_, _<_}
 use mathlib.Core.Path.{_≡_}
 use lib.ListN.{length, take}
 use Rattle.graph.specs.Board.{Parsed, Reading, whole, cellsOf}

@@ -1,8 +1,6 @@
 // The record at an offset of the board's bytes: a cut record is refused first, then its kind, then
 // its length.
 ghost use mathlib.Core.Path.{_≡_};
-ghost use Prim.Native.Nat.{_≤_};
-ghost use lib.ListN.{length};
 ghost use Rattle.graph.specs.Record.{inOrder, sized, foundOf, foundAt};
 use leaves::bytes::u16_at;
 

@@ -1,7 +1,6 @@
 // Each node's sources, gathered from the wires in one pass.
 ghost use mathlib.Core.Path.{_≡_};
 ghost use Prim.Native.Nat.{_+_, _≤_};
-ghost use lib.ListN.{length};
 ghost use Rattle.graph.specs.Sources.{Tabled};
 ghost use Rattle.graph.specs.Gather.{among, countWith, listWith, secondWith};
 ghost use Rattle.graph.specs.Phases.{Within};

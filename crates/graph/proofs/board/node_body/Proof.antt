@@ -1,10 +1,10 @@
 -- `graph::board::node_body` meets its contract: the fields are those of the definition, and each arm knows the rule. Assumes nothing.
-use mathlib.Core.Path.{_≡_, sym, ap, _∙_}
+use mathlib.Core.Path.{_≡_, _∙_}
 use Prim.Native.Nat.{_+_}
 use denote.Ref.{now}
 use Rattle.leaves.specs.Bytes.{u16At, u32At}
 use Rattle.nodes.specs.Kind.{ruleOf}
-use Rattle.graph.specs.Phases.{nodeBody, nodeRead}
+use Rattle.graph.specs.Phases.{nodeRead}
 use borrow.Author.Needs.{needs}
 use Rattle.graph.proofs.board.node_body.Statement.{statement}
 use Rattle.graph.proofs.board.node_body.Tie as tie

@@ -1,5 +1,4 @@
 -- `graph::board::read_end` meets its contract: each arm knows whether bytes follow. Assumes nothing.
-use mathlib.Core.Path.{_∙_}
 use native.Mathlib.Omega.{arith}
 use borrow.Author.Tests.{eq-eqb, ne-eqb}
 use Rattle.graph.specs.Board.{whole}

@@ -1,6 +1,5 @@
 -- `graph::judge::input_fits` meets its contract: the node read is the list's, and the table counts its sources. Assumes nothing.
 use Prim.Native.Nat.{_<_, _≤_}
-use mathlib.Core.Path.{_≡_, sym}
 use native.Mathlib.Omega.{arith}
 use borrow.Author.Needs.{needs}
 use lib.ListN.{length}

@@ -1,5 +1,4 @@
 -- `graph::judge::judged` meets its contract: each arm knows the test that the definition makes there. Assumes nothing.
-use Prim.Native.Nat.{_≤_}
 use mathlib.Core.Path.{_≡_, sym, _∙_}
 use native.Mathlib.Omega.{arith}
 use lib.ListN.{length, take}

@@ -1,0 +1,51 @@
+-- Boards that antt judges by computing the definitions: document 01's printed board, cut, with a byte more, and changed. Assumes nothing.
+use Prim.Native.Nat.{ℕ}
+use mathlib.Core.Path.{_≡_, refl}
+use mathlib.Core.List.{List, [], _∷_, _++_}
+use lib.ListN.{take, set}
+use Rattle.nodes.specs.Kind.{ruleOf}
+use Rattle.graph.specs.Answer.{answer}
+use Rattle.graph.specs.Record.{foundOf, foundAt}
+use Rattle.graph.specs.Sources.{distinct}
+use Rattle.graph.specs.Board.{takeFound, stepOf, run, readRecords}
+use Rattle.graph.specs.Judge.{checkSources, readBoard, judgeOf}
+
+-- N 2, input 1; destination, pass, add 0, delay 1, mul 0.5; wires 1→2, 2→3, 3→4, 4→2, 3→0
+abbrev pub printed : List ℕ
+printed =
+    8 ∷ 0 ∷ 1 ∷ 0 ∷ 2 ∷ 0 ∷ 1 ∷ 0
+    ∷ 14 ∷ 0 ∷ 2 ∷ 0 ∷ 3 ∷ 0 ∷ 0 ∷ 0 ∷ 0 ∷ 0 ∷ 0 ∷ 0 ∷ 0 ∷ 0
+    ∷ 14 ∷ 0 ∷ 2 ∷ 0 ∷ 1 ∷ 0 ∷ 0 ∷ 0 ∷ 0 ∷ 0 ∷ 0 ∷ 0 ∷ 0 ∷ 0
+    ∷ 14 ∷ 0 ∷ 2 ∷ 0 ∷ 6 ∷ 0 ∷ 0 ∷ 0 ∷ 0 ∷ 0 ∷ 0 ∷ 0 ∷ 0 ∷ 0
+    ∷ 14 ∷ 0 ∷ 2 ∷ 0 ∷ 7 ∷ 0 ∷ 1 ∷ 0 ∷ 0 ∷ 0 ∷ 0 ∷ 0 ∷ 0 ∷ 0
+    ∷ 14 ∷ 0 ∷ 2 ∷ 0 ∷ 5 ∷ 0 ∷ 0 ∷ 0 ∷ 0 ∷ 0 ∷ 0 ∷ 0 ∷ 0 ∷ 63
+    ∷ 8 ∷ 0 ∷ 3 ∷ 0 ∷ 1 ∷ 0 ∷ 2 ∷ 0
+    ∷ 8 ∷ 0 ∷ 3 ∷ 0 ∷ 2 ∷ 0 ∷ 3 ∷ 0
+    ∷ 8 ∷ 0 ∷ 3 ∷ 0 ∷ 3 ∷ 0 ∷ 4 ∷ 0
+    ∷ 8 ∷ 0 ∷ 3 ∷ 0 ∷ 4 ∷ 0 ∷ 2 ∷ 0
+    ∷ 8 ∷ 0 ∷ 3 ∷ 0 ∷ 3 ∷ 0 ∷ 0 ∷ 0
+    ∷ 4 ∷ 0 ∷ 4 ∷ 0 ∷ []
+
+pub printed-judged : judgeOf printed ≡ answer 0 112
+unfolding judgeOf readBoard readRecords run stepOf takeFound foundAt foundOf ruleOf checkSources distinct
+printed-judged = refl
+
+-- the last byte is missing: the end record, at offset 118, is cut
+pub printed-cut : judgeOf (take 121 printed) ≡ answer 1 118
+unfolding judgeOf readBoard readRecords run stepOf takeFound foundAt foundOf ruleOf checkSources distinct
+printed-cut = refl
+
+-- a byte after the end
+pub printed-more : judgeOf (printed ++ (0 ∷ [])) ≡ answer 1 122
+unfolding judgeOf readBoard readRecords run stepOf takeFound foundAt foundOf ruleOf checkSources distinct
+printed-more = refl
+
+-- N 129
+pub printed-129 : judgeOf (set printed 4 129) ≡ answer 3 0
+unfolding judgeOf readBoard readRecords run stepOf takeFound foundAt foundOf ruleOf checkSources distinct
+printed-129 = refl
+
+-- the first wire, at offset 78, from node 2 to itself
+pub printed-self : judgeOf (set printed 82 2) ≡ answer 5 78
+unfolding judgeOf readBoard readRecords run stepOf takeFound foundAt foundOf ruleOf checkSources distinct
+printed-self = refl
