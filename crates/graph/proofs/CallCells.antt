@@ -2,12 +2,12 @@
 --     cell-in, cell-apart    a node's cell lies within the memory, and behind the cells of the nodes before it
 --     cells-in               the same of the judged values, in the code's arrays
 -- Assumes nothing.
-use Prim.Native.Nat.{ℕ, zero, suc, _+_, _*_, _≤_, _<_}
-use mathlib.Core.Path.{_≡_, sym, ap, _∙_}
-use mathlib.Core.List.{List, [], _∷_}
+use Prim.Native.Nat.{ℕ, _+_, _*_, _≤_, _<_}
+use mathlib.Core.Path.{_≡_, ap}
+use mathlib.Core.List.{List}
 use native.Mathlib.Omega.{arith}
-use lib.ListN.{length, getD, take}
-use lib.Seq.{getD-take, length-take-le, take-length}
+use lib.ListN.{length, take}
+use lib.Seq.{getD-take, take-length}
 use Rattle.nodes.specs.Kind.{cellSize}
 use Rattle.nodes.specs.declared.kind.NodeRecord.{NodeRecord}
 use Rattle.graph.specs.Board.{Parsed, cellsOf}
@@ -16,22 +16,8 @@ use Rattle.graph.specs.Read.{parsedOf, Sound}
 use Rattle.graph.specs.Fine.{Fine}
 use Rattle.graph.specs.Parts.{nodeIn, CellsIn}
 use Rattle.graph.specs.declared.board.Board.{Board}
+use Rattle.graph.proofs.Accepted.{cells-apart}
 use Rattle.graph.proofs.Six.{blank, counted}
-
--- ---- sums of the first nodes' cells
-
-module _ (N : ℕ) where
-  cells-suc : (ns : List NodeRecord) (k : ℕ) → k < length ns → cellsOf N (take (suc k) ns) ≡ cellsOf N (take k ns) + cellSize N (nodeIn ns k .kind)
-  cells-suc [] k h = absurd (omega arith)
-  cells-suc (r ∷ ns) zero h = omega arith
-  cells-suc (r ∷ ns) (suc k) h = omega (arith, cells-suc ns k (omega arith))
-
-  cells-more : (ns : List NodeRecord) (j k : ℕ) → j ≤ k → cellsOf N (take j ns) ≤ cellsOf N (take k ns)
-  cells-more ns zero k h = omega arith
-  cells-more [] (suc j) zero h = omega arith
-  cells-more [] (suc j) (suc k) h = omega arith
-  cells-more (r ∷ ns) (suc j) zero h = absurd (omega arith)
-  cells-more (r ∷ ns) (suc j) (suc k) h = omega (arith, cells-more ns j k (omega arith))
 
 -- ---- the cells of a fine board
 
@@ -39,12 +25,12 @@ module _ (p : Parsed) (fine : Fine p) where
   pub cell-apart : (j k : ℕ) → j < k → k < length (p .nodes) → nodeAt p j .cell + cellSize (p .size) (kindAt p j) ≤ nodeAt p k .cell
   cell-apart j k before there =
       let here : j < length (p .nodes) = omega arith in
-      omega (arith, fine .nodes j here .cell, fine .nodes k there .cell, cells-suc (p .size) (p .nodes) j here, cells-more (p .size) (p .nodes) (suc j) k (omega arith))
+      omega (arith, fine .nodes j here .cell, fine .nodes k there .cell, cells-apart (p .size) (p .nodes) blank j k before (omega arith))
 
   pub cell-in : (k : ℕ) → k < length (p .nodes) → nodeAt p k .cell + cellSize (p .size) (kindAt p k) ≤ cellsOf (p .size) (p .nodes)
   cell-in k there =
       let all : cellsOf (p .size) (take (length (p .nodes)) (p .nodes)) ≡ cellsOf (p .size) (p .nodes) = ap (cellsOf (p .size)) (take-length (p .nodes)) in
-      omega (arith, fine .nodes k there .cell, cells-suc (p .size) (p .nodes) k there, cells-more (p .size) (p .nodes) (suc k) (length (p .nodes)) (omega arith))
+      omega (arith, fine .nodes k there .cell, cells-apart (p .size) (p .nodes) blank k (length (p .nodes)) there (omega arith))
 
 -- ---- in the code's arrays
 

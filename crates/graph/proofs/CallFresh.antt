@@ -23,7 +23,7 @@ use Rattle.nodes.specs.declared.kind.NodeKind.{NodeKind}
 use Rattle.nodes.specs.declared.kind.NodeRecord.{NodeRecord}
 use Rattle.nodes.proofs.Fresh.{fresh-long}
 use Rattle.graph.specs.Answer.{answer}
-use Rattle.graph.specs.Board.{Parsed, Reading, whole, cellsOf, memoryLength}
+use Rattle.graph.specs.Board.{Parsed, Reading, cellsOf, memoryLength}
 use Rattle.graph.specs.Judge.{readBoard}
 use Rattle.graph.specs.Memory.{passed, freshFrom, freshValues}
 use Rattle.graph.specs.Calls.{checkNeeded, checkLength, freshBy, freshOf}
@@ -32,7 +32,7 @@ use Rattle.graph.specs.Fine.{Fine}
 use Rattle.graph.specs.Parts.{nodeIn, putNumbers}
 use Rattle.graph.specs.declared.answer.Answer.{Answer}
 use Rattle.graph.specs.declared.board.Board.{Board}
-use Rattle.graph.proofs.Answers.{or-accepts, or-refuses}
+use Rattle.graph.proofs.Accepted.{refused-board, accepted-board}
 use Rattle.graph.proofs.FineBoard.{fine-board}
 use Rattle.graph.proofs.Six.{blank, node-here}
 use Rattle.graph.proofs.CallChecks.{none-left}
@@ -109,14 +109,11 @@ as-pair a n r e = (ap (λ (x : Answer × List ℕ). x .0) (sym e), ap (λ (x : A
 module _ (s m : List ℕ) (b : Board) (read : Read (readBoard s) b) where
   pub fresh-refused : (b .refused .number ≡ 0 → ⊥) → IsFresh s m (b .refused) m
   unfolding freshOf
-  fresh-refused h = as-pair (b .refused) m _ (ap (λ (v : Reading). freshBy v m) (read .reading ∙ or-refuses (b .refused) (whole (parsedOf b)) h))
+  fresh-refused h = as-pair (b .refused) m _ (ap (λ (v : Reading). freshBy v m) (refused-board s b read h))
 
   module _ (accepted : b .refused .number ≡ 0) where
     abbrev p : Parsed
     p = parsedOf b
-
-    pub board-whole : readBoard s ≡ whole (parsedOf b)
-    board-whole = read .reading ∙ or-accepts (b .refused) (whole (parsedOf b)) accepted
 
     -- the code's number of values is the board's
     needed : 4 * b .values ≡ memoryLength p
@@ -128,14 +125,14 @@ module _ (s m : List ℕ) (b : Board) (read : Read (readBoard s) b) where
         let same : a ≡ checkLength p m = e ∙ ap (λ (n : ℕ). checkNeeded n (length m)) needed in
         let other : checkLength p m .number ≡ 0 → ⊥ = λ z. h (ap (λ (x : Answer). x .number) same ∙ z) in
         as-pair a m _
-        (ap (λ (v : Reading). freshBy v m) board-whole
+        (ap (λ (v : Reading). freshBy v m) (accepted-board s b read accepted)
         ∙ ap (λ (q : Bool). (checkLength p m, cond q (unwords (freshValues p)) m)) (ne-eqb (checkLength p m .number) 0 other)
         ∙ ap (λ (x : Answer). (x, m)) (sym same))
 
     fresh-whole : length m ≡ memoryLength p → freshOf s m ≡ (passed, unwords (freshValues p))
     unfolding freshOf
     fresh-whole h =
-        ap (λ (v : Reading). freshBy v m) board-whole
+        ap (λ (v : Reading). freshBy v m) (accepted-board s b read accepted)
         ∙ ap (λ (q : Bool). (cond q passed (answer 7 (memoryLength p)), cond (eqb ((cond q passed (answer 7 (memoryLength p))) .number) 0) (unwords (freshValues p)) m))
         (eq-eqb (length m) (memoryLength p) h)
 
@@ -145,6 +142,6 @@ module _ (s m : List ℕ) (b : Board) (read : Read (readBoard s) b) where
     fresh-written bytes long n kept small e a ok =
         let values : ℕ = cellsOf (p .size) (p .nodes) in
         let zeros : words (replicate (length m) 0) ≡ replicate values 0 = ap (λ (k : ℕ). words (replicate k 0)) (long ∙ needed) ∙ words-zeros values in
-        let fresh : words n ≡ freshValues p = e ∙ ap (putNumbers (p .nodes)) zeros ∙ numbers-fresh p (fine-board s bytes p board-whole) in
+        let fresh : words n ≡ freshValues p = e ∙ ap (putNumbers (p .nodes)) zeros ∙ numbers-fresh p (fine-board s bytes p (accepted-board s b read accepted)) in
         let bytes-are : n ≡ unwords (freshValues p) = unwords-words n (b .values) (kept ∙ long) small ∙ ap unwords fresh in
         as-pair a n _ (fresh-whole (long ∙ needed) ∙ (λ i. (sym ok i, sym bytes-are i)))

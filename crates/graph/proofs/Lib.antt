@@ -35,6 +35,9 @@ pub mod CallChecks
 pub mod CallCells
 pub mod CallFresh
 pub mod CallLaws
+pub mod CallStarts
+pub mod CallRun
+pub mod CallBlock
 pub mod Ending
 pub mod Formed
 pub mod Accepted

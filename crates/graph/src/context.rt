@@ -7,19 +7,23 @@ ghost use lib.ListN.{length, getD, take, drop, replicate};
 ghost use lib.Seq.{paste};
 ghost use Rattle.leaves.specs.Words.{words};
 ghost use Rattle.graph.specs.Answer.{answer};
-ghost use Rattle.graph.specs.Memory.{passed, checkCells};
-ghost use Rattle.graph.specs.Calls.{andThen, checkNeeded, checkLength, checkMemory, checkSizes, checkSamples, freshOf};
+ghost use Rattle.graph.specs.Memory.{leftStart, rightStart, checkCells, runNodes};
+ghost use Rattle.graph.specs.Calls.{andThen, checkNeeded, checkLength, checkMemory, checkSizes, checkSamples, asFound, listed, freshOf, blockOf};
 ghost use Rattle.graph.specs.Read.{parsedOf, Sound};
 ghost use Rattle.graph.specs.Fine.{Fine};
-ghost use Rattle.graph.specs.Parts.{CellsIn, putNumbers};
+ghost use Rattle.graph.specs.Parts.{CellsIn, Placed, Starts, Runs, putNumbers};
 use crate::answer::Answer;
 use crate::board::Board;
+use crate::graph::Order;
+use crate::graph::visiting_list;
 use crate::judge::read_board;
+use crate::sources::wide;
 use leaves::bytes::word_at;
 use leaves::float::store;
 use nodes::cell::cell_fits;
 use nodes::cell::number_of;
 use nodes::kind::NodeRecord;
+use nodes::node::step;
 
 // ---- checks
 
@@ -152,5 +156,108 @@ pub fn fresh(s: &[u8], memory: &mut [u8]) -> Answer
     clear(memory);
     let nodes = board.nodes;
     put_numbers(nodes, board.count, memory);
+    Answer::new(0, 0)
+}
+
+// ---- the block run
+
+// The bytes of `from` from `start` on into `to` from `at` on, `count` of them.
+fn copy(from: &[u8], start: usize, to: &mut [u8], at: usize, count: usize)
+    requires { ⌜ (start + count ≤ length (now from)) × (at + count ≤ length (now to)) ⌝ }
+    ensures { λ _. ⌜ now (to .exit) ≡ paste (now (to .entry)) at (drop start (now (from .entry))) count ⌝ }
+{
+    let mut i = 0;
+    while i < count {
+        to[at + i] = from[start + i];
+        i += 1;
+    }
+}
+
+// Where each node's channel 0 starts.
+fn left_starts(nodes: [NodeRecord; 64], count: usize) -> [usize; 64]
+    requires { ⌜ (length nodes ≡ 64) × (count ≤ 64) × Placed nodes count ⌝ }
+    ensures { λ r. ⌜ ((size : ℕ) → Starts (leftStart size) nodes count r) ⌝ }
+{
+    let mut at = [0usize; 64];
+    let mut i = 0;
+    while i < count {
+        let node = nodes[i];
+        at[i] = node.cell + 3;
+        i += 1;
+    }
+    at
+}
+
+// Where what the destination's channel 1 reads of each node starts.
+fn right_starts(nodes: [NodeRecord; 64], count: usize, size: usize) -> [usize; 64]
+    requires { ⌜ (length nodes ≡ 64) × (count ≤ 64) × (size ≤ 128) × Placed nodes count ⌝ }
+    ensures { λ r. ⌜ Starts (rightStart size) nodes count r ⌝ }
+{
+    let mut at = [0usize; 64];
+    let mut i = 0;
+    while i < count {
+        let node = nodes[i];
+        at[i] = node.cell + 3 + size * (node.channels - 1);
+        i += 1;
+    }
+    at
+}
+
+// The listed nodes, in order.
+fn run(board: Board, order: Order, memory: &mut [u8])
+    requires { ⌜ Runs board order (now memory) ⌝ }
+    ensures { λ _. ⌜ words (now (memory .exit)) ≡ runNodes (parsedOf board) (listed (parsedOf board)) (words (now (memory .entry))) ⌝ }
+{
+    let nodes = board.nodes;
+    let counts = board.counts;
+    let lists = board.lists;
+    let seconds = board.seconds;
+    let listed = order.nodes;
+    let lefts = left_starts(nodes, board.count);
+    let rights = right_starts(nodes, board.count, board.size);
+    let mut x = [0.0f32; 128];
+    let mut m = [0.0f32; 128];
+    let mut i = 0;
+    while i < order.count {
+        let k = wide(listed[i]);
+        let from = 8 * k;
+        let to = from + wide(counts[k]);
+        let second = wide(seconds[k]);
+        let node = nodes[k];
+        step(memory, board.size, node, &lists[from..to], second, &lefts, &rights, &mut x, &mut m);
+        i += 1;
+    }
+}
+
+// The input block into the input node's samples, listed or not; the listed nodes in order; node 0's
+// two channels out.
+pub fn block(
+    s: &[u8],
+    memory: &mut [u8],
+    input: &[u8],
+    out0: &mut [u8],
+    out1: &mut [u8],
+) -> Answer
+    ensures { λ r. ⌜ asFound r (now (memory .exit)) (now (out0 .exit)) (now (out1 .exit))
+        ≡ blockOf (now (s .entry)) (now (memory .entry)) (now (input .entry)) (now (out0 .entry)) (now (out1 .entry)) ⌝ }
+{
+    let board = read_board(s);
+    let refused = board.refused;
+    if refused.number != 0 {
+        return refused;
+    }
+    let judged = block_judged(board, memory, input, out0.len(), out1.len());
+    if judged.number != 0 {
+        return judged;
+    }
+    let size = board.size;
+    let k = board.input;
+    let node = board.nodes[k];
+    copy(input, 0, memory, 4 * (node.cell + 3), 4 * size);
+    let counts = board.counts;
+    let lists = board.lists;
+    run(board, visiting_list(&counts, &lists), memory);
+    copy(memory, 12, out0, 0, 4 * size);
+    copy(memory, 12 + 4 * size, out1, 0, 4 * size);
     Answer::new(0, 0)
 }

@@ -8,10 +8,11 @@ use Rattle.leaves.specs.Words.{words}
 use Rattle.graph.specs.Parts.{putNumbers}
 use borrow.Author.Needs.{needs}
 use Rattle.graph.specs.declared.answer.Answer.{Answer}
+use Rattle.graph.proofs.Accepted.{accepted-board}
 use Rattle.graph.proofs.FineBoard.{fine-board}
 use Rattle.graph.proofs.CallCells.{cells-in}
 use Rattle.graph.proofs.CallChecks.{needed-long}
-use Rattle.graph.proofs.CallFresh.{board-whole, fresh-refused, fresh-lacking, fresh-written}
+use Rattle.graph.proofs.CallFresh.{fresh-refused, fresh-lacking, fresh-written}
 use Rattle.graph.proofs.context.fresh.Statement.{statement}
 use Rattle.graph.proofs.context.fresh.Tie as tie
 
@@ -63,7 +64,7 @@ put-numbers-requires c κs =
     let board = (reading cleared) .read-board in
     let sound = board .ensures .sound in
     let s = (start cleared) .args .s .now in
-    let fine = fine-board s (board-bytes cleared) _ (board-whole s (start cleared .args .memory .now) (board .result) (board .ensures) (accepted cleared)) in
+    let fine = fine-board s (board-bytes cleared) _ (accepted-board s (board .result) (board .ensures) (accepted cleared)) in
     (sound .nodes-long, sound .few-nodes, cells-in (board .result) sound fine (cleared .clear .last .0) (cleared .clear .kept .0 ∙ long cleared))
 
 new-requires : tie.Need-new-requires
