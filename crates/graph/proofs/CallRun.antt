@@ -3,15 +3,17 @@
 --     listed-ordered    listed nodes are the board's
 --     turn-ready        what a node's block run asks
 --     turn-run          that it is the definition's
+--     Running           the run under way: running-none, running-more, running-end
 -- Assumes nothing.
 use Prim.Native.Nat.{ℕ, zero, suc, _+_, _-_, _*_, _≤_, _<_}
 use mathlib.Core.Path.{_≡_, refl, sym, ap, subst, _∙_}
 use mathlib.Core.Bool.{true}
 use mathlib.Core.List.{List, [], _∷_, map}
+use native.Mathlib.Numerals.{add-one}
 use native.Mathlib.Omega.{arith}
 use lib.Dec.{eqb}
-use lib.ListN.{length, getD, take, drop, length-drop}
-use lib.Seq.{getD-take, getD-drop, length-take-le, ext-getD}
+use lib.ListN.{length, getD, take, drop, length-drop, drop-of-length-le}
+use lib.Seq.{getD-take, getD-drop, drop-cons, length-take-le, ext-getD}
 use Rattle.leaves.specs.Words.{words, length-words}
 use Rattle.leaves.specs.Floats.{floatAt}
 use Rattle.nodes.specs.Kind.{channelsOf, cellSize}
@@ -26,19 +28,21 @@ use Rattle.reading.specs.Order.{sources}
 use Rattle.reading.proofs.Table.{mem-head, or-right, map-agree}
 use Rattle.graph.specs.Board.{Parsed, cellsOf}
 use Rattle.graph.specs.Sources.{distinctSources, secondSource}
-use Rattle.graph.specs.Memory.{nodeAt, kindAt, leftStart, rightStart, lefts, rights, broughtBy, runNode}
+use Rattle.graph.specs.Memory.{nodeAt, kindAt, leftStart, rightStart, lefts, rights, broughtBy, runNode, runNodes}
 use Rattle.graph.specs.Calls.{listed}
 use Rattle.graph.specs.Read.{parsedOf, Sound}
 use Rattle.graph.specs.Listed.{SourcesBelow}
 use Rattle.graph.specs.Fine.{Fine}
 use Rattle.graph.specs.Formed.{TableAt}
-use Rattle.graph.specs.Parts.{nodeIn, NodePlaced, Placed, Starts}
+use Rattle.graph.specs.Parts.{nodeIn, NodePlaced, Placed, Starts, Runs}
+use Rattle.graph.specs.declared.answer.Answer.{Answer}
 use Rattle.graph.specs.declared.board.Board.{Board}
+use Rattle.graph.specs.declared.graph.Order.{Order}
 use Rattle.graph.proofs.Listed.{lists-reached}
 use Rattle.graph.proofs.RoundSources.{mem-distinct}
 use Rattle.graph.proofs.Wired.{sources-below}
 use Rattle.graph.proofs.CallCells.{cell-in, node-in, count-nodes}
-use Rattle.graph.proofs.CallLaws.{Judged, Ordered}
+use Rattle.graph.proofs.CallLaws.{Judged, Ordered, passed-judged, node-judged}
 
 -- ---- the samples of a cell
 
@@ -73,6 +77,11 @@ mapped-at : (f : NodeRecord → ℕ) (l : List NodeRecord) (k : ℕ) → k < len
 mapped-at f [] k h = absurd (omega arith)
 mapped-at f (r ∷ l) zero h = refl
 mapped-at f (r ∷ l) (suc k) h = mapped-at f l k (omega arith)
+
+at-mem : (l : List ℕ) (j : ℕ) → j < length l → mem (getD l j 0) l ≡ true
+at-mem [] j h = absurd (omega arith)
+at-mem (x ∷ l) zero h = mem-head x l
+at-mem (x ∷ l) (suc j) h = or-right (eqb (getD l j 0) x) (at-mem l j (omega arith))
 
 -- ---- the board in arrays
 
@@ -210,3 +219,67 @@ module _ (b : Board) (sound : Sound b) (fine : Fine (parsedOf b)) where
                 second-below = omega (arith, second-low, sound .few-nodes);
                 second-in = omega (arith, start-is (leftStart N) at₀ left-starts second second-low, left-fits second (node-there second second-low), cell-in p fine second (node-there second second-low));
               })
+
+-- ---- the run under way
+
+-- after i of the listed nodes the memory m₀ has become m: every cell fits, and the nodes that are left make of m what all make of m₀
+pub record Running (b : Board) (o : Order) (m₀ m : List ℕ) (i : ℕ) : Type 0 where
+  pub few : i ≤ o .count
+  pub kept : length m ≡ length m₀
+  pub judged : Judged (parsedOf b) (words m)
+  pub left : runNodes (parsedOf b) (drop i (listed (parsedOf b))) (words m) ≡ runNodes (parsedOf b) (listed (parsedOf b)) (words m₀)
+
+module _ (b : Board) (o : Order) (m₀ : List ℕ) (runs : Runs b o m₀) where
+  abbrev nodes : List ℕ
+  nodes = listed (parsedOf b)
+
+  pub running-none : Running b o m₀ m₀ 0
+  running-none = record {
+    few = omega arith;
+    kept = refl;
+    judged = passed-judged (parsedOf b) (words m₀) (ap (λ (a : Answer). a .number) (runs .judged));
+    left = refl;
+  }
+
+  nodes-long : length nodes ≡ o .count
+  nodes-long = ap length (sym (runs .lists .same)) ∙ length-take-le (o .count) (o .nodes) (omega (arith, runs .lists .size, runs .lists .fits))
+
+  pub running-end : (m : List ℕ) (i : ℕ) → o .count ≤ i → Running b o m₀ m i → words m ≡ runNodes (parsedOf b) (listed (parsedOf b)) (words m₀)
+  unfolding runNodes
+  running-end m i all run =
+      let past : length nodes ≤ i = omega (arith, nodes-long) in
+      let none : drop i nodes ≡ [] = drop-of-length-le nodes past in
+      ap (λ (l : List ℕ). runNodes (parsedOf b) l (words m)) (sym none) ∙ run .left
+
+  module _ (i : ℕ) (more : i < o .count) where
+    abbrev k : ℕ
+    k = getD (o .nodes) i 0
+
+    node-is : getD nodes i 0 ≡ getD (o .nodes) i 0
+    node-is = ap (λ (l : List ℕ). getD l i 0) (sym (runs .lists .same)) ∙ getD-take (o .count) (o .nodes) i 0 more
+
+    next : drop i nodes ≡ k ∷ drop (suc i) nodes
+    next = drop-cons nodes i 0 (omega (arith, nodes-long)) ∙ ap (λ (n : ℕ). n ∷ drop (suc i) nodes) node-is
+
+    pub node-listed : getD (o .nodes) i 0 < b .count
+    node-listed =
+        let member : mem k nodes ≡ true = ap (λ (n : ℕ). mem n nodes) (sym node-is) ∙ at-mem nodes i (omega (arith, nodes-long)) in
+        omega (arith, listed-ordered b (runs .sound) (runs .fine) k member, count-nodes b (runs .sound))
+
+    pub running-more : (m m′ : List ℕ) → Running b o m₀ m i → length m′ ≡ length m → words m′ ≡ runNode (parsedOf b) (getD (o .nodes) i 0) (words m)
+        → Running b o m₀ m′ (i + 1)
+    unfolding runNodes
+    running-more m m′ run long ran =
+        let p = parsedOf b in
+        let there : k < length (p .nodes) = omega (arith, node-listed, count-nodes b (runs .sound)) in
+        let size : length (words m) ≡ cellsOf (p .size) (p .nodes) = omega (arith, length-words m, run .kept, runs .long) in
+        record {
+          few = omega arith;
+          kept = long ∙ run .kept;
+          judged = rw ran (node-judged p (runs .fine) (words m) size k there (run .judged));
+          left =
+              rw add-one
+              (ap (runNodes p (drop (suc i) nodes)) ran
+              ∙ ap (λ (l : List ℕ). runNodes p l (words m)) (sym next)
+              ∙ run .left);
+        }

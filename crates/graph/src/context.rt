@@ -224,20 +224,24 @@ fn run(board: Board, order: Order, memory: &mut [u8])
         let to = from + wide(counts[k]);
         let second = wide(seconds[k]);
         let node = nodes[k];
-        step(memory, board.size, node, &lists[from..to], second, &lefts, &rights, &mut x, &mut m);
+        step(
+            memory,
+            board.size,
+            node,
+            &lists[from..to],
+            second,
+            &lefts,
+            &rights,
+            &mut x,
+            &mut m,
+        );
         i += 1;
     }
 }
 
 // The input block into the input node's samples, listed or not; the listed nodes in order; node 0's
 // two channels out.
-pub fn block(
-    s: &[u8],
-    memory: &mut [u8],
-    input: &[u8],
-    out0: &mut [u8],
-    out1: &mut [u8],
-) -> Answer
+pub fn block(s: &[u8], memory: &mut [u8], input: &[u8], out0: &mut [u8], out1: &mut [u8]) -> Answer
     ensures { λ r. ⌜ asFound r (now (memory .exit)) (now (out0 .exit)) (now (out1 .exit))
         ≡ blockOf (now (s .entry)) (now (memory .entry)) (now (input .entry)) (now (out0 .entry)) (now (out1 .entry)) ⌝ }
 {

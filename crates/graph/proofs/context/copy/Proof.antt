@@ -44,9 +44,9 @@ loop-again c =
     let here : getD (args .from .now) (args .start + at .i) 0 ≡ getD src (at .i) 0 = sym (getD-drop (args .start) (args .from .now) (at .i) 0) in (
       omega arith,
       ap (λ (l : List ℕ). set l (args .at + at .i) (getD (args .from .now) (args .start + at .i) 0)) (at .inv .1)
-      ∙ ap (set (paste (args .to .now) (args .at) src (at .i)) (args .at + at .i)) here
-      ∙ paste-suc (args .to .now) (args .at) src (at .i) 0 (omega arith) (omega (arith, length-drop (args .start) (args .from .now)))
-      ∙ ap (paste (args .to .now) (args .at) src) (sym (add-one (at .i))),
+          ∙ ap (set (paste (args .to .now) (args .at) src (at .i)) (args .at + at .i)) here
+          ∙ paste-suc (args .to .now) (args .at) src (at .i) 0 (omega arith) (omega (arith, length-drop (args .start) (args .from .now)))
+          ∙ ap (paste (args .to .now) (args .at) src) (sym (add-one (at .i))),
       length-set (at .to) _ _ ∙ at .inv .2,
     )
 
