@@ -1,9 +1,9 @@
--- The block run on the board as the code holds it, case by case, and its parts on bytes.
---     words-paste       the words of bytes with a part replaced
---     copied-whole      a copy that fills its place
---     block-refused, block-lacking, block-ran    the call
+-- The block run on the board as the code holds it, case by case.
+--     block-refused     the board is refused
+--     block-lacking     the memory or a block is
+--     block-ran         the bytes after an accepted call
 -- Assumes nothing.
-use Prim.Native.Nat.{ℕ, _+_, _*_, _≤_, _<_}
+use Prim.Native.Nat.{ℕ, _+_, _*_, _≤_}
 use mathlib.Core.Path.{_≡_, refl, sym, ap, _∙_}
 use mathlib.Core.Bool.{Bool, cond}
 use mathlib.Core.List.{List, [], _++_, append-nil}
@@ -11,30 +11,17 @@ use native.Mathlib.Omega.{arith}
 use borrow.Author.Tests.{ne-eqb}
 use lib.Dec.{eqb}
 use lib.ListN.{length, take, drop, length-drop}
-use lib.Seq.{paste, length-paste, length-take-le, length-paste-head, drop-length}
-use Rattle.leaves.specs.Words.{words, unwords, words-append, words-take, words-drop, unwords-words, Bytes}
+use lib.Seq.{paste, length-paste, drop-length}
+use Rattle.leaves.specs.Words.{words, unwords, unwords-words, Bytes}
 use Rattle.leaves.specs.Parts.{part, words-part}
-use Rattle.nodes.specs.declared.kind.NodeRecord.{NodeRecord}
-use Rattle.graph.specs.Board.{Parsed, Reading, whole, cellsOf, memoryLength}
+use Rattle.graph.specs.Board.{Parsed, Reading, cellsOf, memoryLength}
 use Rattle.graph.specs.Judge.{readBoard}
-use Rattle.graph.specs.Memory.{passed, nodeAt, runNodes, putInput, runBlock}
-use Rattle.graph.specs.Calls.{Left, asFound, andThen, checkLength, checkMemory, checkSizes, checkSamples, checkBlock, ranBlock, blockBy, blockIn, blockOf, listed}
+use Rattle.graph.specs.Memory.{passed, runBlock}
+use Rattle.graph.specs.Calls.{asFound, checkBlock, ranBlock, blockBy, blockIn, blockOf, listed}
 use Rattle.graph.specs.Read.{parsedOf, Read}
-use Rattle.graph.specs.Fine.{Fine}
 use Rattle.graph.specs.declared.answer.Answer.{Answer}
 use Rattle.graph.specs.declared.board.Board.{Board}
 use Rattle.graph.proofs.Accepted.{accepted-board, refused-board}
-
--- ---- bytes
-
-pub words-paste : (m x : List ℕ) (a k : ℕ) → 4 * (a + k) ≤ length m → 4 * k ≤ length x → words (paste m (4 * a) x (4 * k)) ≡ paste (words m) a (words x) k
-words-paste m x a k inside enough =
-    let end : 4 * a + 4 * k ≡ 4 * (a + k) = omega arith in
-    words-append (take (4 * a) m ++ take (4 * k) x) (drop (4 * a + 4 * k) m) (a + k) (length-paste-head m (4 * a) x (4 * k) (omega arith) enough ∙ end)
-    ∙ ap (λ (l : List ℕ). l ++ words (drop (4 * a + 4 * k) m)) (words-append (take (4 * a) m) (take (4 * k) x) a (length-take-le (4 * a) m (omega arith)))
-    ∙ ap (λ (l : List ℕ). l ++ words (take (4 * k) x) ++ words (drop (4 * a + 4 * k) m)) (words-take m a)
-    ∙ ap (λ (l : List ℕ). take a (words m) ++ l ++ words (drop (4 * a + 4 * k) m)) (words-take x k)
-    ∙ ap (λ (l : List ℕ). take a (words m) ++ take k (words x) ++ l) (ap (λ (n : ℕ). words (drop n m)) end ∙ words-drop m (a + k))
 
 -- a copy over the whole of a slice
 copied-whole : (d s : List ℕ) (n : ℕ) → length d ≡ n → paste d 0 s n ≡ take n s
@@ -42,8 +29,6 @@ copied-whole d s n e =
     let all : 0 + n ≡ length d = omega arith in
     let none : drop (0 + n) d ≡ [] = ap (λ (k : ℕ). drop k d) all ∙ drop-length d in
     ap (λ (l : List ℕ). take n s ++ l) none ∙ append-nil (take n s)
-
--- ---- the call
 
 module _ (s m x l r : List ℕ) (b : Board) (read : Read (readBoard s) b) where
   pub block-refused : (b .refused .number ≡ 0 → ⊥) → asFound (b .refused) m l r ≡ blockOf s m x l r

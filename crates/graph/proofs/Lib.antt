@@ -37,6 +37,7 @@ pub mod CallFresh
 pub mod CallLaws
 pub mod CallStarts
 pub mod CallRun
+pub mod CallAccepted
 pub mod CallBlock
 pub mod Ending
 pub mod Formed
