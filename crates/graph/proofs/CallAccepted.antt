@@ -2,7 +2,7 @@
 --     words-paste       the words of bytes with a part replaced
 --     Checked, block-checked    what the checks behind 6 say where they pass
 --     board-table, board-gathered    the sources as the visiting list asks for them
---     input-room, output-room    the blocks lie within the memory
+--     AcceptedRun       an accepted call; few-bytes, input-room, output-room: its memory is small, and the blocks lie within it
 --     input-put, input-runs    the input block put, and what the run of the listed nodes then asks
 -- Assumes nothing.
 use Prim.Native.Nat.{ℕ, _+_, _*_, _≤_, _<_}
@@ -64,6 +64,8 @@ block-checked p m x l r ok =
       right-long = sizes .2;
     }
 
+-- ---- the board
+
 module _ (s : List ℕ) (b : Board) (read : Read (readBoard s) b) (accepted : b .refused .number ≡ 0) where
   -- the sources, as the visiting list asks for them
   pub board-table : Table (b .counts) (b .lists)
@@ -78,52 +80,64 @@ module _ (s : List ℕ) (b : Board) (read : Read (readBoard s) b) (accepted : b 
     source = λ v j h l. table-at s b read accepted v h .source-is j l;
   }
 
-  module _ (fine : Fine (parsedOf b)) (m x l r : List ℕ) (checked : Checked (parsedOf b) m x l r) where
-    abbrev p : Parsed
-    p = parsedOf b
+-- ---- the call
 
-    abbrev start : ℕ
-    start = nodeIn (b .nodes) (b .input) .cell + 3
+-- the board is read whole, and the checks behind 6 pass
+pub record AcceptedRun (s m x l r : List ℕ) (b : Board) : Type 0 where
+  pub read : Read (readBoard s) b
+  pub accepted : b .refused .number ≡ 0
+  pub fine : Fine (parsedOf b)
+  pub passes : checkBlock (parsedOf b) m x l r .number ≡ 0
 
-    there : b .input < b .count
-    there = omega (arith, fine .input-there, count-nodes b (read .sound))
+module _ {s m x l r : List ℕ} {b : Board} (run : AcceptedRun s m x l r b) where
+  pub checked : Checked (parsedOf b) m x l r
+  checked = block-checked (parsedOf b) m x l r (run .passes)
 
-    -- the input node is a pass
-    input-cell : nodeAt p (p .input) .cell + (3 + b .size) ≤ cellsOf (b .size) (p .nodes)
-    input-cell =
-        let size : cellSize (b .size) (kindAt p (p .input)) ≡ 3 + b .size = ap (cellSize (b .size)) (fine .input-pass) ∙ omega arith in
-        omega (arith, cell-in p fine (p .input) (fine .input-there))
+  abbrev start : ℕ
+  start = nodeIn (b .nodes) (b .input) .cell + 3
 
-    start-is : nodeAt p (p .input) .cell + 3 ≡ start
-    start-is = ap (λ (n : NodeRecord). n .cell + 3) (node-in b (read .sound) (b .input) there)
+  there : b .input < b .count
+  there = omega (arith, run .fine .input-there, count-nodes b (run .read .sound))
 
-    pub input-room : 4 * (nodeIn (b .nodes) (b .input) .cell + 3) + 4 * b .size ≤ length m
-    input-room = omega (arith, input-cell, start-is, checked .long)
+  -- the input node is a pass
+  input-cell : nodeAt (parsedOf b) (b .input) .cell + (3 + b .size) ≤ cellsOf (b .size) (parsedOf b .nodes)
+  input-cell =
+      let size : cellSize (b .size) (kindAt (parsedOf b) (b .input)) ≡ 3 + b .size = ap (cellSize (b .size)) (run .fine .input-pass) ∙ omega arith in
+      omega (arith, cell-in (parsedOf b) (run .fine) (b .input) (run .fine .input-there))
 
-    -- node 0 is the destination, and its cell the first
-    pub output-room : 4 * (3 + b .size + b .size) ≤ length m
-    output-room =
-        let size : cellSize (b .size) (kindAt p 0) ≡ 3 + b .size + b .size = ap (cellSize (b .size)) (fine .destination) ∙ omega arith in
-        omega (arith, cell-in p fine 0 (fine .some-node), checked .long)
+  start-is : nodeAt (parsedOf b) (b .input) .cell + 3 ≡ start
+  start-is = ap (λ (n : NodeRecord). n .cell + 3) (node-in b (run .read .sound) (b .input) there)
 
-    -- ---- the input block copied in
+  pub input-room : 4 * (nodeIn (b .nodes) (b .input) .cell + 3) + 4 * b .size ≤ length m
+  input-room = omega (arith, input-cell, start-is, checked .long)
 
-    module _ (m₁ : List ℕ) (put : m₁ ≡ paste m (4 * (nodeIn (b .nodes) (b .input) .cell + 3)) (drop 0 x) (4 * b .size)) where
-      pub input-put : words m₁ ≡ putInput (parsedOf b) (words x) (words m)
-      unfolding putInput
-      input-put =
-          ap words put ∙ words-paste m x start (b .size) (omega (arith, input-room)) (omega (arith, checked .input-long))
-          ∙ ap (λ (n : ℕ). paste (words m) n (words x) (b .size)) (sym start-is)
+  -- node 0 is the destination
+  pub output-room : 4 * (3 + b .size + b .size) ≤ length m
+  output-room =
+      let size : cellSize (b .size) (kindAt (parsedOf b) 0) ≡ 3 + b .size + b .size = ap (cellSize (b .size)) (run .fine .destination) ∙ omega arith in
+      omega (arith, cell-in (parsedOf b) (run .fine) 0 (run .fine .some-node), checked .long)
 
-      pub input-runs : (o : Order) → Lists (listed (parsedOf b)) (o .nodes) (o .count) → Runs b o m₁
-      input-runs o lists =
-          let block : length (words x) ≡ p .size = length-words x ∙ omega (arith, checked .input-long) in
-          let whole-memory : Whole p (words m) = length-words m ∙ omega (arith, checked .long) in
-          record {
-            sound = read .sound;
-            fine = fine;
-            table = table-at s b read accepted;
-            lists = lists;
-            long = ap length put ∙ length-paste m (4 * start) x (4 * b .size) (omega (arith, input-room)) (omega (arith, checked .input-long)) ∙ checked .long;
-            judged = judged-passed p (words m₁) (rw input-put (input-judged p fine (words m) whole-memory (words x) block (checked .judged)));
-          }
+  pub few-bytes : length m ≤ 1114880
+  few-bytes = omega (arith, checked .long, run .read .sound .values-sum, run .read .sound .few-values)
+
+  -- ---- the input block copied in
+
+  module _ (m₁ : List ℕ) (put : m₁ ≡ paste m (4 * (nodeIn (b .nodes) (b .input) .cell + 3)) (drop 0 x) (4 * b .size)) where
+    pub input-put : words m₁ ≡ putInput (parsedOf b) (words x) (words m)
+    unfolding putInput
+    input-put =
+        ap words put ∙ words-paste m x start (b .size) (omega (arith, input-room)) (omega (arith, checked .input-long))
+        ∙ ap (λ (n : ℕ). paste (words m) n (words x) (b .size)) (sym start-is)
+
+    pub input-runs : (o : Order) → Lists (listed (parsedOf b)) (o .nodes) (o .count) → Runs b o m₁
+    input-runs o lists =
+        let block : length (words x) ≡ b .size = length-words x ∙ omega (arith, checked .input-long) in
+        let whole-memory : Whole (parsedOf b) (words m) = length-words m ∙ omega (arith, checked .long) in
+        record {
+          sound = run .read .sound;
+          fine = run .fine;
+          table = table-at s b (run .read) (run .accepted);
+          lists = lists;
+          long = ap length put ∙ length-paste m (4 * start) x (4 * b .size) (omega (arith, input-room)) (omega (arith, checked .input-long)) ∙ checked .long;
+          judged = judged-passed (parsedOf b) (words m₁) (rw input-put (input-judged (parsedOf b) (run .fine) (words m) whole-memory (words x) block (checked .judged)));
+        }
