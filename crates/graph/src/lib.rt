@@ -7,3 +7,4 @@ pub mod judge;
 pub mod record;
 pub mod sources;
 pub mod tail;
+pub mod context;
