@@ -4,8 +4,11 @@ pub mod Parts
 pub mod Bytes
 pub mod Floats
 pub mod Floors
+pub mod OnePole
+pub mod Phase
 pub mod Lengths
 pub mod Position
 pub mod Series
+pub mod Exponential
 pub mod Sine
 pub mod Worked

@@ -1,11 +1,12 @@
-// A float's 32-bit pattern, read and written. Every pattern of a NaN is read as the one NaN, and
-// the NaN is written as hex 7FC00000.
+// A float's 32-bit pattern, read and written, and tests of its range. Every pattern of a NaN is read
+// as the one NaN, and the NaN is written as hex 7FC00000.
 ghost use mathlib.Core.Path.{_≡_};
 ghost use Prim.Native.Nat.{_+_, _*_, _≤_};
 ghost use lib.ListN.{length};
 ghost use lib.Ieee.{binary32, ofBits, toBits};
 ghost use Rattle.leaves.specs.Words.{words};
 ghost use Rattle.leaves.specs.Floats.{floatAt, setFloat};
+ghost use Rattle.leaves.specs.Floors.{finiteF, within};
 use crate::bytes::put_word;
 use crate::bytes::word_at;
 
@@ -23,6 +24,20 @@ pub fn to_bits(x: f32) -> u32
     ensures { λ r. ⌜ r ≡ toBits binary32 x ⌝ }
 {
     if x != x { 0x7fc0_0000 } else { f32::to_bits(x) }
+}
+
+// Neither a NaN nor an infinity: the pattern is below infinity's, the sign's bit aside.
+pub fn finite(x: f32) -> bool
+    ensures { λ r. ⌜ r ≡ finiteF x ⌝ }
+{
+    to_bits(x) % 0x8000_0000 < 0x7f80_0000
+}
+
+// From 0 to `most`, negative zero among them; a NaN never is.
+pub fn within(x: f32, most: f32) -> bool
+    ensures { λ r. ⌜ r ≡ within most x ⌝ }
+{
+    if x >= 0.0 { x <= most } else { false }
 }
 
 // The float at word k.

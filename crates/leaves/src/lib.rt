@@ -3,5 +3,7 @@
 pub mod bytes;
 pub mod float;
 pub mod lengths;
+pub mod onepole;
+pub mod phase;
 pub mod position;
 pub mod sine;

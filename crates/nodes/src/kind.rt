@@ -2,7 +2,7 @@
 ghost use mathlib.Core.Path.{_≡_};
 ghost use Prim.Native.Nat.{_≤_, _<_};
 ghost use lib.Ieee.{ofBits, binary32};
-ghost use Rattle.nodes.specs.Kind.{kept, plainFields, floatFields, delayFields, allPassFields, sineFields, ruleOf, lineOf, channelsOf, isDestination, isPass, fewest, most, sourcesFit};
+ghost use Rattle.nodes.specs.Kind.{kept, plainFields, floatFields, delayFields, allPassFields, sineFields, ruleOf, lineOf, channelsOf, cellSize, isDestination, isPass, fewest, most, sourcesFit};
 use leaves::float::of_bits;
 
 // A node's type, with its line length and its number, coefficient or frequency.
@@ -126,6 +126,14 @@ pub fn channels_of(k: NodeKind) -> usize
         NodeKind::OnePole(_) => 1,
         NodeKind::Sine(_) => 1,
     }
+}
+
+// The values of a node's cell at blocks of the given size.
+pub fn cell_size(size: usize, k: NodeKind) -> usize
+    requires { ⌜ size ≤ 128 ⌝ }
+    ensures { λ r. ⌜ r ≡ cellSize size k ⌝ }
+{
+    3 + size * channels_of(k) + line_of(k)
 }
 
 // Whether a node is the destination.

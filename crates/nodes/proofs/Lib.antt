@@ -1,0 +1,3 @@
+pub mod Iterated
+pub mod Filled
+pub mod Cells

@@ -1,0 +1,58 @@
+-- Blocks as the loops hold them: arrays of 128 floats, of which the first N count. Definitions only.
+use Prim.Native.Nat.{ℕ, _+_, _*_, _≤_, _<_}
+use mathlib.Core.Bool.{Bool, cond}
+use mathlib.Core.List.{List, [], _∷_, map}
+use lib.ListN.{length, getD, set}
+use lib.Ieee.{Float, nan, binary32, toBits, add}
+use Rattle.leaves.specs.Floats.{floatAt}
+use Rattle.leaves.specs.Floors.{zeroF}
+use Rattle.nodes.specs.Iter.{iter}
+use Rattle.nodes.specs.Rule.{Brought, total}
+
+-- sample i of a block
+abbrev pub sample : List Float → ℕ → Float
+sample x i = getD x i nan
+
+-- an array whose first n places are given anew
+unfoldable pub fill : (ℕ → Float) → ℕ → List Float → List Float
+fill f n x = iter (λ i y. set y i (f i)) n x
+
+-- what is filled in: the samples from value `at` on, zeros, and each sample with the one from value `at` on added
+abbrev pub fetched : List ℕ → ℕ → ℕ → Float
+fetched ws at i = floatAt ws (at + i)
+
+abbrev pub quiet : ℕ → Float
+quiet i = zeroF
+
+abbrev pub added : List ℕ → ℕ → List Float → ℕ → Float
+added ws at x i = add binary32 (sample x i) (floatAt ws (at + i))
+
+-- the values after the n samples of a block are stored from `at` on
+unfoldable pub putBlock : List Float → ℕ → ℕ → List ℕ → List ℕ
+putBlock x at n ws = iter (λ i vs. set vs (at + i) (toBits binary32 (sample x i))) n ws
+
+-- place i of the blocks that start at the values `starts` gives for each node of a list
+abbrev pub samplesAt : List ℕ → List ℕ → List ℕ → ℕ → List Float
+samplesAt ws starts list i = map (λ k. floatAt ws (getD starts k 0 + i)) list
+
+-- their sum, from 0
+abbrev pub totalAt : List ℕ → List ℕ → List ℕ → ℕ → Float
+totalAt ws starts list i = total (samplesAt ws starts list i)
+
+-- each listed node is below 64, and its block of N samples lies within so many bytes
+abbrev pub InMemory : List ℕ → List ℕ → ℕ → ℕ → Type 0
+InMemory list starts N long = (j : ℕ) → j < length list → (getD list j 0 < 64) × (4 * (getD starts (getD list j 0) 0 + N) ≤ long)
+
+-- what wires bring where a type's loop is given the block x of its one source, or x and m of its two
+abbrev pub alone : List Float → ℕ → Brought
+alone x i = record { left = sample x i ∷ []; right = []; second = nan }
+
+abbrev pub pair : List Float → List Float → ℕ → Brought
+pair x m i = record { left = sample x i ∷ sample m i ∷ []; right = []; second = sample m i }
+
+abbrev pub given : Bool → List Float → List Float → ℕ → Brought
+given two x m i = cond two (pair x m i) (alone x i)
+
+-- no source at all
+abbrev pub nothing : ℕ → Brought
+nothing i = record { left = []; right = []; second = nan }

@@ -1,0 +1,67 @@
+// A delay of n samples: a ring of n values in the cell, after the samples, whose place indexes the
+// oldest. A block goes through it in stretches that end at the ring's end, so that no sample is
+// tested for the wrap.
+ghost use mathlib.Core.Path.{_≡_};
+ghost use Prim.Native.Nat.{_+_, _*_, _≤_, _<_};
+ghost use lib.ListN.{length, getD};
+ghost use lib.Ieee.{binary32, ofBits, toBits};
+ghost use Rattle.leaves.specs.Words.{words};
+ghost use Rattle.nodes.specs.Ring.{stretchOf, wrapOf};
+ghost use Rattle.nodes.specs.Block.{alone};
+ghost use Rattle.nodes.specs.Cell.{runValues};
+use crate::kind::NodeKind;
+use leaves::bytes::put_word;
+use leaves::bytes::word_at;
+use leaves::float::store;
+
+// The pattern of the float that a pattern stands for: another NaN becomes 7FC00000.
+fn canonical(bits: u32) -> u32
+    ensures { λ r. ⌜ r ≡ toBits binary32 (ofBits binary32 bits) ⌝ }
+{
+    if bits % 0x8000_0000 > 0x7f80_0000 {
+        0x7fc0_0000
+    } else {
+        bits
+    }
+}
+
+// How many of `left` samples go before the ring's end.
+pub fn stretch(place: usize, n: usize, left: usize) -> usize
+    requires { ⌜ place < n ⌝ }
+    ensures { λ r. ⌜ (r ≡ stretchOf place n left) × (r ≤ left) × (place + r ≤ n) ⌝ }
+{
+    if n - place < left { n - place } else { left }
+}
+
+// The place after a stretch that ends at `end`, which is not past n.
+pub fn wrap(end: usize, n: usize) -> usize
+    ensures { λ r. ⌜ r ≡ wrapOf end n ⌝ }
+{
+    if end < n { end } else { 0 }
+}
+
+// The samples from `done` on, `count` of them, in place of the values from `at` on, which are given.
+fn push(cell: &mut [u8], at: usize, x: &[f32; 128], done: usize, count: usize) {
+    let mut i = 0;
+    while i < count {
+        let old = word_at(cell, at + i);
+        store(cell, at + i, x[done + i]);
+        put_word(cell, 3 + done + i, canonical(old));
+        i += 1;
+    }
+}
+
+pub fn delay(cell: &mut [u8], n: usize, size: usize, x: &[f32; 128])
+    requires { ⌜ (size ≤ 128) × (n ≤ 132300) × (length (now cell) ≡ 4 * (3 + size + n)) × (getD (words (now cell)) 2 0 < n) ⌝ }
+    ensures { λ _. ⌜ words (now (cell .exit)) ≡ runValues (NodeKind.Delay n) size (alone (now (x .entry))) (words (now (cell .entry))) ⌝ }
+{
+    let mut place = word_at(cell, 2) as usize;
+    let mut done = 0;
+    while done < size {
+        let count = stretch(place, n, size - done);
+        push(cell, 3 + size + place, x, done, count);
+        done += count;
+        place = wrap(place + count, n);
+    }
+    put_word(cell, 2, place as u32);
+}

@@ -1,0 +1,131 @@
+// One node's block: its sources' blocks are fetched first, then its own cell is lent to its type's
+// loop, so that nothing else can change.
+ghost use mathlib.Core.Path.{_≡_};
+ghost use Prim.Native.Nat.{_+_, _*_, _≤_, _<_};
+ghost use lib.ListN.{length};
+ghost use Rattle.leaves.specs.Words.{words};
+ghost use Rattle.nodes.specs.Node.{broughtAt, nodeRun, Ready};
+use crate::apfmsgain::all_pass;
+use crate::block::fetch;
+use crate::block::put;
+use crate::delayn::delay;
+use crate::kind::NodeKind;
+use crate::kind::NodeRecord;
+use crate::kind::cell_size;
+use crate::onepole::one_pole;
+use crate::operator::add::add;
+use crate::operator::mul::mul;
+use crate::sin_osc::sin_osc;
+use crate::sum::total;
+
+fn wide(x: u8) -> usize {
+    x as usize
+}
+
+// The first wire's source, and the second's where there are two sources.
+fn operands(
+    memory: &[u8],
+    size: usize,
+    list: &[u8],
+    second: usize,
+    lefts: &[usize; 64],
+    x: &mut [f32; 128],
+    m: &mut [f32; 128],
+) {
+    if 0 < list.len() {
+        let first = wide(list[0]);
+        fetch(memory, lefts[first], size, x);
+    }
+    if 1 < list.len() {
+        fetch(memory, lefts[second], size, m);
+    }
+}
+
+fn bring(
+    memory: &[u8],
+    kind: NodeKind,
+    size: usize,
+    list: &[u8],
+    second: usize,
+    lefts: &[usize; 64],
+    rights: &[usize; 64],
+    x: &mut [f32; 128],
+    m: &mut [f32; 128],
+) {
+    match kind {
+        NodeKind::Sum => total(memory, list, lefts, size, x),
+        NodeKind::Destination => {
+            total(memory, list, lefts, size, x);
+            total(memory, list, rights, size, m);
+        }
+        NodeKind::Pass => operands(memory, size, list, second, lefts, x, m),
+        NodeKind::Balance => operands(memory, size, list, second, lefts, x, m),
+        NodeKind::Mul(_f) => operands(memory, size, list, second, lefts, x, m),
+        NodeKind::Add(_f) => operands(memory, size, list, second, lefts, x, m),
+        NodeKind::Delay(_n) => operands(memory, size, list, second, lefts, x, m),
+        NodeKind::AllPass(_n, _f) => operands(memory, size, list, second, lefts, x, m),
+        NodeKind::OnePole(_f) => operands(memory, size, list, second, lefts, x, m),
+        NodeKind::Sine(_f) => operands(memory, size, list, second, lefts, x, m),
+    }
+}
+
+// The block of a node over its cell: x and m are what its wires bring, `count` its distinct sources.
+fn run_cell(
+    cell: &mut [u8],
+    kind: NodeKind,
+    size: usize,
+    count: usize,
+    x: &[f32; 128],
+    m: &[f32; 128],
+) {
+    match kind {
+        NodeKind::Pass => {
+            if 0 < count {
+                put(cell, 3, size, x);
+            }
+        }
+        NodeKind::Sum => put(cell, 3, size, x),
+        NodeKind::Destination => {
+            put(cell, 3, size, x);
+            put(cell, 3 + size, size, m);
+        }
+        NodeKind::Balance => {
+            put(cell, 3, size, x);
+            put(cell, 3 + size, size, m);
+        }
+        NodeKind::Mul(_f) => mul(cell, size, 1 < count, x, m),
+        NodeKind::Add(_f) => add(cell, size, 1 < count, x, m),
+        NodeKind::Delay(n) => delay(cell, n as usize, size, x),
+        NodeKind::AllPass(n, _f) => all_pass(cell, n as usize, size, 1 < count, x, m),
+        NodeKind::OnePole(b) => one_pole(cell, b, size, x),
+        NodeKind::Sine(_f) => sin_osc(cell, size),
+    }
+}
+
+// The node's block over the whole memory. `list` has its distinct sources by first wire, `second`
+// is the second wire's source; `lefts` and `rights` say where each node's channel 0 stands and
+// where what the destination's channel 1 reads of it. x and m are room to work in.
+pub fn step(
+    memory: &mut [u8],
+    size: usize,
+    node: NodeRecord,
+    list: &[u8],
+    second: usize,
+    lefts: &[usize; 64],
+    rights: &[usize; 64],
+    x: &mut [f32; 128],
+    m: &mut [f32; 128],
+)
+    requires { ⌜ Ready (now memory) (node .kind) size (node .cell) (now list) (now lefts) (now rights) second ⌝ }
+    requires { ⌜ (length (now x) ≡ 128) × (length (now m) ≡ 128) ⌝ }
+    ensures values { λ _. ⌜ words (now (memory .exit)) ≡ nodeRun (node .kind) size (node .cell)
+        (broughtAt (words (now (memory .entry))) (now (lefts .entry)) (now (rights .entry)) (now (list .entry)) second)
+        (words (now (memory .entry))) ⌝ }
+    ensures room { λ _. ⌜ (length (now (x .exit)) ≡ 128) × (length (now (m .exit)) ≡ 128) ⌝ }
+{
+    let kind = node.kind;
+    bring(memory, kind, size, list, second, lefts, rights, x, m);
+    let start = 4 * node.cell;
+    let end = start + 4 * cell_size(size, kind);
+    run_cell(&mut memory[start..end], kind, size, list.len(), x, m);
+}

@@ -1,0 +1,46 @@
+// Source plus number, or first plus second.
+ghost use mathlib.Core.Path.{_≡_};
+ghost use Prim.Native.Nat.{_+_, _*_, _≤_};
+ghost use lib.ListN.{length};
+ghost use lib.Ieee.{Float};
+ghost use Rattle.leaves.specs.Words.{words};
+ghost use Rattle.leaves.specs.Floats.{floatAt};
+ghost use Rattle.nodes.specs.Block.{alone, pair, given};
+ghost use Rattle.nodes.specs.Cell.{runValues};
+use crate::kind::NodeKind;
+use leaves::float::load;
+use leaves::float::store;
+
+fn add_number(cell: &mut [u8], number: f32, size: usize, x: &[f32; 128])
+    requires { ⌜ (size ≤ 128) × (length (now cell) ≡ 4 * (3 + size)) × (number ≡ floatAt (words (now cell)) 0) ⌝ }
+    ensures { λ _. ⌜ ((f : Float) → words (now (cell .exit)) ≡ runValues (NodeKind.Add f) size (alone (now (x .entry))) (words (now (cell .entry)))) ⌝ }
+{
+    let mut i = 0;
+    while i < size {
+        store(cell, 3 + i, x[i] + number);
+        i += 1;
+    }
+}
+
+fn add_sources(cell: &mut [u8], size: usize, x: &[f32; 128], m: &[f32; 128])
+    requires { ⌜ (size ≤ 128) × (length (now cell) ≡ 4 * (3 + size)) ⌝ }
+    ensures { λ _. ⌜ ((f : Float) → words (now (cell .exit)) ≡ runValues (NodeKind.Add f) size (pair (now (x .entry)) (now (m .entry))) (words (now (cell .entry)))) ⌝ }
+{
+    let mut i = 0;
+    while i < size {
+        store(cell, 3 + i, x[i] + m[i]);
+        i += 1;
+    }
+}
+
+pub fn add(cell: &mut [u8], size: usize, two: bool, x: &[f32; 128], m: &[f32; 128])
+    requires { ⌜ (size ≤ 128) × (length (now cell) ≡ 4 * (3 + size)) ⌝ }
+    ensures { λ _. ⌜ ((f : Float) → words (now (cell .exit)) ≡ runValues (NodeKind.Add f) size (given two (now (x .entry)) (now (m .entry))) (words (now (cell .entry)))) ⌝ }
+{
+    if two {
+        add_sources(cell, size, x, m);
+    } else {
+        let number = load(cell, 0);
+        add_number(cell, number, size, x);
+    }
+}
