@@ -4,3 +4,8 @@ pub mod Record
 pub mod Sources
 pub mod Board
 pub mod Judge
+pub mod Wires
+pub mod Visit
+pub mod Listed
+pub mod Late
+pub mod Tail

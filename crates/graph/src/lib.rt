@@ -1,4 +1,6 @@
 // Boards: their records, the judge, the visiting list and the calls on a board's memory. The nodes
 // are known here only by the promises of the crate `nodes`.
 pub mod answer;
+pub mod graph;
 pub mod record;
+pub mod tail;

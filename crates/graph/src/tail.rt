@@ -1,0 +1,78 @@
+// The tail: how many samples a board's output can go on after its input has turned zero for good.
+ghost use mathlib.Core.Path.{_≡_};
+ghost use mathlib.Core.Bool.{cond};
+ghost use Prim.Native.Nat.{_<_, _≤_};
+ghost use lib.ListN.{length, take};
+ghost use Rattle.graph.specs.Wires.{wiresOf};
+ghost use Rattle.graph.specs.Visit.{Nodes};
+ghost use Rattle.graph.specs.Tail.{delays, onlyDelays, listedLines, endless, tailBy, LinesFit};
+use nodes::kind::NodeKind;
+use nodes::kind::NodeRecord;
+use nodes::kind::line_of;
+use crate::graph::wide;
+use crate::graph::places;
+use crate::graph::late_count;
+
+// The answer of a board whose output may never end.
+const ENDLESS: usize = 4294967295;
+
+// Whether a node of this type is silent as soon as its sources and its line are.
+fn delays(k: NodeKind) -> bool
+    ensures { λ r. ⌜ r ≡ delays k ⌝ }
+{
+    match k {
+        NodeKind::Pass => true,
+        NodeKind::Sum => true,
+        NodeKind::Destination => true,
+        NodeKind::Balance => true,
+        NodeKind::Mul(_) => true,
+        NodeKind::Add(_) => false,
+        NodeKind::Delay(_) => true,
+        NodeKind::AllPass(_, _) => false,
+        NodeKind::OnePole(_) => false,
+        NodeKind::Sine(_) => false,
+    }
+}
+
+// The sum of the lines of the first `count` nodes of the list; endless if one of them does not only
+// delay.
+fn listed_lines(nodes: [NodeRecord; 64], list: &[u8; 64], count: usize) -> usize
+    requires { ⌜ (length (now list) ≡ 64) × (count ≤ 64) × Nodes (now list) count × LinesFit nodes (now list) count ⌝ }
+    ensures { λ r. ⌜ (r ≡ cond (onlyDelays nodes (take count (now (list .entry)))) (listedLines nodes (take count (now (list .entry)))) endless) × (r ≤ endless) ⌝ }
+{
+    let mut sum = 0;
+    let mut i = 0;
+    while i < count {
+        let v = wide(list[i]);
+        let node = nodes[v];
+        let kind = node.kind;
+        if delays(kind) {
+            sum += line_of(kind);
+            i += 1;
+        } else {
+            return ENDLESS;
+        }
+    }
+    sum
+}
+
+// The tail of a board with these nodes, wires and visiting list.
+pub fn tail(
+    nodes: [NodeRecord; 64],
+    sources: &[u8; 128],
+    targets: &[u8; 128],
+    wires: usize,
+    list: &[u8; 64],
+    count: usize,
+) -> u32
+    requires { ⌜ (wires ≤ 128) × Nodes (now sources) wires × Nodes (now targets) wires ⌝ }
+    requires { ⌜ (length (now list) ≡ 64) × (count ≤ 64) × Nodes (now list) count × LinesFit nodes (now list) count ⌝ }
+    ensures { λ r. ⌜ r ≡ tailBy nodes (wiresOf (now (sources .entry)) (now (targets .entry)) wires) (take count (now (list .entry))) ⌝ }
+{
+    let at = places(list, count);
+    if late_count(sources, targets, wires, &at, count) == 0 {
+        listed_lines(nodes, list, count) as u32
+    } else {
+        ENDLESS as u32
+    }
+}
