@@ -9,3 +9,5 @@ pub mod Visit
 pub mod Listed
 pub mod Late
 pub mod Tail
+pub mod Memory
+pub mod Calls

@@ -128,13 +128,6 @@ pub fn channels_of(k: NodeKind) -> usize
     }
 }
 
-// The values of a node's cell at blocks of the given size.
-pub fn cell_size(size: usize, k: NodeKind) -> usize
-    requires { ⌜ size ≤ 128 ⌝ }
-    ensures { λ r. ⌜ r ≡ cellSize size k ⌝ }
-{
-    3 + size * channels_of(k) + line_of(k)
-}
 
 // Whether a node is the destination.
 pub fn is_destination(k: NodeKind) -> bool
