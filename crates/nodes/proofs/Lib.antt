@@ -1,3 +1,4 @@
 pub mod Iterated
 pub mod Filled
 pub mod Cells
+pub mod Histories

@@ -5,3 +5,4 @@ pub mod Cell
 pub mod Block
 pub mod Ring
 pub mod Node
+pub mod History

@@ -1,0 +1,124 @@
+-- A node as the reading by samples knows it (document 01, "Reading by samples"): its number, its carry and every sample that it has taken,
+-- where memory holds the newest n in a ring. The rules are the table's, with the lines read from n ago; `stateOf` says what memory holds of
+-- it. Definitions only; that both give the same is in proofs/Histories.antt.
+use Prim.Native.Nat.{ℕ, _-_, _%_}
+use mathlib.Core.Bool.{cond}
+use mathlib.Core.List.{List, [], _∷_, _++_, map}
+use lib.ListN.{length}
+use lib.Ieee.{Float, binary32, ofBits, toBits}
+use Rattle.reading.specs.Table.{tab}
+use Rattle.reading.specs.Ring.{from, newest}
+use Rattle.nodes.specs.Iter.{iter}
+use Rattle.nodes.specs.Rule.{Brought, Frame, State, first, leftOf, rightOf, keeps, carryAfter}
+use Rattle.nodes.specs.Cell.{numberOf}
+use Rattle.nodes.specs.declared.kind.NodeKind.{NodeKind}
+use Rattle.nodes.specs.declared.kind.NodeKind.the-variants.{Pass, Sum, Destination, Balance, Mul, Add, Delay, AllPass, OnePole, Sine}
+
+-- ---- what the reading knows of a node
+
+-- what a node took and gave at one time, as patterns
+pub record Taken : Type 0 where
+  pub x : ℕ
+  pub y : ℕ
+
+-- the number and the carry as patterns, and what the node took and gave so far, newest first
+pub record Heard : Type 0 where
+  pub number : ℕ
+  pub carry : ℕ
+  pub past : List Taken
+
+abbrev pub xs : Heard → List ℕ
+xs h = map (λ t. t .x) (h .past)
+
+abbrev pub ys : Heard → List ℕ
+ys h = map (λ t. t .y) (h .past)
+
+-- how many samples the node has taken
+abbrev pub count : Heard → ℕ
+count h = length (h .past)
+
+-- before time 0: the number as in fresh memory, phase, y1 and lines 0
+unfoldable pub freshHeard : NodeKind → Heard
+freshHeard k = record { number = toBits binary32 (numberOf k); carry = 0; past = [] }
+
+-- an accepted message sets the number from then on
+unfoldable pub setNumber : ℕ → Heard → Heard
+setNumber v h = record { number = v; carry = h .carry; past = h .past }
+
+-- ---- the rule of a node on what the reading knows
+
+-- index j of a line of n, which wraps at n: index 0 is the sample from n ago, index j the one from n - j ago, zero if there is none
+unfoldable pub agoBy : ℕ → List ℕ → ℕ → Float
+agoBy n l j = ofBits binary32 (from 0 n l (n - j % n))
+
+-- the n of a type with a line; the others read none
+abbrev pub lengthOf : NodeKind → ℕ
+lengthOf Pass = 0
+lengthOf Sum = 0
+lengthOf Destination = 0
+lengthOf Balance = 0
+lengthOf (Mul f) = 0
+lengthOf (Add f) = 0
+lengthOf (Delay n) = n
+lengthOf (AllPass n f) = n
+lengthOf (OnePole f) = 0
+lengthOf (Sine f) = 0
+
+-- the float that channel 0 takes
+abbrev pub leftHeard : NodeKind → Heard → Brought → Float
+leftHeard k h b =
+    leftOf k (ofBits binary32 (h .number)) (ofBits binary32 (h .carry)) (agoBy (lengthOf k) (xs h)) (agoBy (lengthOf k) (ys h)) b
+
+-- its sample; `held` is what stands at its place
+unfoldable pub sampleHeard : NodeKind → Heard → Frame → Brought → Frame
+sampleHeard k h held b =
+    cond (keeps k b) held (record { left = toBits binary32 (leftHeard k h b); right = toBits binary32 (rightOf k b) })
+
+-- what the reading knows afterwards
+unfoldable pub heardAfter : NodeKind → Heard → Brought → Heard
+heardAfter k h b = record {
+  number = h .number;
+  carry = carryAfter k (ofBits binary32 (h .number)) (h .carry) (leftHeard k h b);
+  past = record { x = toBits binary32 (first b); y = toBits binary32 (leftHeard k h b) } ∷ h .past;
+}
+
+-- ---- what memory holds of it
+
+-- once the node has taken c samples, the place is c mod n
+unfoldable pub placeOf : NodeKind → ℕ → ℕ
+placeOf Pass c = 0
+placeOf Sum c = 0
+placeOf Destination c = 0
+placeOf Balance c = 0
+placeOf (Mul f) c = 0
+placeOf (Add f) c = 0
+placeOf (Delay n) c = c % n
+placeOf (AllPass n f) c = c % n
+placeOf (OnePole f) c = 0
+placeOf (Sine f) c = 0
+
+-- place p of a line of n holds the newest sample whose count, from 0, leaves p on division by n, or 0 if there is none
+abbrev pub ring : ℕ → List ℕ → List ℕ
+ring n l = tab n (newest 0 n l)
+
+-- the line: x, and of an all-pass also y
+unfoldable pub lineHeard : NodeKind → List ℕ → List ℕ → List ℕ
+lineHeard Pass x y = []
+lineHeard Sum x y = []
+lineHeard Destination x y = []
+lineHeard Balance x y = []
+lineHeard (Mul f) x y = []
+lineHeard (Add f) x y = []
+lineHeard (Delay n) x y = ring n x
+lineHeard (AllPass n f) x y = ring n x ++ ring n y
+lineHeard (OnePole f) x y = []
+lineHeard (Sine f) x y = []
+
+unfoldable pub stateOf : NodeKind → Heard → State
+stateOf k h = record { number = h .number; carry = h .carry; place = placeOf k (count h); line = lineHeard k (xs h) (ys h) }
+
+-- ---- a block
+
+-- what the reading knows after the first i samples of a block; `bs i` is what the wires bring at place i
+unfoldable pub heardAt : NodeKind → (ℕ → Brought) → Heard → ℕ → Heard
+heardAt k bs h i = iter (λ j g. heardAfter k g (bs j)) i h
