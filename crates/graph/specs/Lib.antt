@@ -11,3 +11,5 @@ pub mod Late
 pub mod Tail
 pub mod Memory
 pub mod Calls
+pub mod Reading
+pub mod Claim
