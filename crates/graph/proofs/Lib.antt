@@ -8,3 +8,14 @@ pub mod Late
 pub mod Placing
 pub mod Lines
 pub mod VisitCases
+pub mod RoundRule
+pub mod RoundBytes
+pub mod RoundRecords
+pub mod RoundRun
+pub mod RoundBack
+pub mod RoundObeys
+pub mod RoundSources
+pub mod RoundSix
+pub mod RoundRefused
+pub mod Round
+pub mod RoundWorked

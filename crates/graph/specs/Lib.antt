@@ -13,3 +13,5 @@ pub mod Memory
 pub mod Calls
 pub mod Reading
 pub mod Claim
+pub mod Write
+pub mod Instance

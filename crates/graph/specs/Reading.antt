@@ -82,6 +82,10 @@ module _ (p : Parsed) (cs : List Call) where
   abbrev pub inputAt : ℕ → ℕ
   inputAt t = getD (getD (inputs cs) (t / p .size) []) (t % p .size) 0
 
+-- of the frame that node a brings, what the destination's channel 1 reads: a stereo source's channel 1, else channel 0
+abbrev pub rightSample : Parsed → ℕ → Frame → ℕ
+rightSample p a f = cond (eqb (channelsOf (kindAt p a)) 2) (f .right) (f .left)
+
 module _ (p : Parsed) (s : Timed Frame) where
   -- node a's sample of N earlier, zero before time 0
   abbrev pub earlier : Timed Frame
@@ -91,15 +95,11 @@ module _ (p : Parsed) (s : Timed Frame) where
   abbrev pub brings : ℕ → ℕ → ℕ → Frame
   brings t k a = cond (late (listed p) a k) (earlier t a) (s t a)
 
-  -- of the frame that a node brings, what the destination's channel 1 reads: a stereo source's channel 1, else channel 0
-  abbrev pub rightSample : ℕ → Frame → ℕ
-  rightSample a f = cond (eqb (channelsOf (kindAt p a)) 2) (f .right) (f .left)
-
   -- what node k's wires bring at time t
   abbrev pub broughtTo : ℕ → ℕ → Brought
   broughtTo t k = record {
     left = map (λ a. ofBits binary32 (brings t k a .left)) (distinctSources (p .wires) k);
-    right = map (λ a. ofBits binary32 (rightSample a (brings t k a))) (distinctSources (p .wires) k);
+    right = map (λ a. ofBits binary32 (rightSample p a (brings t k a))) (distinctSources (p .wires) k);
     second = ofBits binary32 (brings t k (secondSource (p .wires) k) .left);
   }
 

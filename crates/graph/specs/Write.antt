@@ -1,0 +1,176 @@
+-- A board as document 01, "Board bytes", describes it, without a word on how it is read: a card with a block size, an input node, node
+-- descriptions and wires; the bytes that are written for it; the rules that it must obey; and what a reader makes of it.
+-- `proofs/Round.antt` shows that the judge accepts exactly the bytes of the cards that obey. Definitions only.
+use Prim.Native.Nat.{ℕ, _+_, _/_, _%_, _<_, _≤_}
+use mathlib.Core.Path.{_≡_}
+use mathlib.Core.Logic.{_↔_}
+use mathlib.Core.Bool.{true, cond}
+use mathlib.Core.List.{List, [], _∷_, _++_}
+use lib.ListN.{length, getD}
+use lib.Dec.{eqb}
+use lib.Ieee.{le, ofBits, binary32}
+use Rattle.nodes.specs.Kind.{lineOf, channelsOf, cellSize, fewest, most}
+use Rattle.nodes.specs.declared.kind.NodeKind.{NodeKind}
+use Rattle.nodes.specs.declared.kind.NodeKind.the-variants.{Pass, Sum, Destination, Balance, Mul, Add, Delay, AllPass, OnePole, Sine}
+use Rattle.nodes.specs.declared.kind.NodeRecord.{NodeRecord}
+use Rattle.reading.specs.Table.{mem}
+use Rattle.reading.specs.Order.{Wire, Once}
+use Rattle.graph.specs.Board.{Parsed}
+
+-- a node as its record describes it: type, whole number n, bits of the float f
+pub record NodeCard : Type 0 where
+  pub type : ℕ
+  pub n : ℕ
+  pub f : ℕ
+
+pub record Card : Type 0 where
+  pub size : ℕ
+  pub input : ℕ
+  pub nodes : List NodeCard
+  pub wires : List Wire
+
+-- ---- the bytes
+
+-- a number in 2 bytes, and in 4, the lowest first
+abbrev pub u16Bytes : ℕ → List ℕ
+u16Bytes v = v % 256 ∷ v / 256 % 256 ∷ []
+
+abbrev pub u32Bytes : ℕ → List ℕ
+u32Bytes v = v % 256 ∷ v / 256 % 256 ∷ v / 65536 % 256 ∷ v / 16777216 % 256 ∷ []
+
+-- a record: its length, its kind, its body
+abbrev pub headBytes : ℕ → ℕ → List ℕ
+headBytes N i = u16Bytes 8 ++ u16Bytes 1 ++ u16Bytes N ++ u16Bytes i
+
+abbrev pub nodeBytes : NodeCard → List ℕ
+nodeBytes d = u16Bytes 14 ++ u16Bytes 2 ++ u16Bytes (d .type) ++ u32Bytes (d .n) ++ u32Bytes (d .f)
+
+abbrev pub wireBytes : Wire → List ℕ
+wireBytes w = u16Bytes 8 ++ u16Bytes 3 ++ u16Bytes (w .source) ++ u16Bytes (w .target)
+
+abbrev pub endBytes : List ℕ
+endBytes = u16Bytes 4 ++ u16Bytes 4
+
+abbrev pub nodesBytes : List NodeCard → List ℕ
+nodesBytes [] = []
+nodesBytes (d ∷ ds) = nodeBytes d ++ nodesBytes ds
+
+abbrev pub wiresBytes : List Wire → List ℕ
+wiresBytes [] = []
+wiresBytes (w ∷ ws) = wireBytes w ++ wiresBytes ws
+
+-- records stand in the order of their kinds
+unfoldable pub writeBoard : Card → List ℕ
+writeBoard c = headBytes (c .size) (c .input) ++ nodesBytes (c .nodes) ++ wiresBytes (c .wires) ++ endBytes
+
+-- ---- what a reader makes of a card
+
+-- the kind that a type's number, 1 to 10, names
+unfoldable pub kindOf : NodeCard → NodeKind
+kindOf d =
+    cond (eqb (d .type) 1) Pass
+    (cond (eqb (d .type) 2) Sum
+    (cond (eqb (d .type) 3) Destination
+    (cond (eqb (d .type) 4) Balance
+    (cond (eqb (d .type) 5) (Mul (ofBits binary32 (d .f)))
+    (cond (eqb (d .type) 6) (Add (ofBits binary32 (d .f)))
+    (cond (eqb (d .type) 7) (Delay (d .n))
+    (cond (eqb (d .type) 8) (AllPass (d .n) (ofBits binary32 (d .f)))
+    (cond (eqb (d .type) 9) (OnePole (ofBits binary32 (d .f)))
+    (Sine (ofBits binary32 (d .f)))))))))))
+
+-- the node records at block size N, the first cell at `start`: each cell starts where the one before it ends
+abbrev pub recordsFrom : ℕ → ℕ → List NodeCard → List NodeRecord
+recordsFrom N start [] = []
+recordsFrom N start (d ∷ ds) =
+    record { kind = kindOf d; channels = channelsOf (kindOf d); cell = start } ∷ recordsFrom N (start + cellSize N (kindOf d)) ds
+
+abbrev pub parsedOf : Card → Parsed
+parsedOf c = record { size = c .size; input = c .input; nodes = recordsFrom (c .size) 0 (c .nodes); wires = c .wires }
+
+-- ---- the rules
+
+-- P of each element of a list and its number; z stands past the end
+abbrev pub Each : {A : Type 0} → (ℕ → A → Type 0) → A → List A → Type 0
+Each P z xs = (i : ℕ) → i < length xs → P i (getD xs i z)
+
+-- what stands past the end: no type has the number 0
+abbrev pub noNode : NodeCard
+noNode = record { type = 0; n = 0; f = 0 }
+
+abbrev pub noWire : Wire
+noWire = record { source = 0; target = 0 }
+
+-- a line's length
+abbrev pub LineLength : ℕ → Type 0
+LineLength n = (1 ≤ n) × (n ≤ 132300)
+
+-- the bits of a finite float: below infinity's, the sign's bit aside
+abbrev pub Finite : ℕ → Type 0
+Finite f = f % 2147483648 < 0x7f80_0000
+
+-- the bits of a float from 0 to 44,100
+abbrev pub InBand : ℕ → Type 0
+InBand f = (le (ofBits binary32 0) (ofBits binary32 f) ≡ true) × (le (ofBits binary32 f) (ofBits binary32 0x472c_4400) ≡ true)
+
+-- a kind's whole number and float; an unused field is all zero bits
+unfoldable pub FieldsObey : NodeKind → ℕ → ℕ → Type 0
+FieldsObey Pass n f = (n ≡ 0) × (f ≡ 0)
+FieldsObey Sum n f = (n ≡ 0) × (f ≡ 0)
+FieldsObey Destination n f = (n ≡ 0) × (f ≡ 0)
+FieldsObey Balance n f = (n ≡ 0) × (f ≡ 0)
+FieldsObey (Mul _) n f = (n ≡ 0) × Finite f
+FieldsObey (Add _) n f = (n ≡ 0) × Finite f
+FieldsObey (Delay _) n f = LineLength n × (f ≡ 0)
+FieldsObey (AllPass _ _) n f = LineLength n × Finite f
+FieldsObey (OnePole _) n f = (n ≡ 0) × Finite f
+FieldsObey (Sine _) n f = (n ≡ 0) × InBand f
+
+-- node i is of one of the ten types, with the type's fields; node 0, and only it, is type 3. The float's bits fit their 4 bytes; each
+-- other number of a card fits its bytes by the range that it obeys
+pub record NodeObeys (i : ℕ) (d : NodeCard) : Type 0 where
+  pub least-type : 1 ≤ d .type
+  pub most-type : d .type ≤ 10
+  pub fields : FieldsObey (kindOf d) (d .n) (d .f)
+  pub float-fits : d .f < 4294967296
+  pub destination : (d .type ≡ 3) ↔ (i ≡ 0)
+
+-- one of the wires leads from node x to node i
+pub record Leads (ws : List Wire) (x i : ℕ) : Type 0 where
+  pub place : ℕ
+  pub there : place < length ws
+  pub source-is : (getD ws place noWire) .source ≡ x
+  pub target-is : (getD ws place noWire) .target ≡ i
+
+-- node i has as many distinct sources as its type takes: they are those of a list that has each of them once
+pub record SourcesObey (ws : List Wire) (i : ℕ) (d : NodeCard) : Type 0 where
+  pub sources : List ℕ
+  pub once : Once sources
+  pub same : (x : ℕ) → (mem x sources ≡ true) ↔ Leads ws x i
+  pub least-sources : fewest (kindOf d) ≤ length sources
+  pub most-sources : length sources ≤ most (kindOf d)
+
+-- a wire of a board with so many nodes joins two of them
+pub record WireObeys (count : ℕ) (w : Wire) : Type 0 where
+  pub source-there : w .source < count
+  pub target-there : w .target < count
+  pub apart : w .source ≡ w .target → ⊥
+
+-- the values of all lines together
+abbrev pub linesOfCards : List NodeCard → ℕ
+linesOfCards [] = 0
+linesOfCards (d ∷ ds) = lineOf (kindOf d) + linesOfCards ds
+
+-- N is 1 to 128; 1 to 64 nodes, with at most 262,144 values of lines; at most 128 wires; the input node is a pass without wires in
+pub record Obeys (c : Card) : Type 0 where
+  pub least-size : 1 ≤ c .size
+  pub most-size : c .size ≤ 128
+  pub some-node : 1 ≤ length (c .nodes)
+  pub few-nodes : length (c .nodes) ≤ 64
+  pub nodes : Each NodeObeys noNode (c .nodes)
+  pub few-lines : linesOfCards (c .nodes) ≤ 262144
+  pub few-wires : length (c .wires) ≤ 128
+  pub wires : Each (λ j. WireObeys (length (c .nodes))) noWire (c .wires)
+  pub sources : Each (SourcesObey (c .wires)) noNode (c .nodes)
+  pub input-pass : (getD (c .nodes) (c .input) noNode) .type ≡ 1
+  pub input-free : Each (λ j w. w .target ≡ c .input → ⊥) noWire (c .wires)
