@@ -1,8 +1,8 @@
 -- What a caller of the visiting list has at hand: wires between nodes below n, and their sources gathered, are as `visiting_list` asks.
 -- Assumes nothing.
-use mathlib.Core.Path.{_≡_, sym, ap, subst, subst⁻¹, _∙_}
+use mathlib.Core.Path.{_≡_, subst, subst⁻¹}
 use Prim.Native.Nat.{ℕ, zero, suc, _+_, _<_, _≤_}
-use native.Mathlib.Nat.{le-trans, not-suc-le-zero}
+use native.Mathlib.Nat.{not-suc-le-zero}
 use native.Mathlib.Decide.{decLt}
 use native.Mathlib.Omega.{arith}
 use mathlib.Core.Bool.{Bool, true, false, cond}
@@ -14,7 +14,7 @@ use Rattle.reading.specs.Table.{mem}
 use Rattle.reading.specs.Order.{Wire, Each, sources}
 use Rattle.reading.proofs.Table.{mem-head, or-right}
 use Rattle.reading.proofs.Order.{each-source}
-use Rattle.graph.specs.Sources.{addNew, addAll, distinct, distinctSources}
+use Rattle.graph.specs.Sources.{addNew, addAll, distinct}
 use Rattle.graph.specs.Wires.{wiresFrom, wiresOf}
 use Rattle.graph.specs.Visit.{Table, Gathered}
 use Rattle.graph.specs.Listed.{SourcesBelow}

@@ -1,7 +1,7 @@
 -- The listed lines, node by node; and what the tail of a board's array of nodes has to do with the tail of the board. Assumes nothing.
 use mathlib.Core.Path.{_≡_, refl, sym, ap, ap₂, subst, _∙_}
 use Prim.Native.Nat.{ℕ, zero, suc, _+_, _<_, _≤_}
-use native.Mathlib.Nat.{add-zero, zero-add, add-assoc, le-trans, zero-lt-suc}
+use native.Mathlib.Nat.{add-zero, zero-add, add-assoc, le-trans}
 use native.Mathlib.Numerals.{add-one}
 use native.Mathlib.Omega.{arith}
 use mathlib.Core.Bool.{Bool, true, false, cond, _&&_}
@@ -16,7 +16,7 @@ use Rattle.reading.specs.Order.{Wire}
 use Rattle.reading.proofs.Table.{mem-head, or-right}
 use Rattle.graph.specs.Board.{Parsed, linesOf}
 use Rattle.graph.specs.Visit.{visitingList}
-use Rattle.graph.specs.Listed.{SourcesBelow, ListsReached}
+use Rattle.graph.specs.Listed.{SourcesBelow}
 use Rattle.graph.specs.Late.{lateWires}
 use Rattle.graph.specs.Tail.{delays, blank, kindAt, onlyDelays, listedLines, endless, tailBy, tailOf, LinesFit}
 use Rattle.graph.proofs.Listed.{lists-reached}

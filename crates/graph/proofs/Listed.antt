@@ -1,14 +1,13 @@
 -- The visiting list lists the reached nodes, each once, node 0 last, and no wire out of a node without wires in is late: what callers know
 -- of it, from the theory of the walk in `reading`. Assumes nothing.
 use mathlib.Core.Path.{_≡_, refl, ap, _∙_}
-use Prim.Native.Nat.{ℕ, suc, zero, _+_, _<_, _≤_}
+use Prim.Native.Nat.{ℕ, suc, _+_, _<_, _≤_}
 use native.Mathlib.Nat.{le-refl}
 use native.Mathlib.Omega.{arith}
 use mathlib.Core.Bool.{Bool, cond, not}
 use mathlib.Core.List.{List, [], _∷_}
 use borrow.Author.Tests.{ne-eqb}
 use lib.Dec.{lit<}
-use Rattle.reading.specs.Table.{mem}
 use Rattle.reading.specs.Order.{Wire, sources}
 use Rattle.reading.specs.Visit.{markNode, each, go, Reached, start, along}
 use Rattle.reading.proofs.Visit.{visiting-once, visiting-input-first, visiting-closed, reached-listed, listed-reached}

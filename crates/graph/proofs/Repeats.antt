@@ -10,7 +10,7 @@ use Rattle.reading.specs.Table.{mem}
 use Rattle.reading.specs.Order.{Wire, sources}
 use Rattle.reading.specs.Visit.{Walk, markNode, listNode, choose, each, go}
 use Rattle.reading.proofs.Table.{or-right, mem-head, mem-other}
-use Rattle.graph.specs.Sources.{addNew, addAll, distinct}
+use Rattle.graph.specs.Sources.{addAll, distinct}
 
 -- j is marked
 abbrev Marked : ℕ → Walk → Type 0

@@ -1,12 +1,8 @@
 -- Document 01's printed board and its plate: their visiting lists and late wires; and two tails. By computation. Assumes nothing.
 use mathlib.Core.Path.{_≡_, refl}
 use mathlib.Core.List.{List, [], _∷_}
-use Prim.Native.Nat.{ℕ}
 use lib.Ieee.{ofBits, binary32}
-use Rattle.nodes.specs.Kind.{channelsOf}
-use Rattle.nodes.specs.declared.kind.NodeKind.{NodeKind}
 use Rattle.nodes.specs.declared.kind.NodeKind.the-variants.{Pass, Sum, Destination, Mul, Add, Delay}
-use Rattle.nodes.specs.declared.kind.NodeRecord.{NodeRecord}
 use Rattle.reading.specs.Order.{Wire}
 use Rattle.graph.specs.Board.{Parsed, headed, withNode, withWire, wire}
 use Rattle.graph.specs.Visit.{visitingList}

@@ -6,12 +6,12 @@ ghost use lib.ListN.{length, take};
 ghost use Rattle.graph.specs.Wires.{wiresOf};
 ghost use Rattle.graph.specs.Visit.{Nodes};
 ghost use Rattle.graph.specs.Tail.{delays, onlyDelays, listedLines, endless, tailBy, LinesFit};
+use crate::graph::late_count;
+use crate::graph::places;
+use crate::graph::wide;
 use nodes::kind::NodeKind;
 use nodes::kind::NodeRecord;
 use nodes::kind::line_of;
-use crate::graph::wide;
-use crate::graph::places;
-use crate::graph::late_count;
 
 // The answer of a board whose output may never end.
 const ENDLESS: usize = 4294967295;

@@ -1,6 +1,6 @@
 -- `graph::graph::visit` meets its contract. The measure is the number of unmarked nodes, and the loop's is the number of sources left.
 -- The loop's invariant is `Going`. Assumes nothing.
-use mathlib.Core.Path.{_≡_, sym, subst, subst₃, _∙_}
+use mathlib.Core.Path.{_≡_, sym, subst, subst₃}
 use mathlib.Core.List.{List}
 use mathlib.Core.Logic.{inl, inr}
 use Prim.Native.Nat.{ℕ, suc, _+_, _*_, _-_, _<_, _≤_}

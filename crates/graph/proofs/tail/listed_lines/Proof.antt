@@ -2,7 +2,6 @@
 -- Assumes nothing.
 use mathlib.Core.Path.{_≡_, refl, sym, ap, subst, subst⁻¹, _∙_}
 use mathlib.Core.Bool.{Bool, cond}
-use mathlib.Core.List.{List}
 use Prim.Native.Nat.{ℕ, _+_, _*_, _-_, _<_, _≤_}
 use native.Mathlib.Omega.{arith}
 use lib.ListN.{length, getD, take}
@@ -67,7 +66,7 @@ line-few c =
     let turn = here .before .before in
     let a = turn .before .before .args in
     let line : c .line-of .result ≡ lineOf (kindAt (a .t1) (getD (a .list .now) (turn .before .loop .i) 0)) =
-        c .line-of .ensures .0 ∙ ap (λ (v : ℕ). lineOf (kindAt (a .t1) v)) (here .wide .ensures) in
+    c .line-of .ensures .0 ∙ ap (λ (v : ℕ). lineOf (kindAt (a .t1) v)) (here .wide .ensures) in
     subst⁻¹ (λ (n : ℕ). n ≤ 262144) line (turn .before .before .pre .3 (turn .before .loop .i) (turn .loop-test .taken))
 
 add-sum : tie.Need-add-sum Inv-loop μ-loop

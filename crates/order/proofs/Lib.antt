@@ -1,0 +1,4 @@
+-- Laws that the proofs of `order` cite.
+pub mod Decimal
+pub mod Writing
+pub mod Cases

@@ -1,0 +1,4 @@
+// Writes the visiting list and the late wires of the board on standard input.
+mod text;
+
+fn main() {}

@@ -1,0 +1,155 @@
+// The text of `order`: each function writes into `out` from the place `at` on, and returns the place
+// after what it wrote.
+ghost use mathlib.Core.Path.{_≡_};
+ghost use mathlib.Core.List.{[], _∷_, _++_};
+ghost use Prim.Native.Nat.{_+_, _*_, _<_, _≤_};
+ghost use lib.ListN.{length, take};
+ghost use Rattle.graph.specs.Wires.{wiresOf};
+ghost use Rattle.graph.specs.Visit.{visitingList, Nodes, Table, Gathered};
+ghost use Rattle.graph.specs.Late.{lateWires, Placed};
+ghost use Rattle.order.specs.Text.{number, spaced, spacedAll, line, orderWord, lateWord, refusedWord, lateLines, orderText, Wrote};
+use graph::graph::is_late;
+use graph::graph::places;
+use graph::graph::visiting_list;
+use graph::graph::wide;
+
+fn put(out: &mut [u8], at: usize, byte: u8) -> usize
+    requires { ⌜ at < length (now out) ⌝ }
+    ensures { λ r. ⌜ Wrote (now (out .entry)) at (byte ∷ []) (now (out .exit)) r ⌝ }
+{
+    out[at] = byte;
+    at + 1
+}
+
+fn put_word(out: &mut [u8], at: usize, word: &[u8]) -> usize
+    requires { ⌜ at + length (now word) ≤ length (now out) ⌝ }
+    ensures { λ r. ⌜ Wrote (now (out .entry)) at (now (word .entry)) (now (out .exit)) r ⌝ }
+{
+    let mut n = at;
+    let mut i = 0;
+    while i < word.len() {
+        n = put(out, n, word[i]);
+        i += 1;
+    }
+    n
+}
+
+// A number in decimal: the digits before the last, then the last.
+fn put_number(out: &mut [u8], at: usize, v: usize) -> usize
+    requires { ⌜ (v < 4294967296) × (at + length (number v) ≤ length (now out)) ⌝ }
+    ensures { λ r. ⌜ Wrote (now (out .entry)) at (number v) (now (out .exit)) r ⌝ }
+{
+    if v < 10 {
+        return put(out, at, (48 + v) as u8);
+    }
+    let n = put_number(out, at, v / 10);
+    put(out, n, (48 + v % 10) as u8)
+}
+
+fn put_spaced(out: &mut [u8], at: usize, v: usize) -> usize
+    requires { ⌜ (v < 4294967296) × (at + length (spaced v) ≤ length (now out)) ⌝ }
+    ensures { λ r. ⌜ Wrote (now (out .entry)) at (spaced v) (now (out .exit)) r ⌝ }
+{
+    let n = put(out, at, b' ');
+    put_number(out, n, v)
+}
+
+// The first `count` nodes of a list.
+fn put_nodes(out: &mut [u8], at: usize, list: &[u8; 64], count: usize) -> usize
+    requires { ⌜ (at + 3 * count ≤ length (now out)) × (length (now list) ≡ 64) × (count ≤ 64) × Nodes (now list) count ⌝ }
+    ensures { λ r. ⌜ Wrote (now (out .entry)) at (spacedAll (take count (now (list .entry)))) (now (out .exit)) r ⌝ }
+{
+    let mut n = at;
+    let mut i = 0;
+    while i < count {
+        n = put_spaced(out, n, wide(list[i]));
+        i += 1;
+    }
+    n
+}
+
+// A line of a word and two numbers.
+fn put_line(out: &mut [u8], at: usize, word: &[u8], a: usize, b: usize) -> usize
+    requires { ⌜ (a < 4294967296) × (b < 4294967296) × (at + length (line (now word) a b) ≤ length (now out)) ⌝ }
+    ensures { λ r. ⌜ Wrote (now (out .entry)) at (line (now (word .entry)) a b) (now (out .exit)) r ⌝ }
+{
+    let n = put_word(out, at, word);
+    let m = put_spaced(out, n, a);
+    let k = put_spaced(out, m, b);
+    put(out, k, b'\n')
+}
+
+// The line of a late wire.
+fn put_late(out: &mut [u8], at: usize, source: usize, target: usize) -> usize
+    requires { ⌜ (source < 64) × (target < 64) × (at + 11 ≤ length (now out)) ⌝ }
+    ensures { λ r. ⌜ Wrote (now (out .entry)) at (line lateWord source target) (now (out .exit)) r ⌝ }
+{
+    put_line(out, at, b"late", source, target)
+}
+
+// A line for each late wire. The list, with its nodes' places, is there for the contract.
+fn put_lates(
+    out: &mut [u8],
+    at: usize,
+    sources: &[u8; 128],
+    targets: &[u8; 128],
+    wires: usize,
+    list: &[u8; 64],
+    count: usize,
+    places: &[u8; 64],
+) -> usize
+    requires { ⌜ (at + 11 * wires ≤ length (now out)) × (wires ≤ 128) × Nodes (now sources) wires × Nodes (now targets) wires ⌝ }
+    requires { ⌜ (length (take count (now list)) ≡ count) × Placed (take count (now list)) (now places) ⌝ }
+    ensures { λ r. ⌜ Wrote (now (out .entry)) at (lateLines (lateWires (take count (now (list .entry))) (wiresOf (now (sources .entry)) (now (targets .entry)) wires))) (now (out .exit)) r ⌝ }
+{
+    let mut n = at;
+    let mut i = 0;
+    while i < wires {
+        let s = wide(sources[i]);
+        let t = wide(targets[i]);
+        if is_late(places, count, s, t) {
+            n = put_late(out, n, s, t);
+        }
+        i += 1;
+    }
+    n
+}
+
+// The line of the listed nodes.
+fn put_order(out: &mut [u8], list: &[u8; 64], count: usize) -> usize
+    requires { ⌜ (6 + 3 * count ≤ length (now out)) × (length (now list) ≡ 64) × (count ≤ 64) × Nodes (now list) count ⌝ }
+    ensures { λ r. ⌜ Wrote (now (out .entry)) 0 ((orderWord ++ spacedAll (take count (now (list .entry)))) ++ (10 ∷ [])) (now (out .exit)) r ⌝ }
+{
+    let a = put_word(out, 0, b"order");
+    let b = put_nodes(out, a, list, count);
+    put(out, b, b'\n')
+}
+
+// The text of a board with these wires, whose sources are gathered in `counts` and `lists`.
+pub fn order_text(
+    counts: &[u8; 64],
+    lists: &[u8; 512],
+    sources: &[u8; 128],
+    targets: &[u8; 128],
+    wires: usize,
+    out: &mut [u8],
+) -> usize
+    requires { ⌜ (2048 ≤ length (now out)) × (wires ≤ 128) × Nodes (now sources) wires × Nodes (now targets) wires ⌝ }
+    requires { ⌜ Table (now counts) (now lists) × Gathered (wiresOf (now sources) (now targets) wires) (now counts) (now lists) ⌝ }
+    ensures { λ r. ⌜ Wrote (now (out .entry)) 0 (orderText (visitingList (wiresOf (now (sources .entry)) (now (targets .entry)) wires)) (wiresOf (now (sources .entry)) (now (targets .entry)) wires)) (now (out .exit)) r ⌝ }
+{
+    let order = visiting_list(counts, lists);
+    let list = order.nodes;
+    let count = order.count;
+    let at = places(&list, count);
+    let n = put_order(out, &list, count);
+    put_lates(out, n, sources, targets, wires, &list, count, &at)
+}
+
+// The text of a refusal.
+pub fn refusal_text(number: u32, place: u32, out: &mut [u8]) -> usize
+    requires { ⌜ 2048 ≤ length (now out) ⌝ }
+    ensures { λ r. ⌜ Wrote (now (out .entry)) 0 (line refusedWord number place) (now (out .exit)) r ⌝ }
+{
+    put_line(out, 0, b"refused", number as usize, place as usize)
+}
