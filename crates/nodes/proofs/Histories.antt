@@ -118,7 +118,7 @@ place-heard (OnePole f) fit h = refl
 place-heard (Sine f) fit h = refl
 
 -- a push to each of two lines of n
-two-set : (n : ℕ) (l m : List ℕ) (p x y : ℕ) → length l ≡ n → p < n → set (set (l ++ m) p x) (n + p) y ≡ set l p x ++ set m p y
+pub two-set : (n : ℕ) (l m : List ℕ) (p x y : ℕ) → length l ≡ n → p < n → set (set (l ++ m) p x) (n + p) y ≡ set l p x ++ set m p y
 two-set n l m p x y long h =
     ap (λ (v : List ℕ). set v (n + p) y) (set-append-left l m p x (omega arith))
     ∙ ap (λ (d : ℕ). set (set l p x ++ m) (d + p) y) (sym long ∙ sym (length-set l p x))

@@ -2,3 +2,6 @@ pub mod Iterated
 pub mod Filled
 pub mod Cells
 pub mod Histories
+pub mod HistoryFrames
+pub mod HistoryBlocks
+pub mod HistoryRules

@@ -8,7 +8,6 @@ use lib.ListN.{length}
 use lib.Ieee.{Float, binary32, ofBits, toBits}
 use Rattle.reading.specs.Table.{tab}
 use Rattle.reading.specs.Ring.{from, newest}
-use Rattle.nodes.specs.Iter.{iter}
 use Rattle.nodes.specs.Rule.{Brought, Frame, State, first, leftOf, rightOf, keeps, carryAfter}
 use Rattle.nodes.specs.Cell.{numberOf}
 use Rattle.nodes.specs.declared.kind.NodeKind.{NodeKind}
@@ -116,9 +115,3 @@ lineHeard (Sine f) x y = []
 
 unfoldable pub stateOf : NodeKind → Heard → State
 stateOf k h = record { number = h .number; carry = h .carry; place = placeOf k (count h); line = lineHeard k (xs h) (ys h) }
-
--- ---- a block
-
--- what the reading knows after the first i samples of a block; `bs i` is what the wires bring at place i
-unfoldable pub heardAt : NodeKind → (ℕ → Brought) → Heard → ℕ → Heard
-heardAt k bs h i = iter (λ j g. heardAfter k g (bs j)) i h

@@ -6,3 +6,5 @@ pub mod Block
 pub mod Ring
 pub mod Node
 pub mod History
+pub mod HistoryBlock
+pub mod HistoryRules
