@@ -1,11 +1,11 @@
 -- The one-pole: its coefficients a and b and its last output y1, each operation one rounding. Definitions only.
 use lib.Ieee.{Float, binary32, add, sub, mul}
-use Rattle.leaves.specs.Floors.{whole}
+use Rattle.leaves.specs.Floors.{f1}
 use Rattle.leaves.specs.declared.onepole.OnePole.{OnePole}
 
 -- a = 1 - b
 unfoldable pub onePoleOf : Float → Float → OnePole
-onePoleOf b y1 = record { a = sub binary32 (whole 1 0) b; b = b; y1 = y1 }
+onePoleOf b y1 = record { a = sub binary32 f1 b; b = b; y1 = y1 }
 
 -- y = x × a + b × y1
 unfoldable pub onePoleStep : OnePole → Float → OnePole

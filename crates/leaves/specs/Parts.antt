@@ -1,6 +1,7 @@
 -- A part of a list, and the list with a part replaced, `paste` of `lib.Seq`: what a function that is lent a part leaves of the whole.
 --     part                 k elements from `at`
---     lent                 the words of the whole, where a part that starts and ends at a word was lent and came back
+--     words-part, lent-long      the words and the length of a part that starts and ends at a word
+--     lent, lent-run       the words of the whole, where such a part was lent and came back
 --     part-paste           the part is what was pasted
 --     part-before, part-after    a part that lies outside is as it was
 -- Assumes nothing.

@@ -1,12 +1,12 @@
 // A float's 32-bit pattern, read and written, and tests of its range. Every pattern of a NaN is read
 // as the one NaN, and the NaN is written as hex 7FC00000.
 ghost use mathlib.Core.Path.{_≡_};
-ghost use Prim.Native.Nat.{_+_, _*_, _≤_};
+ghost use Prim.Native.Nat.{_+_, _*_, _^_, _≤_};
 ghost use lib.ListN.{length};
 ghost use lib.Ieee.{binary32, ofBits, toBits};
 ghost use Rattle.leaves.specs.Words.{words};
 ghost use Rattle.leaves.specs.Floats.{floatAt, setFloat};
-ghost use Rattle.leaves.specs.Floors.{finiteF, within};
+ghost use Rattle.leaves.specs.Floors.{finiteF, floorOf, within, Upto};
 use crate::bytes::put_word;
 use crate::bytes::word_at;
 
@@ -38,6 +38,20 @@ pub fn within(x: f32, most: f32) -> bool
     ensures { λ r. ⌜ r ≡ within most x ⌝ }
 {
     if x >= 0.0 { x <= most } else { false }
+}
+
+// The floor of an x from 0 to 2^24, off its bits: x is digits × 2^(bits / 2^23 - 150).
+pub fn floor(x: f32) -> u32
+    requires { ⌜ Upto (2 ^ 24) x ⌝ }
+    ensures { λ r. ⌜ r ≡ floorOf x ⌝ }
+{
+    if x >= 1.0 {
+        let bits = f32::to_bits(x);
+        let digits = bits % 0x80_0000 + 0x80_0000;
+        (digits * 2) >> (151 - bits / 0x80_0000)
+    } else {
+        0
+    }
 }
 
 // The float at word k.

@@ -1,5 +1,5 @@
-// The leaves of the plate tank: numbers and floats in lent bytes, the sine, lengths from
-// milliseconds, and where a modulated all-pass reads.
+// The leaves of the plate tank: numbers and floats in lent bytes, the one-pole, the oscillator's
+// phase and sine, lengths from milliseconds, and where a modulated all-pass reads.
 pub mod bytes;
 pub mod float;
 pub mod lengths;

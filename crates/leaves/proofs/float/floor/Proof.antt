@@ -1,0 +1,41 @@
+-- `leaves::float::floor` meets its contract: the moved digits are the whole part. Assumes nothing.
+use borrow.Author.Needs.{needs}
+use Prim.Native.Nat.{_^_}
+use native.Mathlib.Omega.{arith}
+use lib.Ieee.{binary32, toBits, ofBits}
+use Rattle.leaves.specs.Floors.{floorOf}
+use Rattle.leaves.proofs.WholePart.{Digits, from-one, below-one, upto-number}
+use Rattle.leaves.proofs.float.floor.Statement.{statement}
+use Rattle.leaves.proofs.float.floor.Tie as tie
+
+float-to-bits-bits : tie.Need-float-to-bits-bits
+float-to-bits-bits c = upto-number (c .before .args .x) (2 ^ 24) (c .before .pre)
+
+-- what the pattern says, where x is at least 1
+digits : (c : tie.Then1) → Digits (toBits binary32 (c .before .args .x)) (floorOf (c .before .args .x))
+unfolding ofBits
+digits c = from-one (c .before .args .x) (c .before .pre) (c .if1 .taken)
+
+add-digits : tie.Need-add-digits
+add-digits c = search needs
+
+mul-result : tie.Need-mul-result
+mul-result c = search needs
+
+sub-result : tie.Need-sub-result
+sub-result c = digits c .field-high
+
+shr-result : tie.Need-shr-result
+shr-result c = omega (arith, digits c .field-low)
+
+returns : tie.Need-returns
+returns c = digits c .moved
+
+returns-2 : tie.Need-returns-2
+unfolding ofBits
+returns-2 c = below-one (c .before .args .x) (2 ^ 24) (c .before .pre) (c .if1 .left)
+
+pub floor-spec : {M : Type 1} → statement M
+floor-spec =
+    tie.close
+    (tie.spec float-to-bits-bits add-digits mul-result sub-result shr-result returns returns-2)
