@@ -2,3 +2,4 @@ pub mod Iterated
 pub mod Filled
 pub mod Cells
 pub mod Histories
+pub mod Unread
