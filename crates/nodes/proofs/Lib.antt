@@ -6,3 +6,4 @@ pub mod Histories
 pub mod HistoryFrames
 pub mod HistoryBlocks
 pub mod HistoryRules
+pub mod Unread
