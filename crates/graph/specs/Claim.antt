@@ -4,6 +4,8 @@
 use Prim.Native.Nat.{ℕ}
 use mathlib.Core.Path.{_≡_}
 use mathlib.Core.List.{List, [], _∷_}
+use lib.Dec.{T}
+use lib.Ieee.{binary32, fits}
 use Rattle.leaves.specs.Words.{unwords}
 use Rattle.reading.specs.Order.{Reorders}
 use Rattle.graph.specs.Board.{Parsed, whole}
@@ -13,6 +15,13 @@ use Rattle.graph.specs.Calls.{Left, blockIn, messageOf, listed}
 use Rattle.graph.specs.Reading.{Call, block, message, Reply, Timed, IsReading, accepted, repliesTo, memoryAfter}
 use Rattle.nodes.specs.Rule.{Frame}
 use Rattle.nodes.specs.History.{Heard}
+
+-- ---- what the calls bring
+
+-- a message's value is a float of 32 bits
+abbrev pub Single : Call → Type 0
+Single (block x l r) = Unit {0}
+Single (message k v) = T (fits binary32 v)
 
 -- ---- a list of calls on a board's bytes, each getting the memory as the one before left it
 

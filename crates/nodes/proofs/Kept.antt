@@ -2,6 +2,7 @@
 --     number-kept, samples-kept, line-kept, fits-kept    after any number of samples
 --     run-long, run-number, run-fits                     after a block run
 --     run-own                                            the node's cell, after its block run over the whole memory
+--     fits-part                                          the judgement of a part and of what starts there
 --     message-fits                                       after a number message
 -- Assumes nothing.
 use mathlib.Core.Path.{_≡_, refl, sym, ap, _∙_, subst}
@@ -11,7 +12,7 @@ use Prim.Native.Nat.{ℕ, suc, _+_, _≤_}
 use native.Mathlib.Omega.{arith}
 use lib.Dec.{T, ltb, eqb}
 use lib.ListN.{length, getD, set, drop, length-set, length-drop}
-use lib.Seq.{take-all, length-take-le}
+use lib.Seq.{getD-take, take-all, length-take-le}
 use lib.Ieee.{Float, binary32, ofBits, toBits, fits, le}
 use lib.Ieee.Bits.{ofBits-toBits}
 use denote.Floats.{passes, is-true}
@@ -76,6 +77,15 @@ module _ (k : NodeKind) where
   pub judged-fits : (c : Cell) → Judged k (c .state) → cellFits k (valuesOf c) ≡ true
   unfolding valuesOf
   judged-fits c j = all-true (numberFits k (c .state .number)) (carryFits k (c .state .carry)) (placeFits k (c .state .place)) (j .number) (j .carry) (j .place)
+
+-- the values of a cell, and all from there on, are judged alike
+pub fits-part : (k : NodeKind) (N at : ℕ) (ws : List ℕ) → cellFits k (part ws at (cellSize N k)) ≡ cellFits k (drop at ws)
+fits-part k N at ws =
+    let size = cellSize N k in
+    let a : getD (part ws at size) 0 0 ≡ getD (drop at ws) 0 0 = getD-take size (drop at ws) 0 0 (omega arith) in
+    let b : getD (part ws at size) 1 0 ≡ getD (drop at ws) 1 0 = getD-take size (drop at ws) 1 0 (omega arith) in
+    let p : getD (part ws at size) 2 0 ≡ getD (drop at ws) 2 0 = getD-take size (drop at ws) 2 0 (omega arith) in
+    cc
 
 -- the definition's two ways to say from 0 to 44,100
 band-within : (x : Float) → le (ofBits binary32 0) x && le x (ofBits binary32 0x472c_4400) ≡ within (whole 11025 2) x

@@ -2,6 +2,7 @@ pub mod Iterated
 pub mod Filled
 pub mod Cells
 pub mod Kept
+pub mod Fresh
 pub mod Histories
 pub mod HistoryFrames
 pub mod HistoryBlocks

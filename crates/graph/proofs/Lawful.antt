@@ -1,0 +1,211 @@
+-- A fine board is what the theory of block run and reading asks for:
+--     source-there, source-apart    a wire's source is a node, and another one
+--     board-sound                   the board is sound
+--     rules-encode                  the rules on what memory holds encode those on what the reading knows
+--     rules-lawful                  every call keeps what `Held` says of the states: so 8 never occurs
+-- The theory's calls are those whose values are singles: `Given`. Assumes nothing.
+use Prim.Native.Nat.{ℕ, zero, suc, _*_, _<_}
+use mathlib.Core.Path.{_≡_, refl, sym, ap, subst, _∙_}
+use mathlib.Core.Logic.{_≢_}
+use mathlib.Core.List.{List, [], _∷_, map}
+use mathlib.Core.Option.{Option, none, some}
+use mathlib.Core.Bool.{Bool, true, false, cond, _&&_, _||_, false≢true}
+use native.Mathlib.Omega.{arith}
+use native.Mathlib.Decide.{decLt}
+use borrow.Author.Tests.{eqb-true, not-false}
+use lib.Dec.{eqb, ltb}
+use lib.ListN.{length, getD, length-map, length-replicate}
+use lib.Ieee.{Float, binary32, toBits}
+use Rattle.leaves.specs.Words.{words, length-words}
+use Rattle.nodes.specs.Kind.{lineOf}
+use Rattle.nodes.specs.Iter.{iter}
+use Rattle.nodes.specs.Rule.{Brought, Frame, State, stateBy}
+use Rattle.nodes.specs.Cell.{valuesOf, cellOf, numberOf, freshCell, takesNumber, valueFits, numberFits, stepCell}
+use Rattle.nodes.specs.History.{stateOf}
+use Rattle.nodes.specs.declared.kind.NodeKind.the-variants.{Pass}
+use Rattle.nodes.specs.declared.kind.NodeRecord.{NodeRecord}
+use Rattle.nodes.proofs.Kept.{Judged, fits-judged, fits-kept, value-number}
+use Rattle.nodes.proofs.Fresh as fresh
+use Rattle.nodes.proofs.HistoryRules as histories
+use Rattle.nodes.proofs.Unread.{line-after-long}
+use Rattle.reading.specs.Table.{mem}
+use Rattle.reading.specs.Order.{Wire, Each, sources, earlier}
+use Rattle.reading.specs.Board.{Board, Whole, Sound}
+use Rattle.reading.specs.Board as theory
+use Rattle.reading.specs.Encode.{Encodes}
+use Rattle.reading.specs.Keeps.{Lawful}
+use Rattle.graph.specs.Answer.{answer}
+use Rattle.graph.specs.Board.{Parsed}
+use Rattle.graph.specs.Listed.{ListsReached}
+use Rattle.graph.specs.Memory.{passed, kindAt}
+use Rattle.graph.specs.Calls.{andThen, checkBlocks, checkSamples, checkNumber, listed}
+use Rattle.graph.specs.Reading.{Call, block, message, answerTo, accepts, silence}
+use Rattle.graph.specs.Claim.{Single}
+use Rattle.graph.specs.Instance.{mono, asks, broughtFrom, memoryRules, readingRules}
+use Rattle.graph.specs.Write.{WireObeys}
+use Rattle.graph.specs.Fine.{Fine, Held}
+use Rattle.graph.specs.declared.answer.Answer.{Answer}
+use Rattle.graph.proofs.Listed.{lists-reached}
+
+-- ---- the board, with the calls whose values are singles
+
+pub record Given : Type 0 where
+  pub call : Call
+  pub single : Single call
+
+abbrev pub board : Parsed → Board Given Frame ℕ
+board p = record {
+  size = p .size;
+  wires = p .wires;
+  input = p .input;
+  visit = listed p;
+  sink = 0;
+  silence = silence;
+  accepts = λ c. asks p (c .call);
+}
+
+-- ---- sources
+
+-- P of the wire that a source comes by
+source-by : (P : Wire → Type 0) (ws : List Wire) → Each P ws → (k s : ℕ) → mem s (sources ws k) ≡ true
+    → (w : Wire) × P w × (w .source ≡ s) × (w .target ≡ k)
+source-by P [] h k s e = absurd (false≢true e)
+source-by P (w ∷ ws) h k s e = go (eqb (w .target) k) refl e (source-by P ws (h .1) k s)
+  where
+    head : eqb (w .target) k ≡ true → (b : Bool) → eqb s (w .source) ≡ b → (b || mem s (sources ws k)) ≡ true
+        → (mem s (sources ws k) ≡ true → (v : Wire) × P v × (v .source ≡ s) × (v .target ≡ k)) → (v : Wire) × P v × (v .source ≡ s) × (v .target ≡ k)
+    head t true q e ih = (w, h .0, sym (eqb-true s (w .source) q), eqb-true (w .target) k t)
+    head t false q e ih = ih e
+
+    go : (b : Bool) → eqb (w .target) k ≡ b → mem s (cond b (w .source ∷ sources ws k) (sources ws k)) ≡ true
+        → (mem s (sources ws k) ≡ true → (v : Wire) × P v × (v .source ≡ s) × (v .target ≡ k)) → (v : Wire) × P v × (v .source ≡ s) × (v .target ≡ k)
+    go true t e ih = head t (eqb s (w .source)) refl e ih
+    go false t e ih = ih e
+
+module _ (p : Parsed) (fine : Fine p) where
+  pub source-there : (k s : ℕ) → mem s (sources (p .wires) k) ≡ true → s < length (p .nodes)
+  source-there k s e =
+      let w = source-by (WireObeys (length (p .nodes))) (p .wires) (fine .wires) k s e in
+      subst (λ (n : ℕ). n < length (p .nodes)) (w .2) (w .1 .source-there)
+
+  pub source-apart : (k s : ℕ) → mem s (sources (p .wires) k) ≡ true → s ≢ k
+  source-apart k s e q =
+      let w = source-by (WireObeys (length (p .nodes))) (p .wires) (fine .wires) k s e in
+      w .1 .apart (w .2 ∙ q ∙ sym (w .3))
+
+  pub lists : ListsReached (p .wires) (listed p)
+  lists = lists-reached (p .wires) (λ k s e. omega (arith, source-there k s e, fine .few-nodes))
+
+  -- ---- accepted calls
+
+  block-long : (x l r : List ℕ) → accepts p (block x l r) ≡ true → length x ≡ 4 * p .size
+  block-long x l r e =
+      go (eqb (length x) (4 * p .size)) refl
+    where
+      rest : Bool → Bool
+      rest b = b && eqb (length l) (4 * p .size) && eqb (length r) (4 * p .size)
+
+      short : eqb (length x) (4 * p .size) ≡ false → eqb ((andThen (checkBlocks p x l r) (checkSamples 0 (words x))) .number) 0 ≡ false
+      short f = ap (λ (b : Bool). eqb ((andThen (cond (b && eqb (length l) (4 * p .size) && eqb (length r) (4 * p .size)) passed (answer 9 (p .size))) (checkSamples 0 (words x))) .number) 0) f
+
+      go : (b : Bool) → eqb (length x) (4 * p .size) ≡ b → length x ≡ 4 * p .size
+      go true t = eqb-true _ _ t
+      go false f = absurd (false≢true (sym (short f) ∙ e))
+
+  number-accepted : (k : ℕ) (v : Float) → accepts p (message k v) ≡ true → valueFits (kindAt p k) v ≡ true
+  number-accepted k v e = go (ltb k (length (p .nodes)) && takesNumber (kindAt p k)) (valueFits (kindAt p k) v) refl e
+    where
+      go : (a b : Bool) → valueFits (kindAt p k) v ≡ b → eqb ((cond a (cond b passed (answer 12 k)) (answer 11 k)) .number) 0 ≡ true
+          → valueFits (kindAt p k) v ≡ true
+      go true true q h = q
+      go true false q h = absurd (false≢true h)
+      go false b q h = absurd (false≢true h)
+
+  -- what an accepted call asks: a whole block, or a number that fits
+  abbrev Asked : Option (theory.Call Frame ℕ) → Type 0
+  Asked none = Unit {0}
+  Asked (some (theory.block xs)) = length xs ≡ p .size
+  Asked (some (theory.message k v)) = numberFits (kindAt p k) v ≡ true
+
+  asked : (c : Call) → Single c → Asked (asks p c)
+  asked (block x l r) s = go (accepts p (block x l r)) refl
+    where
+      go : (b : Bool) → accepts p (block x l r) ≡ b → Asked (cond b (some (theory.block (map mono (words x)))) none)
+      go true e = length-map (words x) mono ∙ length-words x ∙ omega (arith, block-long x l r e)
+      go false e = tt
+  asked (message k v) s = go (accepts p (message k v)) refl
+    where
+      go : (b : Bool) → accepts p (message k v) ≡ b → Asked (cond b (some (theory.message k (toBits binary32 v))) none)
+      go true e = value-number (kindAt p k) v s (number-accepted k v e)
+      go false e = tt
+
+  -- ---- the board is sound
+
+  pub board-sound : Sound (board p)
+  board-sound = record {
+    no-self = source-apart;
+    once = lists .once;
+    input-first = λ k m s. not-false _ (lists .input-first (p .input) (fine .input-free) k m s);
+    whole-blocks = λ c a e. whole a (subst Asked e (asked (c .call) (c .single)));
+  }
+    where
+      whole : (a : theory.Call Frame ℕ) → Asked (some a) → Whole (p .size) a
+      whole (theory.block xs) h = h
+      whole (theory.message k v) h = tt
+
+  -- ---- the rules
+
+  -- past the last node all are passes
+  beyond : (k : ℕ) → (k < length (p .nodes) → ⊥) → kindAt p k ≡ Pass
+  beyond k h = ap (λ (r : NodeRecord). r .kind) (past (p .nodes) k h)
+    where
+      past : (rs : List NodeRecord) (j : ℕ) → (j < length rs → ⊥) → getD rs j (record { kind = Pass; channels = 0; cell = 0 }) ≡ record { kind = Pass; channels = 0; cell = 0 }
+      past [] j n = refl
+      past (r ∷ rs) zero n = absurd (n (omega arith))
+      past (r ∷ rs) (suc j) n = past rs j (λ l. n (omega arith))
+
+  -- every kind's line and first number are as they must be
+  kind-sound : (k : ℕ) → fresh.Sound (kindAt p k)
+  kind-sound k = go (decLt k (length (p .nodes)))
+    where
+      pass-sound : fresh.Sound Pass
+      pass-sound = unfold numberFits numberOf toBits in record { line = tt; number = refl }
+
+      go : Dec (k < length (p .nodes)) → fresh.Sound (kindAt p k)
+      go (yes h) = record { line = fine .nodes k h .line; number = fine .nodes k h .number }
+      go (no h) = subst fresh.Sound (sym (beyond k h)) pass-sound
+
+  pub rules-encode : Encodes (memoryRules p) (readingRules p) (λ k. stateOf (kindAt p k))
+  unfolding memoryRules readingRules
+  rules-encode = histories.rules-encode (kindAt p) (broughtFrom p) (p .size) (λ k. kind-sound k .line)
+
+  -- ---- what holds of a state all along
+
+  fresh-held : (k : ℕ) → Held p k (freshCell (p .size) (kindAt p k) .state)
+  unfolding freshCell cellOf valuesOf
+  fresh-held k =
+      let cell = freshCell (p .size) (kindAt p k) in
+      let j = fits-judged (kindAt p k) (p .size) (valuesOf cell) (fresh.fresh-fits (p .size) (kindAt p k) (kind-sound k)) in
+      record { long = length-replicate (lineOf (kindAt p k)) 0; number = j .number; carry = j .carry; place = j .place }
+
+  step-held : (k : ℕ) (s : State) (b : Brought) → Held p k s → Held p k (stateBy (kindAt p k) s b)
+  unfolding iter stepCell stateBy
+  step-held k s b h =
+      let j : Judged (kindAt p k) s = record { number = h .number; carry = h .carry; place = h .place } in
+      let after = fits-kept (kindAt p k) 0 (λ i. b) 1 (record { state = s; samples = [] }) j in
+      record {
+        long = line-after-long (kindAt p k) (s .place) _ _ (s .line) ∙ h .long;
+        number = after .number;
+        carry = after .carry;
+        place = after .place;
+      }
+
+  pub rules-lawful : Lawful (board p) (memoryRules p) (λ f. Unit {0}) (Held p)
+  unfolding memoryRules
+  rules-lawful = record {
+    silence = tt;
+    fresh = fresh-held;
+    step = λ k i s h b held _ _. (tt, step-held k s (broughtFrom p k b) held);
+    set = λ c k v s e h. record { long = h .long; number = subst Asked e (asked (c .call) (c .single)); carry = h .carry; place = h .place };
+    input = λ c xs e i. tt;
+  }
