@@ -21,3 +21,4 @@ pub mod Round
 pub mod RoundWorked
 pub mod FineBoard
 pub mod Lawful
+pub mod Told
