@@ -19,3 +19,4 @@ pub mod RoundSix
 pub mod RoundRefused
 pub mod Round
 pub mod RoundWorked
+pub mod ShownCells

@@ -15,3 +15,4 @@ pub mod Reading
 pub mod Claim
 pub mod Write
 pub mod Instance
+pub mod Fine
