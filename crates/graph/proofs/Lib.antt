@@ -20,3 +20,4 @@ pub mod RoundRefused
 pub mod Round
 pub mod RoundWorked
 pub mod ShownCells
+pub mod ShownRun

@@ -119,7 +119,7 @@ values-long p k d h =
     omega (arith, length-values (cellHeld p k d), samples-length (kindAt p k) (d .samples) (p .size) (h .samples), h .line)
 
 module _ (p : Parsed) where
-  shown-agree : (c d : Cells) (m : ℕ) → ((j : ℕ) → j < m → c j ≡ d j) → shownTo p c m ≡ shownTo p d m
+  pub shown-agree : (c d : Cells) (m : ℕ) → ((j : ℕ) → j < m → c j ≡ d j) → shownTo p c m ≡ shownTo p d m
   unfolding shownTo
   shown-agree c d zero h = refl
   shown-agree c d (suc m) h = λ i. shown-agree c d m (λ j l. h j (omega arith)) i ++ valuesOf (cellHeld p m (h m (omega arith) i))
