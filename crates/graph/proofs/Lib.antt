@@ -21,3 +21,4 @@ pub mod Round
 pub mod RoundWorked
 pub mod ShownCells
 pub mod ShownRun
+pub mod ShownBlock
