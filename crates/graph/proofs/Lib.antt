@@ -22,3 +22,5 @@ pub mod RoundWorked
 pub mod ShownCells
 pub mod ShownRun
 pub mod ShownBlock
+pub mod ShownBytes
+pub mod ShownCall
