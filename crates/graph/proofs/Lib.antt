@@ -22,3 +22,8 @@ pub mod RoundWorked
 pub mod FineBoard
 pub mod Lawful
 pub mod Told
+pub mod ShownCells
+pub mod ShownRun
+pub mod ShownBlock
+pub mod ShownBytes
+pub mod ShownCall
