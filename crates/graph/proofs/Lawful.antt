@@ -1,15 +1,14 @@
 -- A fine board is what the theory of block run and reading asks for:
---     source-there, source-apart    a wire's source is a node, and another one
+--     lists                         its visiting list lists the reached nodes
 --     board-sound                   the board is sound
 --     rules-encode                  the rules on what memory holds encode those on what the reading knows
 --     rules-lawful                  every call keeps what `Held` says of the states: so 8 never occurs
 -- The theory's calls are those whose values are singles: `Given`. Assumes nothing.
 use Prim.Native.Nat.{ℕ, zero, suc, _*_, _<_}
 use mathlib.Core.Path.{_≡_, refl, sym, ap, subst, _∙_}
-use mathlib.Core.Logic.{_≢_}
 use mathlib.Core.List.{List, [], _∷_, map}
 use mathlib.Core.Option.{Option, none, some}
-use mathlib.Core.Bool.{Bool, true, false, cond, _&&_, _||_, false≢true}
+use mathlib.Core.Bool.{Bool, true, false, cond, _&&_, false≢true}
 use native.Mathlib.Omega.{arith}
 use native.Mathlib.Decide.{decLt}
 use borrow.Author.Tests.{eqb-true, not-false}
@@ -28,8 +27,6 @@ use Rattle.nodes.proofs.Kept.{Judged, fits-judged, fits-kept, value-number}
 use Rattle.nodes.proofs.Fresh as fresh
 use Rattle.nodes.proofs.HistoryRules as histories
 use Rattle.nodes.proofs.Unread.{line-after-long}
-use Rattle.reading.specs.Table.{mem}
-use Rattle.reading.specs.Order.{Wire, Each, sources, earlier}
 use Rattle.reading.specs.Board.{Board, Whole, Sound}
 use Rattle.reading.specs.Board as theory
 use Rattle.reading.specs.Encode.{Encodes}
@@ -42,10 +39,9 @@ use Rattle.graph.specs.Calls.{andThen, checkBlocks, checkSamples, checkN
 use Rattle.graph.specs.Reading.{Call, block, message, answerTo, accepts, silence}
 use Rattle.graph.specs.Claim.{Single}
 use Rattle.graph.specs.Instance.{mono, asks, broughtFrom, memoryRules, readingRules}
-use Rattle.graph.specs.Write.{WireObeys}
 use Rattle.graph.specs.Fine.{Fine, Held}
-use Rattle.graph.specs.declared.answer.Answer.{Answer}
 use Rattle.graph.proofs.Listed.{lists-reached}
+use Rattle.graph.proofs.ShownRun.{source-there}
 
 -- ---- the board, with the calls whose values are singles
 
@@ -64,37 +60,9 @@ board p = record {
   accepts = λ c. asks p (c .call);
 }
 
--- ---- sources
-
--- P of the wire that a source comes by
-source-by : (P : Wire → Type 0) (ws : List Wire) → Each P ws → (k s : ℕ) → mem s (sources ws k) ≡ true
-    → (w : Wire) × P w × (w .source ≡ s) × (w .target ≡ k)
-source-by P [] h k s e = absurd (false≢true e)
-source-by P (w ∷ ws) h k s e = go (eqb (w .target) k) refl e (source-by P ws (h .1) k s)
-  where
-    head : eqb (w .target) k ≡ true → (b : Bool) → eqb s (w .source) ≡ b → (b || mem s (sources ws k)) ≡ true
-        → (mem s (sources ws k) ≡ true → (v : Wire) × P v × (v .source ≡ s) × (v .target ≡ k)) → (v : Wire) × P v × (v .source ≡ s) × (v .target ≡ k)
-    head t true q e ih = (w, h .0, sym (eqb-true s (w .source) q), eqb-true (w .target) k t)
-    head t false q e ih = ih e
-
-    go : (b : Bool) → eqb (w .target) k ≡ b → mem s (cond b (w .source ∷ sources ws k) (sources ws k)) ≡ true
-        → (mem s (sources ws k) ≡ true → (v : Wire) × P v × (v .source ≡ s) × (v .target ≡ k)) → (v : Wire) × P v × (v .source ≡ s) × (v .target ≡ k)
-    go true t e ih = head t (eqb s (w .source)) refl e ih
-    go false t e ih = ih e
-
 module _ (p : Parsed) (fine : Fine p) where
-  pub source-there : (k s : ℕ) → mem s (sources (p .wires) k) ≡ true → s < length (p .nodes)
-  source-there k s e =
-      let w = source-by (WireObeys (length (p .nodes))) (p .wires) (fine .wires) k s e in
-      subst (λ (n : ℕ). n < length (p .nodes)) (w .2) (w .1 .source-there)
-
-  pub source-apart : (k s : ℕ) → mem s (sources (p .wires) k) ≡ true → s ≢ k
-  source-apart k s e q =
-      let w = source-by (WireObeys (length (p .nodes))) (p .wires) (fine .wires) k s e in
-      w .1 .apart (w .2 ∙ q ∙ sym (w .3))
-
   pub lists : ListsReached (p .wires) (listed p)
-  lists = lists-reached (p .wires) (λ k s e. omega (arith, source-there k s e, fine .few-nodes))
+  lists = lists-reached (p .wires) (λ k s e. omega (arith, source-there p fine k s e, fine .few-nodes))
 
   -- ---- accepted calls
 
@@ -143,7 +111,7 @@ module _ (p : Parsed) (fine : Fine p) where
 
   pub board-sound : Sound (board p)
   board-sound = record {
-    no-self = source-apart;
+    no-self = λ k s e. source-there p fine k s e .1;
     once = lists .once;
     input-first = λ k m s. not-false _ (lists .input-first (p .input) (fine .input-free) k m s);
     whole-blocks = λ c a e. whole a (subst Asked e (asked (c .call) (c .single)));

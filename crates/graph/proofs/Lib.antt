@@ -19,11 +19,11 @@ pub mod RoundSix
 pub mod RoundRefused
 pub mod Round
 pub mod RoundWorked
-pub mod FineBoard
-pub mod Lawful
-pub mod Told
 pub mod ShownCells
 pub mod ShownRun
 pub mod ShownBlock
 pub mod ShownBytes
 pub mod ShownCall
+pub mod FineBoard
+pub mod Lawful
+pub mod Told

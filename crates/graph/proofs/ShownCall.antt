@@ -1,8 +1,7 @@
 -- The promise of one call: on memory that shows cells it leaves what shows the cells that the theory's call leaves, and replies by what that
 -- wrote, with the nodes of a block run taken in any order.
 --     replyFor             a reply's bytes, from what the theory's call wrote
---     call-shown           the promise
---     promise              the same for the visiting list, as the theory asks it
+--     call-shown           the promise, as the theory asks it
 -- Assumes nothing.
 use Prim.Native.Nat.{ℕ, zero, suc, _+_, _*_, _/_, _<_}
 use mathlib.Core.Path.{_≡_, refl, sym, ap, _∙_}
@@ -22,13 +21,12 @@ use Rattle.nodes.specs.Cell.{takesNumber, valueFits}
 use Rattle.reading.specs.Board as theory
 use Rattle.reading.specs.Calls as calls
 use Rattle.reading.specs.Blocks as blocks
-use Rattle.reading.specs.Keeps.{Kept}
 use Rattle.reading.specs.Memory.{Keeps-promise}
 use Rattle.graph.specs.Answer.{answer}
 use Rattle.graph.specs.Board.{Parsed, Reading, whole}
 use Rattle.graph.specs.Judge.{readBoard}
 use Rattle.graph.specs.Memory.{kindAt, passed, runNodes, putInput, runBlock}
-use Rattle.graph.specs.Calls.{Left, andThen, checkLength, checkMemory, checkBlocks, checkSamples, checkBlock, checkNumber, checkMessage, asFound, ranBlock, blockBy, blockIn, listed, setNumber, messageBy, messageOf}
+use Rattle.graph.specs.Calls.{Left, andThen, checkLength, checkMemory, checkBlocks, checkSamples, checkBlock, checkNumber, checkMessage, asFound, ranBlock, blockBy, blockIn, setNumber, messageBy, messageOf}
 use Rattle.graph.specs.Reading.{Call, block, message, answerTo, accepts, Reply}
 use Rattle.graph.specs.Claim.{replied, callIn}
 use Rattle.graph.specs.Instance.{Cells, mono, asks, boardOf, memoryRules, shown, memoryOf}
@@ -190,16 +188,8 @@ module _ (p : Parsed) (fine : Fine p) (o : List ℕ) (nodes : Nodes p o) (m : Ce
 
 module _ (board : List ℕ) (p : Parsed) (reads : readBoard board ≡ whole p) (fine : Fine p) (G : Frame → Type 0) where
   -- in any order of nodes of the board
-  pub call-shown : (o : List ℕ) → Nodes p o → (c : Call) (m : Cells) → Kept (boardOf p) (memoryRules p) G (Held p) m
-      → callIn o board c (memoryOf p m)
-      ≡ (memoryOf p ((calls.judged (boardOf p) (blocks.runCall (boardOf p) (memoryRules p) o) (blocks.outBlock (boardOf p)) c m) .0),
-        replyFor p c ((calls.judged (boardOf p) (blocks.runCall (boardOf p) (memoryRules p) o) (blocks.outBlock (boardOf p)) c m) .1))
+  pub call-shown : (o : List ℕ) → Nodes p o → Keeps-promise (boardOf p) (memoryRules p) G (Held p) o (memoryOf p) (replyFor p) (callIn o board)
   call-shown o nodes c m kept =
       call-by o board c (memoryOf p m)
       ∙ ap (λ (d : Reading). callBy o d c (memoryOf p m)) reads
       ∙ by-shown p fine o nodes m (kept-long p G m kept) (kept .state) c
-
-  -- in the visiting list's
-  pub promise : Nodes p (listed p)
-      → Keeps-promise (boardOf p) (memoryRules p) G (Held p) (memoryOf p) (replyFor p) (callIn (listed p) board)
-  promise nodes = call-shown (listed p) nodes

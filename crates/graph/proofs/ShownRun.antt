@@ -46,7 +46,7 @@ use Rattle.graph.proofs.ShownCells.{leftsOf, rightsOf, samples-length, 
 -- ---- sources
 
 -- of frames in wire order, the one that a source brings
-frame-of : (f : ℕ → Frame) (ss : List ℕ) (a : ℕ) → mem a ss ≡ true → frameOf ss (map f ss) a ≡ f a
+pub frame-of : (f : ℕ → Frame) (ss : List ℕ) (a : ℕ) → mem a ss ≡ true → frameOf ss (map f ss) a ≡ f a
 frame-of f [] a e = absurd (false≢true e)
 frame-of f (s ∷ ss) a e = go (eqb a s) refl e (frame-of f ss a)
   where
@@ -70,7 +70,7 @@ all-fewer (x ∷ xs) l = go (mem x l) (all-fewer xs)
     go false ih = omega (arith, ih (l ++ (x ∷ [])), length-append l (x ∷ []))
 
 -- where there are two sources there is a second wire
-second-source : (ws : List Wire) (k : ℕ) → 1 < length (distinctSources ws k) → mem (secondSource ws k) (sources ws k) ≡ true
+pub second-source : (ws : List Wire) (k : ℕ) → 1 < length (distinctSources ws k) → mem (secondSource ws k) (sources ws k) ≡ true
 unfolding distinct
 second-source ws k h = mem-at (sources ws k) 1 (omega (arith, all-fewer (sources ws k) []))
 
