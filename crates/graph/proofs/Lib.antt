@@ -27,3 +27,4 @@ pub mod ShownCall
 pub mod FineBoard
 pub mod Lawful
 pub mod Told
+pub mod DemandReading
