@@ -28,3 +28,4 @@ pub mod FineBoard
 pub mod Lawful
 pub mod Told
 pub mod DemandReading
+pub mod DemandAfter
