@@ -89,6 +89,10 @@ fresh-shown p =
     (shown-joined p (blocks.freshCells (board p) (memoryRules p)) (λ k. freshCell (p .size) (kindAt p k)) (fresh-cell p) (length (p .nodes))
     ∙ fresh-joined (p .size) (p .nodes) _)
 
+-- what a call answers, from what it wrote
+abbrev pub replyGiven : Parsed → Given → calls.Reply Frame → Reply
+replyGiven p c w = replyFor p (c .call) w
+
 module _ (p : Parsed) (fine : Fine p) (es : List Call) (s : Timed Frame) (u : Timed Heard) where
   -- the samples and states with those of the nodes that are not reached
   abbrev full : Timed Frame
@@ -165,10 +169,6 @@ module _ (p : Parsed) (fine : Fine p) (es : List Call) (s : Timed Frame) (u : Ti
 
   -- ---- the replies
 
-  -- what each call answers, from what it wrote
-  abbrev pub replyGiven : Given → calls.Reply Frame → Reply
-  replyGiven c w = replyFor p (c .call) w
-
   out-left : (b : ℕ) → map (λ f. f .left) (tab (p .size) (λ i. full (b * p .size + i) 0)) ≡ tab (p .size) (λ i. s (b * p .size + i) 0 .left)
   out-left b =
       map-tab (λ f. f .left) (p .size) (λ i. full (b * p .size + i) 0)
@@ -180,13 +180,13 @@ module _ (p : Parsed) (fine : Fine p) (es : List Call) (s : Timed Frame) (u : Ti
       ∙ tab-agree (p .size) _ _ (λ i h. ap (λ (f : Frame). f .right) (whole-reached p fine es s (b * p .size + i) 0 (lists p fine .all 0 start)))
 
   pub replies-shown : (cs : List Given) (b : ℕ)
-      → answers replyGiven cs (timeReplies (board p) (byBlock (p .size) (whole p fine es s)) b cs) ≡ repliesTo p s b (callsOf cs)
+      → answers (replyGiven p) cs (timeReplies (board p) (byBlock (p .size) (whole p fine es s)) b cs) ≡ repliesTo p s b (callsOf cs)
   unfolding repliesTo
   replies-shown [] b = refl
   replies-shown (c ∷ cs) b = one (c .call) (replies-shown cs)
     where
       rest : ℕ → List Reply
-      rest n = answers replyGiven cs (timeReplies (board p) (byBlock (p .size) full) n cs)
+      rest n = answers (replyGiven p) cs (timeReplies (board p) (byBlock (p .size) full) n cs)
 
       one : (d : Call) → ((n : ℕ) → rest n ≡ repliesTo p s n (callsOf cs))
           → replyFor p d (timeReply (board p) (byBlock (p .size) full) b (asks p d)) ∷ rest (nextBlock b (asks p d))

@@ -29,3 +29,4 @@ pub mod Lawful
 pub mod Told
 pub mod DemandReading
 pub mod DemandAfter
+pub mod Demand
