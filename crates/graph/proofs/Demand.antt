@@ -1,7 +1,7 @@
 -- Demand 3 of document 01, undivided: for every board that the judge accepts and every list of calls, refused ones among them, what the calls
 -- on its bytes answer, write and leave, from fresh memory, is what the reading by samples says, in the visiting list's order and in every other
 -- that puts the source first on exactly the same wires.
---     demand         the theorem
+--     demand         the theorem; board-claim, the same where what is read is at hand
 --     listed-call    in the visiting list's order a call is the block run itself
 -- Assumes nothing.
 use Prim.Native.Nat.{ℕ, suc, _/_, _%_}
@@ -149,12 +149,17 @@ module _ (bytes : List ℕ) (p : Parsed) (reads : readBoard bytes ≡ whole p) (
 
 -- ---- the theorem
 
--- what the theorem says of a board's bytes: they are read as p, and the claim holds of every list of calls with singles for values
+-- of a board that is read as p
+pub board-claim : (bytes : List ℕ) → Bytes bytes → (p : Parsed) → readBoard bytes ≡ whole p → (cs : List Call) → All Single cs → Claim bytes p cs
+board-claim bytes b p e cs h = subst (Claim bytes p) (calls-given cs h) (claim-given bytes p e (fine-board bytes b p e) (given cs h))
+
+-- what it says of bytes: they are read as a board, and the claim holds of every list of calls with singles for values
 pub record Demand (bytes : List ℕ) : Type 0 where
   pub parsed : Parsed
   pub reads : readBoard bytes ≡ whole parsed
   pub claim : (cs : List Call) → All Single cs → Claim bytes parsed cs
 
+-- of every board that the judge accepts
 pub demand : (bytes : List ℕ) → Bytes bytes → (judgeOf bytes) .number ≡ 0 → Demand bytes
 unfolding judgeOf
 demand bytes b = go (readBoard bytes) refl (read-numbered bytes)
@@ -162,11 +167,7 @@ demand bytes b = go (readBoard bytes) refl (read-numbered bytes)
     go : (r : Reading) → readBoard bytes ≡ r → Numbered r → (answerBy memoryLength r) .number ≡ 0 → Demand bytes
     go (going at last p) e n z = absurd (omega arith)
     go (refused k w) e n z = absurd (omega arith)
-    go (whole p) e n z = record {
-      parsed = p;
-      reads = e;
-      claim = λ cs h. subst (Claim bytes p) (calls-given cs h) (claim-given bytes p e (fine-board bytes b p e) (given cs h));
-    }
+    go (whole p) e n z = record { parsed = p; reads = e; claim = board-claim bytes b p e }
 
 -- the visiting list is one of the orders, and in it a call is the block run itself
 pub listed-call : (bytes : List ℕ) (p : Parsed) → readBoard bytes ≡ whole p → (m x l r : List ℕ)

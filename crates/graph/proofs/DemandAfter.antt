@@ -11,16 +11,14 @@ use mathlib.Core.Bool.{Bool, true, false, cond}
 use borrow.Author.Tests.{eqb-true}
 use lib.Dec.{eqb, leb}
 use lib.ListN.{length, getD, replicate}
-use lib.Ieee.{binary32, toBits}
 use Rattle.leaves.specs.Words.{unwords}
 use Rattle.nodes.specs.Kind.{channelsOf}
-use Rattle.nodes.specs.Rule.{Frame, State}
+use Rattle.nodes.specs.Rule.{Frame}
 use Rattle.nodes.specs.Cell.{Cell, valuesOf, freshCell}
-use Rattle.nodes.specs.History.{Heard, freshHeard, stateOf}
+use Rattle.nodes.specs.History.{Heard, stateOf}
 use Rattle.nodes.specs.HistoryBlock as frames
 use Rattle.nodes.proofs.HistoryFrames.{map-tab, frames-fresh}
 use Rattle.nodes.specs.declared.kind.NodeKind.{NodeKind}
-use Rattle.nodes.specs.declared.kind.NodeKind.the-variants.{Pass}
 use Rattle.nodes.specs.declared.kind.NodeRecord.{NodeRecord}
 use Rattle.reading.specs.Table.{tab}
 use Rattle.reading.specs.Board as theory
@@ -30,13 +28,12 @@ use Rattle.reading.specs.Places.{joined}
 use Rattle.reading.specs.Visit.{start}
 use Rattle.reading.specs.Time.{timeReply, nextBlock, timeReplies}
 use Rattle.reading.specs.Flat.{byBlock, flatCells}
-use Rattle.reading.specs.Flat as flat
 use Rattle.reading.specs.Encode.{encCells}
 use Rattle.reading.specs.Memory.{answers}
 use Rattle.reading.proofs.Table.{tab-agree}
 use Rattle.graph.specs.Board.{Parsed}
 use Rattle.graph.specs.Memory.{kindAt, freshFrom, freshValues}
-use Rattle.graph.specs.Reading.{Call, block, message, Reply, Timed, silence, reached, accepts, answerTo, accepted, end, inputAt, earlier, toldAll, samplesOf, reachedCell, lastInput, otherCell, cellAfter, cellsTo, memoryAfter, outputs, replyTo, blocksAfter, repliesTo}
+use Rattle.graph.specs.Reading.{Call, block, message, Reply, Timed, silence, reached, accepts, answerTo, end, inputAt, earlier, samplesOf, reachedCell, lastInput, otherCell, cellAfter, cellsTo, memoryAfter, outputs, replyTo, blocksAfter, repliesTo}
 use Rattle.graph.specs.Instance.{Cells, mono, asks, memoryRules, cellIn, shownTo, memoryOf}
 use Rattle.graph.specs.Fine.{Fine}
 use Rattle.graph.specs.declared.answer.Answer.{Answer}

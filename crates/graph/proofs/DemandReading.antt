@@ -5,14 +5,13 @@
 --     reading-flat     solves the theory's
 --     still-end        a node that is not reached has heard its messages, and nothing else
 -- Assumes nothing.
-use Prim.Native.Nat.{ℕ, zero, suc, _+_, _-_, _*_, _/_, _%_, _≤_, _<_}
+use Prim.Native.Nat.{ℕ, zero, suc, _+_, _-_, _*_, _/_, _%_, _<_}
 use mathlib.Core.Path.{_≡_, refl, sym, ap, subst, _∙_, fun-ext}
-use mathlib.Core.Logic.{_≢_}
-use mathlib.Core.List.{List, [], _∷_, map}
+use mathlib.Core.List.{List, map}
 use mathlib.Core.Bool.{Bool, true, false, cond}
 use native.Mathlib.Nat.{mul-mod-left, mul-div-cancel}
 use native.Mathlib.Omega.{arith}
-use borrow.Author.Tests.{ltb-true, eqb-true, ne-eqb, eq-eqb}
+use borrow.Author.Tests.{ltb-true, ne-eqb, eq-eqb}
 use lib.Dec.{eqb, ltb, leb}
 use lib.Arith.{digits-mod}
 use lib.ListN.{length, length-map}
@@ -23,10 +22,9 @@ use Rattle.nodes.specs.History.{Heard, freshHeard, sampleHeard, heardAfter}
 use Rattle.nodes.proofs.Unread.{unread, heard-sample-unread, heard-unread}
 use Rattle.reading.specs.Table.{mem}
 use Rattle.reading.specs.Order.{sources, late}
-use Rattle.reading.specs.Board.{Rules}
 use Rattle.reading.specs.Board as theory
 use Rattle.reading.specs.Time as time
-use Rattle.reading.specs.Flat.{IsFlat, earlierBy, heldWhen}
+use Rattle.reading.specs.Flat.{IsFlat, heldWhen}
 use Rattle.reading.specs.Flat as flat
 use Rattle.reading.proofs.Table.{map-agree}
 use Rattle.graph.specs.Sources.{distinctSources, secondSource}

@@ -35,8 +35,8 @@ use Rattle.graph.specs.Answer.{answer}
 use Rattle.graph.specs.Board.{Parsed}
 use Rattle.graph.specs.Listed.{ListsReached}
 use Rattle.graph.specs.Memory.{passed, kindAt}
-use Rattle.graph.specs.Calls.{andThen, checkBlocks, checkSamples, checkNumber, listed}
-use Rattle.graph.specs.Reading.{Call, block, message, answerTo, accepts, silence}
+use Rattle.graph.specs.Calls.{andThen, checkBlocks, checkSamples, listed}
+use Rattle.graph.specs.Reading.{Call, block, message, accepts, silence}
 use Rattle.graph.specs.Claim.{Single}
 use Rattle.graph.specs.Instance.{mono, asks, broughtFrom, memoryRules, readingRules}
 use Rattle.graph.specs.Fine.{Fine, Held}

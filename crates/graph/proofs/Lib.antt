@@ -30,3 +30,4 @@ pub mod Told
 pub mod DemandReading
 pub mod DemandAfter
 pub mod Demand
+pub mod DemandWorked

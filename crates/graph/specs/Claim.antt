@@ -8,8 +8,7 @@ use lib.Dec.{T}
 use lib.Ieee.{binary32, fits}
 use Rattle.leaves.specs.Words.{unwords}
 use Rattle.reading.specs.Order.{Reorders}
-use Rattle.graph.specs.Board.{Parsed, whole}
-use Rattle.graph.specs.Judge.{readBoard, judgeOf}
+use Rattle.graph.specs.Board.{Parsed}
 use Rattle.graph.specs.Memory.{freshValues}
 use Rattle.graph.specs.Calls.{Left, blockIn, messageOf, listed}
 use Rattle.graph.specs.Reading.{Call, block, message, Reply, Timed, IsReading, accepted, repliesTo, memoryAfter}
