@@ -24,3 +24,4 @@ pub mod ShownRun
 pub mod ShownBlock
 pub mod ShownBytes
 pub mod ShownCall
+pub mod ShownFresh
