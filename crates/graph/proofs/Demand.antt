@@ -35,10 +35,11 @@ use Rattle.graph.proofs.RoundRefused.{Numbered, read-numbered}
 use Rattle.graph.proofs.FineBoard.{fine-board}
 use Rattle.graph.proofs.Lawful.{Given, board, board-sound, rules-encode, rules-lawful}
 use Rattle.graph.proofs.Told.{callsOf, heard-sent}
-use Rattle.graph.proofs.ShownBlock.{Nodes}
+use Rattle.graph.proofs.ShownBlock.{reordered}
 use Rattle.graph.proofs.ShownCall.{call-shown}
+use Rattle.graph.proofs.ShownFresh.{fresh-shown}
 use Rattle.graph.proofs.DemandReading as reading
-use Rattle.graph.proofs.DemandAfter.{fresh-shown, memory-shown, replyGiven, replies-shown}
+use Rattle.graph.proofs.DemandAfter.{memory-shown, replyGiven, replies-shown}
 
 -- ---- calls with singles for values
 
@@ -97,16 +98,12 @@ module _ (bytes : List ℕ) (p : Parsed) (reads : readBoard bytes ≡ whole p) (
     memory-is [] m = refl
     memory-is (d ∷ ds) m = memory-is ds ((call d m) .0)
 
-    -- an order takes nodes of the board
-    in-order : Nodes p o
-    in-order k e = reading.reached-there p fine es k (sym (fit .same k) ∙ e)
-
     abbrev G : Frame → Type 0
     G f = Unit {0}
 
     promise : Keeps-promise (board p) (memoryRules p) G (Held p) o (memoryOf p) (replyGiven p) call
     promise c m kept =
-        call-shown bytes p reads fine G o in-order (c .call) m (record { state = kept .state; sample = kept .sample; size = kept .size })
+        call-shown bytes p reads fine G o (reordered p fine o fit) (c .call) m (record { state = kept .state; sample = kept .sample; size = kept .size })
 
     abbrev full : Timed Frame
     full = reading.whole p fine es s
@@ -132,10 +129,10 @@ module _ (bytes : List ℕ) (p : Parsed) (reads : readBoard bytes ≡ whole p) (
         )
 
     calls-reply : repliesIn o bytes (callsOf cs) (unwords (freshValues p)) ≡ repliesTo p s 0 (callsOf cs)
-    calls-reply = ap (repliesIn o bytes (callsOf cs)) (sym (fresh-shown p)) ∙ replies-are cs _ ∙ both .0
+    calls-reply = ap (repliesIn o bytes (callsOf cs)) (ap unwords (fresh-shown p)) ∙ replies-are cs _ ∙ both .0
 
     calls-leave : memoryIn o bytes (callsOf cs) (unwords (freshValues p)) ≡ memoryAfter p es s u
-    calls-leave = ap (memoryIn o bytes (callsOf cs)) (sym (fresh-shown p)) ∙ memory-is cs _ ∙ both .1
+    calls-leave = ap (memoryIn o bytes (callsOf cs)) (ap unwords (fresh-shown p)) ∙ memory-is cs _ ∙ both .1
 
   claim-given : Claim bytes p (callsOf cs)
   claim-given = record {

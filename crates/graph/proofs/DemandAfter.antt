@@ -1,28 +1,23 @@
 -- What a list of calls leaves and answers, by the theory, is what the reading by samples says:
---     fresh-shown      fresh cells show fresh memory
 --     memory-shown     the theory's cells afterwards show every byte of the memory
 --     replies-shown    what its calls wrote are the replies
 -- Assumes nothing.
 use Prim.Native.Nat.{ℕ, zero, suc, _+_, _-_, _*_}
-use mathlib.Core.Path.{_≡_, refl, sym, ap, _∙_}
-use mathlib.Core.List.{List, [], _∷_, _++_, map, append-nil, append-assoc}
+use mathlib.Core.Path.{_≡_, refl, ap, _∙_}
+use mathlib.Core.List.{List, [], _∷_, _++_, map}
 use mathlib.Core.Option.{Option, none, some}
 use mathlib.Core.Bool.{Bool, true, false, cond}
 use borrow.Author.Tests.{eqb-true}
 use lib.Dec.{eqb, leb}
-use lib.ListN.{length, getD, replicate}
+use lib.ListN.{length}
 use Rattle.leaves.specs.Words.{unwords}
 use Rattle.nodes.specs.Kind.{channelsOf}
 use Rattle.nodes.specs.Rule.{Frame}
-use Rattle.nodes.specs.Cell.{Cell, valuesOf, freshCell}
+use Rattle.nodes.specs.Cell.{Cell, valuesOf}
 use Rattle.nodes.specs.History.{Heard, stateOf}
-use Rattle.nodes.specs.HistoryBlock as frames
-use Rattle.nodes.proofs.HistoryFrames.{map-tab, frames-fresh}
-use Rattle.nodes.specs.declared.kind.NodeKind.{NodeKind}
-use Rattle.nodes.specs.declared.kind.NodeRecord.{NodeRecord}
+use Rattle.nodes.proofs.HistoryFrames.{map-tab}
 use Rattle.reading.specs.Table.{tab}
 use Rattle.reading.specs.Board as theory
-use Rattle.reading.specs.Blocks as blocks
 use Rattle.reading.specs.Calls as calls
 use Rattle.reading.specs.Places.{joined}
 use Rattle.reading.specs.Visit.{start}
@@ -32,9 +27,9 @@ use Rattle.reading.specs.Encode.{encCells}
 use Rattle.reading.specs.Memory.{answers}
 use Rattle.reading.proofs.Table.{tab-agree}
 use Rattle.graph.specs.Board.{Parsed}
-use Rattle.graph.specs.Memory.{kindAt, freshFrom, freshValues}
+use Rattle.graph.specs.Memory.{kindAt}
 use Rattle.graph.specs.Reading.{Call, block, message, Reply, Timed, silence, reached, accepts, answerTo, end, inputAt, earlier, samplesOf, reachedCell, lastInput, otherCell, cellAfter, cellsTo, memoryAfter, outputs, replyTo, blocksAfter, repliesTo}
-use Rattle.graph.specs.Instance.{Cells, mono, asks, memoryRules, cellIn, shownTo, memoryOf}
+use Rattle.graph.specs.Instance.{Cells, mono, asks, cellIn, shownTo, memoryOf}
 use Rattle.graph.specs.Fine.{Fine}
 use Rattle.graph.specs.declared.answer.Answer.{Answer}
 use Rattle.graph.proofs.Lawful.{Given, board, lists}
@@ -44,47 +39,10 @@ use Rattle.graph.proofs.DemandReading.{still, whole, whole-reached, who
 
 -- ---- cells one behind another
 
-joined-cons : (n : ℕ) (f : ℕ → List ℕ) → joined (suc n) f ≡ f 0 ++ joined n (λ k. f (suc k))
-joined-cons zero f = sym (append-nil (f 0))
-joined-cons (suc n) f = ap (λ (l : List ℕ). l ++ f (suc n)) (joined-cons n f) ∙ append-assoc (f 0) (joined n (λ k. f (suc k))) (f (suc n))
-
 shown-joined : (p : Parsed) (c : Cells) (f : ℕ → Cell) → ((k : ℕ) → cellIn p c k ≡ f k) → (n : ℕ) → shownTo p c n ≡ joined n (λ k. valuesOf (f k))
 unfolding shownTo
 shown-joined p c f e zero = refl
 shown-joined p c f e (suc n) = λ i. shown-joined p c f e n i ++ valuesOf (e n i)
-
--- ---- fresh memory
-
-samples-fresh : (k : NodeKind) (N : ℕ) → samplesOf (channelsOf k) (replicate N silence) ≡ replicate (N * channelsOf k) 0
-unfolding frames.samplesOf
-samples-fresh k N = go (eqb (channelsOf k) 2) ∙ sym (frames-fresh k N)
-  where
-    ls : List ℕ
-    ls = map (λ f. f .left) (replicate N silence)
-
-    rs : List ℕ
-    rs = map (λ f. f .right) (replicate N silence)
-
-    go : (b : Bool) → cond b (ls ++ rs) ls ≡ ls ++ cond b rs []
-    go true = refl
-    go false = sym (append-nil ls)
-
-fresh-joined : (N : ℕ) (rs : List NodeRecord) (z : NodeRecord) → joined (length rs) (λ k. valuesOf (freshCell N (getD rs k z .kind))) ≡ freshFrom N rs
-fresh-joined N [] z = refl
-fresh-joined N (r ∷ rs) z =
-    joined-cons (length rs) (λ k. valuesOf (freshCell N (getD (r ∷ rs) k z .kind)))
-    ∙ ap (λ (l : List ℕ). valuesOf (freshCell N (r .kind)) ++ l) (fresh-joined N rs z)
-
-fresh-cell : (p : Parsed) (k : ℕ) → cellIn p (blocks.freshCells (board p) (memoryRules p)) k ≡ freshCell (p .size) (kindAt p k)
-unfolding memoryRules freshCell
-fresh-cell p k = λ i. record { state = freshCell (p .size) (kindAt p k) .state; samples = samples-fresh (kindAt p k) (p .size) i }
-
-pub fresh-shown : (p : Parsed) → memoryOf p (blocks.freshCells (board p) (memoryRules p)) ≡ unwords (freshValues p)
-unfolding freshValues
-fresh-shown p =
-    ap unwords
-    (shown-joined p (blocks.freshCells (board p) (memoryRules p)) (λ k. freshCell (p .size) (kindAt p k)) (fresh-cell p) (length (p .nodes))
-    ∙ fresh-joined (p .size) (p .nodes) _)
 
 -- what a call answers, from what it wrote
 abbrev pub replyGiven : Parsed → Given → calls.Reply Frame → Reply

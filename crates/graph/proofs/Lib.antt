@@ -24,6 +24,7 @@ pub mod ShownRun
 pub mod ShownBlock
 pub mod ShownBytes
 pub mod ShownCall
+pub mod ShownFresh
 pub mod FineBoard
 pub mod Lawful
 pub mod Told

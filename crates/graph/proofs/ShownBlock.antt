@@ -1,11 +1,12 @@
 -- A block run's parts and a number message, on memory that shows cells.
---     order-shown          the nodes of any order
+--     listed-order, reordered    the visiting list, and every other order of its nodes, is one of the board's nodes
+--     order-shown          the nodes of an order
 --     input-shown          the input block
 --     left-out, right-out  the output blocks
 --     message-shown        a number message
 --     put-long, order-long, input-long    the cells keep their lengths
 -- Assumes nothing.
-use Prim.Native.Nat.{ℕ, zero, suc, _+_, _*_, _<_}
+use Prim.Native.Nat.{ℕ, _+_, _*_, _<_}
 use mathlib.Core.Path.{_≡_, refl, sym, ap, subst⁻¹, _∙_}
 use mathlib.Core.Bool.{true}
 use mathlib.Core.List.{List, [], _∷_, _++_, map, append-assoc}
@@ -21,21 +22,35 @@ use Rattle.nodes.specs.Rule.{Frame, State}
 use Rattle.nodes.specs.Cell.{valuesOf}
 use Rattle.nodes.specs.declared.kind.NodeKind.{NodeKind}
 use Rattle.reading.specs.Table.{put, mem}
+use Rattle.reading.specs.Order.{Reorders}
 use Rattle.reading.specs.Board as theory
 use Rattle.reading.specs.Blocks as blocks
 use Rattle.reading.proofs.Table.{put-same, put-other, mem-head, or-right}
 use Rattle.graph.specs.Board.{Parsed}
-use Rattle.graph.specs.Memory.{nodeAt, kindAt, runNode, runNodes, putInput}
-use Rattle.graph.specs.Calls.{setNumber}
+use Rattle.graph.specs.Memory.{nodeAt, kindAt, runNodes, putInput}
+use Rattle.graph.specs.Calls.{listed, setNumber}
 use Rattle.graph.specs.Reading.{samplesOf}
 use Rattle.graph.specs.Instance.{Cells, mono, boardOf, memoryRules, cellIn, shown}
+use Rattle.graph.specs.Listed.{SourcesBelow}
 use Rattle.graph.specs.Fine.{Fine}
-use Rattle.graph.proofs.ShownCells.{leftsOf, rightsOf, samples-length, part-mid, paste-mid, cellHeld, LongCell, Long, Around, around}
-use Rattle.graph.proofs.ShownRun.{run-long, run-shown}
+use Rattle.graph.proofs.Listed.{lists-reached}
+use Rattle.graph.proofs.ShownCells.{leftsOf, rightsOf, samples-length, part-mid, paste-mid, LongCell, Long, Around, around}
+use Rattle.graph.proofs.ShownRun.{source-there, run-long, run-shown}
 
--- nodes of the board
-abbrev pub Nodes : Parsed → List ℕ → Type 0
-Nodes p o = (k : ℕ) → mem k o ≡ true → k < length (p .nodes)
+-- an order of nodes of the board
+abbrev pub OfBoard : Parsed → List ℕ → Type 0
+OfBoard p o = (k : ℕ) → mem k o ≡ true → k < length (p .nodes)
+
+-- the visiting list is one, and so is every other order of its nodes
+module _ (p : Parsed) (fine : Fine p) where
+  below : SourcesBelow (p .wires) (length (p .nodes))
+  below k s e = source-there p fine k s e .0
+
+  pub listed-order : OfBoard p (listed p)
+  listed-order = lists-reached (p .wires) (λ k s e. omega (arith, below k s e, fine .few-nodes)) .below (length (p .nodes)) (fine .some-node) below
+
+  pub reordered : (o : List ℕ) → Reorders (p .wires) (listed p) o → OfBoard p o
+  reordered o r k e = listed-order k (sym (r .same k) ∙ e)
 
 pub put-long : (p : Parsed) (c : Cells) (k : ℕ) (d : blocks.Cell Frame State) → Long p c → LongCell p k d → Long p (put c k d)
 put-long p c k d long h j = go (ℕ-discrete j k)
@@ -51,7 +66,7 @@ module _ (p : Parsed) where
   order-long [] c long = long
   order-long (k ∷ o) c long = order-long o (blocks.runNode (boardOf p) (memoryRules p) k (p .size) c) (run-long p k c long (p .size))
 
-  pub order-shown : Fine p → (o : List ℕ) → Nodes p o → (c : Cells) → Long p c
+  pub order-shown : Fine p → (o : List ℕ) → OfBoard p o → (c : Cells) → Long p c
       → runNodes p o (shown p c) ≡ shown p (blocks.runNodes (boardOf p) (memoryRules p) o c)
   unfolding runNodes
   order-shown fine [] there c long = refl

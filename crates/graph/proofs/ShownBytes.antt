@@ -3,8 +3,8 @@
 --     kept-long            cells of which `Held` holds all along have their lengths
 --     length-passes, memory-passes    checks 7 and 8
 -- Assumes nothing.
-use Prim.Native.Nat.{ℕ, zero, suc, _+_, _*_, _/_, _%_, _<_}
-use mathlib.Core.Path.{_≡_, refl, sym, ap, _∙_}
+use Prim.Native.Nat.{ℕ, suc, _*_, _/_, _%_, _<_}
+use mathlib.Core.Path.{_≡_, refl, ap, _∙_}
 use mathlib.Core.Bool.{Bool, true, cond, _&&_}
 use mathlib.Core.List.{List, [], _∷_}
 use native.Mathlib.Omega.{arith}
@@ -12,7 +12,6 @@ use borrow.Author.Tests.{eq-eqb}
 use lib.ListN.{length, getD, drop}
 use lib.Seq.{getD-drop}
 use Rattle.leaves.specs.Words.{word, words, unwords}
-use Rattle.nodes.specs.Kind.{cellSize}
 use Rattle.nodes.specs.Rule.{Frame}
 use Rattle.nodes.specs.Cell.{valuesOf, numberFits, carryFits, placeFits, cellFits}
 use Rattle.nodes.specs.declared.kind.NodeKind.the-variants.{Pass}

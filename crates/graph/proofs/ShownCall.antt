@@ -3,7 +3,7 @@
 --     replyFor             a reply's bytes, from what the theory's call wrote
 --     call-shown           the promise, as the theory asks it
 -- Assumes nothing.
-use Prim.Native.Nat.{ℕ, zero, suc, _+_, _*_, _/_, _<_}
+use Prim.Native.Nat.{ℕ, suc, _+_, _*_, _<_}
 use mathlib.Core.Path.{_≡_, refl, sym, ap, _∙_}
 use mathlib.Core.Bool.{Bool, true, false, cond, _&&_, and-eq-true-iff, false≢true}
 use mathlib.Core.Option.{Option, none, some}
@@ -16,7 +16,7 @@ use lib.ListN.{length}
 use Rattle.leaves.specs.Parts.{part}
 use Rattle.leaves.specs.Words.{words, unwords, length-words}
 use Rattle.nodes.specs.Kind.{finite}
-use Rattle.nodes.specs.Rule.{Frame, State}
+use Rattle.nodes.specs.Rule.{Frame}
 use Rattle.nodes.specs.Cell.{takesNumber, valueFits}
 use Rattle.reading.specs.Board as theory
 use Rattle.reading.specs.Calls as calls
@@ -25,15 +25,15 @@ use Rattle.reading.specs.Memory.{Keeps-promise}
 use Rattle.graph.specs.Answer.{answer}
 use Rattle.graph.specs.Board.{Parsed, Reading, whole}
 use Rattle.graph.specs.Judge.{readBoard}
-use Rattle.graph.specs.Memory.{kindAt, passed, runNodes, putInput, runBlock}
-use Rattle.graph.specs.Calls.{Left, andThen, checkLength, checkMemory, checkBlocks, checkSamples, checkBlock, checkNumber, checkMessage, asFound, ranBlock, blockBy, blockIn, setNumber, messageBy, messageOf}
+use Rattle.graph.specs.Memory.{kindAt, passed, runNodes, runBlock}
+use Rattle.graph.specs.Calls.{Left, andThen, checkLength, checkMemory, checkSamples, asFound, ranBlock, blockBy, blockIn, setNumber, messageBy, messageOf}
 use Rattle.graph.specs.Reading.{Call, block, message, answerTo, accepts, Reply}
 use Rattle.graph.specs.Claim.{replied, callIn}
-use Rattle.graph.specs.Instance.{Cells, mono, asks, boardOf, memoryRules, shown, memoryOf}
+use Rattle.graph.specs.Instance.{Cells, mono, boardOf, memoryRules, shown, memoryOf}
 use Rattle.graph.specs.Fine.{Fine, Held}
 use Rattle.graph.specs.declared.answer.Answer.{Answer}
 use Rattle.graph.proofs.ShownCells.{leftsOf, rightsOf, Long}
-use Rattle.graph.proofs.ShownBlock.{Nodes, order-long, order-shown, message-shown, input-long, input-shown, left-out, right-out}
+use Rattle.graph.proofs.ShownBlock.{OfBoard, order-long, order-shown, message-shown, input-long, input-shown, left-out, right-out}
 use Rattle.graph.proofs.ShownBytes.{words-unwords, kept-long, length-passes, memory-passes}
 
 -- ---- the reply
@@ -99,7 +99,7 @@ unfolding blockIn messageOf
 call-by o board (block x l r) m = refl
 call-by o board (message k v) m = refl
 
-module _ (p : Parsed) (fine : Fine p) (o : List ℕ) (nodes : Nodes p o) (m : Cells) (long : Long p m) (held : (k : ℕ) → Held p k (m k .state)) where
+module _ (p : Parsed) (fine : Fine p) (o : List ℕ) (nodes : OfBoard p o) (m : Cells) (long : Long p m) (held : (k : ℕ) → Held p k (m k .state)) where
   abbrev M : List ℕ
   M = memoryOf p m
 
@@ -188,7 +188,7 @@ module _ (p : Parsed) (fine : Fine p) (o : List ℕ) (nodes : Nodes p o) (m : Ce
 
 module _ (board : List ℕ) (p : Parsed) (reads : readBoard board ≡ whole p) (fine : Fine p) (G : Frame → Type 0) where
   -- in any order of nodes of the board
-  pub call-shown : (o : List ℕ) → Nodes p o → Keeps-promise (boardOf p) (memoryRules p) G (Held p) o (memoryOf p) (replyFor p) (callIn o board)
+  pub call-shown : (o : List ℕ) → OfBoard p o → Keeps-promise (boardOf p) (memoryRules p) G (Held p) o (memoryOf p) (replyFor p) (callIn o board)
   call-shown o nodes c m kept =
       call-by o board c (memoryOf p m)
       ∙ ap (λ (d : Reading). callBy o d c (memoryOf p m)) reads

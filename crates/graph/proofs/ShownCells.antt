@@ -149,10 +149,10 @@ module _ (p : Parsed) where
           let s = ih (omega arith) in (
             s .0 ++ valuesOf (cellIn p c m),
             λ d.
-              ap (λ (x : blocks.Cell Frame State). shownTo p (put c j d) m ++ valuesOf (cellHeld p m x)) (put-other c j d (λ q. n (sym q)))
-              ∙ ap (λ (l : List ℕ). l ++ valuesOf (cellIn p c m)) (s .1 d)
-              ∙ append-assoc (shownTo p c j) (valuesOf (cellHeld p j d) ++ s .0) (valuesOf (cellIn p c m))
-              ∙ ap (λ (l : List ℕ). shownTo p c j ++ l) (append-assoc (valuesOf (cellHeld p j d)) (s .0) (valuesOf (cellIn p c m))),
+                ap (λ (x : blocks.Cell Frame State). shownTo p (put c j d) m ++ valuesOf (cellHeld p m x)) (put-other c j d (λ q. n (sym q)))
+                ∙ ap (λ (l : List ℕ). l ++ valuesOf (cellIn p c m)) (s .1 d)
+                ∙ append-assoc (shownTo p c j) (valuesOf (cellHeld p j d) ++ s .0) (valuesOf (cellIn p c m))
+                ∙ ap (λ (l : List ℕ). shownTo p c j ++ l) (append-assoc (valuesOf (cellHeld p j d)) (s .0) (valuesOf (cellIn p c m))),
           )
 
   put-own : (c : Cells) (k j : ℕ) → put c k (c k) j ≡ c j

@@ -13,7 +13,7 @@ use native.Mathlib.Decide.{ℕ-discrete}
 use borrow.Author.Tests.{eqb-true, ltb-true}
 use lib.Dec.{eqb, ltb}
 use lib.Ieee.{Float, nan, binary32, ofBits, toBits}
-use lib.ListN.{length, getD, set, take, drop, length-append, length-map, length-set}
+use lib.ListN.{length, getD, set, drop, length-append, length-map, length-set}
 use lib.Seq.{paste, take-at, drop-at, set-append-left}
 use Rattle.leaves.specs.Floats.{floatAt}
 use Rattle.leaves.specs.Parts.{part}
@@ -33,7 +33,7 @@ use Rattle.reading.specs.Board as theory
 use Rattle.reading.specs.Blocks as blocks
 use Rattle.reading.proofs.Table.{put-same, put-other, map-agree, mem-head, or-right}
 use Rattle.reading.proofs.Order.{each-source}
-use Rattle.graph.specs.Sources.{addNew, addAll, distinct, distinctSources, secondSource}
+use Rattle.graph.specs.Sources.{addAll, distinct, distinctSources, secondSource}
 use Rattle.graph.specs.Board.{Parsed}
 use Rattle.graph.specs.Write.{WireObeys}
 use Rattle.graph.specs.Memory.{nodeAt, kindAt, leftStart, rightStart, lefts, rights, broughtBy, runNode}

@@ -16,9 +16,9 @@ use lib.ListN.{length, set, length-set}
 use lib.Ieee.{Float, nan, binary32, ofBits, toBits, add, mul}
 use Rattle.leaves.specs.Position.{positionOf, restOf}
 use Rattle.leaves.specs.Floors.{floorOf}
-use Rattle.nodes.specs.Kind.{fewest, most, sourcesFit}
-use Rattle.nodes.specs.Rule.{Brought, Frame, State, first, two, operand, allPass, between, tap, leftOf, rightOf, keeps, carryAfter, lineAfter, xLine, yLine, leftBy, sampleBy, stateBy}
-use Rattle.nodes.specs.History.{Heard, Taken, leftHeard, sampleHeard, heardAfter}
+use Rattle.nodes.specs.Kind.{sourcesFit}
+use Rattle.nodes.specs.Rule.{Brought, Frame, State, first, two, allPass, between, tap, leftOf, rightOf, keeps, carryAfter, lineAfter, xLine, yLine, leftBy, sampleBy, stateBy}
+use Rattle.nodes.specs.History.{Heard, leftHeard, sampleHeard, heardAfter}
 use Rattle.nodes.specs.declared.kind.NodeKind.{NodeKind}
 use Rattle.nodes.specs.declared.kind.NodeKind.the-variants.{Pass, Sum, Destination, Balance, Mul, Add, Delay, AllPass, OnePole, Sine}
 
