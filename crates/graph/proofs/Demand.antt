@@ -28,7 +28,7 @@ use Rattle.graph.specs.Judge.{readBoard, answerBy, judgeOf}
 use Rattle.graph.specs.Memory.{kindAt, freshValues}
 use Rattle.graph.specs.Calls.{blockBy, blockIn, blockOf, listed}
 use Rattle.graph.specs.Reading.{Call, Timed, Reply, IsReading, accepted, repliesTo, memoryAfter}
-use Rattle.graph.specs.Claim.{Single, callIn, repliesIn, memoryIn, Claim}
+use Rattle.graph.specs.Claim.{Single, callIn, repliesIn, memoryIn, Claim, Demand}
 use Rattle.graph.specs.Instance.{memoryRules, readingRules, memoryOf}
 use Rattle.graph.specs.Fine.{Fine, Held}
 use Rattle.graph.proofs.RoundRefused.{Numbered, read-numbered}
@@ -149,12 +149,6 @@ module _ (bytes : List ℕ) (p : Parsed) (reads : readBoard bytes ≡ whole p) (
 -- of a board that is read as p
 pub board-claim : (bytes : List ℕ) → Bytes bytes → (p : Parsed) → readBoard bytes ≡ whole p → (cs : List Call) → All Single cs → Claim bytes p cs
 board-claim bytes b p e cs h = subst (Claim bytes p) (calls-given cs h) (claim-given bytes p e (fine-board bytes b p e) (given cs h))
-
--- what it says of bytes: they are read as a board, and the claim holds of every list of calls with singles for values
-pub record Demand (bytes : List ℕ) : Type 0 where
-  pub parsed : Parsed
-  pub reads : readBoard bytes ≡ whole parsed
-  pub claim : (cs : List Call) → All Single cs → Claim bytes parsed cs
 
 -- of every board that the judge accepts
 pub demand : (bytes : List ℕ) → Bytes bytes → (judgeOf bytes) .number ≡ 0 → Demand bytes

@@ -35,7 +35,8 @@ use Rattle.graph.specs.Reading.{Call, Timed, silence, reached, rightSamp
 use Rattle.graph.specs.Instance.{mono, frameOf, broughtFrom, readingRules}
 use Rattle.graph.specs.Fine.{Fine}
 use Rattle.graph.proofs.RoundSources.{mem-distinct}
-use Rattle.graph.proofs.ShownRun.{frame-of, second-source, source-there}
+use Rattle.graph.proofs.ShownRun.{frame-of, second-source}
+use Rattle.graph.proofs.ShownBlock.{listed-order}
 use Rattle.graph.proofs.Lawful.{board, lists}
 use Rattle.graph.proofs.Told.{sent, end-sent, input-sent, told-sent, toldTo, told-through}
 
@@ -94,9 +95,6 @@ module _ (p : Parsed) (fine : Fine p) (es : List Call) where
   abbrev cs : List (theory.Call Frame ℕ)
   cs = map sent es
 
-  pub reached-there : (k : ℕ) → reached p k ≡ true → k < length (p .nodes)
-  reached-there k r = lists p fine .below (length (p .nodes)) (fine .some-node) (λ j s e. source-there p fine j s e .0) k r
-
   in-time : (t : ℕ) → t < end p es → t < flat.end (board p) cs
   in-time t h = subst (λ (n : ℕ). t < n) (sym (end-sent p es)) h
 
@@ -133,7 +131,7 @@ module _ (p : Parsed) (fine : Fine p) (es : List Call) where
       both t k h r =
           f .listed t k (in-time t h) r
           ∙ ap (λ (x : Frame). (readingRules p) .step k (t % p .size) (u t k) x (map (brings p s t k) (sources (p .wires) k))) (held-sent s t k)
-          ∙ step-sent p fine k (t % p .size) (reached-there k r) (u t k) (heldAt p es s t k) (brings p s t k)
+          ∙ step-sent p fine k (t % p .size) (listed-order p fine k r) (u t k) (heldAt p es s t k) (brings p s t k)
 
   -- ---- from the reading's equations to the theory's
 
@@ -217,7 +215,7 @@ module _ (p : Parsed) (fine : Fine p) (es : List Call) where
             let here = whole-reached t k r ∙ f .sample t k h r in
             let there = reached-state v t k r ∙ f .state t k h r in
             _∙_ {A = Frame × Heard} (λ i. (here i, there i))
-            (sym (step-sent p fine k (t % p .size) (reached-there k r) (u t k) (heldAt p es s t k) (brings p s t k))
+            (sym (step-sent p fine k (t % p .size) (listed-order p fine k r) (u t k) (heldAt p es s t k) (brings p s t k))
             ∙ (λ i. (readingRules p) .step k (t % p .size) (sym (reached-state u t k r) i) (sym (held-reached t k r) i) (brought i)))
 
   -- ---- standing still

@@ -4,18 +4,18 @@
 --     rules-encode                  the rules on what memory holds encode those on what the reading knows
 --     rules-lawful                  every call keeps what `Held` says of the states: so 8 never occurs
 -- The theory's calls are those whose values are singles: `Given`. Assumes nothing.
-use Prim.Native.Nat.{ℕ, zero, suc, _*_, _<_}
+use Prim.Native.Nat.{ℕ, zero, suc, _<_}
 use mathlib.Core.Path.{_≡_, refl, sym, ap, subst, _∙_}
 use mathlib.Core.List.{List, [], _∷_, map}
 use mathlib.Core.Option.{Option, none, some}
 use mathlib.Core.Bool.{Bool, true, false, cond, _&&_, false≢true}
 use native.Mathlib.Omega.{arith}
 use native.Mathlib.Decide.{decLt}
-use borrow.Author.Tests.{eqb-true, not-false}
+use borrow.Author.Tests.{not-false}
 use lib.Dec.{eqb, ltb}
 use lib.ListN.{length, getD, length-map, length-replicate}
 use lib.Ieee.{Float, binary32, toBits}
-use Rattle.leaves.specs.Words.{words, length-words}
+use Rattle.leaves.specs.Words.{words}
 use Rattle.nodes.specs.Kind.{lineOf}
 use Rattle.nodes.specs.Iter.{iter}
 use Rattle.nodes.specs.Rule.{Brought, Frame, State, stateBy}
@@ -35,13 +35,14 @@ use Rattle.graph.specs.Answer.{answer}
 use Rattle.graph.specs.Board.{Parsed}
 use Rattle.graph.specs.Listed.{ListsReached}
 use Rattle.graph.specs.Memory.{passed, kindAt}
-use Rattle.graph.specs.Calls.{andThen, checkBlocks, checkSamples, listed}
+use Rattle.graph.specs.Calls.{listed}
 use Rattle.graph.specs.Reading.{Call, block, message, accepts, silence}
 use Rattle.graph.specs.Claim.{Single}
-use Rattle.graph.specs.Instance.{mono, asks, broughtFrom, memoryRules, readingRules}
+use Rattle.graph.specs.Instance.{boardFor, mono, asks, broughtFrom, memoryRules, readingRules}
 use Rattle.graph.specs.Fine.{Fine, Held}
 use Rattle.graph.proofs.Listed.{lists-reached}
 use Rattle.graph.proofs.ShownRun.{source-there}
+use Rattle.graph.proofs.ShownCall.{input-whole}
 
 -- ---- the board, with the calls whose values are singles
 
@@ -50,35 +51,13 @@ pub record Given : Type 0 where
   pub single : Single call
 
 abbrev pub board : Parsed → Board Given Frame ℕ
-board p = record {
-  size = p .size;
-  wires = p .wires;
-  input = p .input;
-  visit = listed p;
-  sink = 0;
-  silence = silence;
-  accepts = λ c. asks p (c .call);
-}
+board p = boardFor (λ c. c .call) p
 
 module _ (p : Parsed) (fine : Fine p) where
   pub lists : ListsReached (p .wires) (listed p)
   lists = lists-reached (p .wires) (λ k s e. omega (arith, source-there p fine k s e, fine .few-nodes))
 
   -- ---- accepted calls
-
-  block-long : (x l r : List ℕ) → accepts p (block x l r) ≡ true → length x ≡ 4 * p .size
-  block-long x l r e =
-      go (eqb (length x) (4 * p .size)) refl
-    where
-      rest : Bool → Bool
-      rest b = b && eqb (length l) (4 * p .size) && eqb (length r) (4 * p .size)
-
-      short : eqb (length x) (4 * p .size) ≡ false → eqb ((andThen (checkBlocks p x l r) (checkSamples 0 (words x))) .number) 0 ≡ false
-      short f = ap (λ (b : Bool). eqb ((andThen (cond (b && eqb (length l) (4 * p .size) && eqb (length r) (4 * p .size)) passed (answer 9 (p .size))) (checkSamples 0 (words x))) .number) 0) f
-
-      go : (b : Bool) → eqb (length x) (4 * p .size) ≡ b → length x ≡ 4 * p .size
-      go true t = eqb-true _ _ t
-      go false f = absurd (false≢true (sym (short f) ∙ e))
 
   number-accepted : (k : ℕ) (v : Float) → accepts p (message k v) ≡ true → valueFits (kindAt p k) v ≡ true
   number-accepted k v e = go (ltb k (length (p .nodes)) && takesNumber (kindAt p k)) (valueFits (kindAt p k) v) refl e
@@ -99,7 +78,7 @@ module _ (p : Parsed) (fine : Fine p) where
   asked (block x l r) s = go (accepts p (block x l r)) refl
     where
       go : (b : Bool) → accepts p (block x l r) ≡ b → Asked (cond b (some (theory.block (map mono (words x)))) none)
-      go true e = length-map (words x) mono ∙ length-words x ∙ omega (arith, block-long x l r e)
+      go true e = length-map (words x) mono ∙ input-whole p x l r e
       go false e = tt
   asked (message k v) s = go (accepts p (message k v)) refl
     where

@@ -1,6 +1,7 @@
 -- The promise of one call: on memory that shows cells it leaves what shows the cells that the theory's call leaves, and replies by what that
 -- wrote, with the nodes of a block run taken in any order.
 --     replyFor             a reply's bytes, from what the theory's call wrote
+--     input-whole          the input block of an accepted block run
 --     call-shown           the promise, as the theory asks it
 -- Assumes nothing.
 use Prim.Native.Nat.{ℕ, suc, _+_, _*_, _<_}
@@ -72,7 +73,7 @@ module _ (p : Parsed) (x l r : List ℕ) (yes′ : accepts p (block x l r) ≡ t
       go true q e = (q, ap Both q ∙ samples-pass 0 (words x) e)
       go false q e = absurd (false≢true e)
 
-  input-whole : length (words x) ≡ p .size
+  pub input-whole : length (words x) ≡ p .size
   input-whole =
       let two = and-eq-true-iff (eqb (length x) four && eqb (length l) four) (eqb (length r) four) .0 (blocks-pass .0) in
       let one = and-eq-true-iff (eqb (length x) four) (eqb (length l) four) .0 (two .0) in

@@ -1,6 +1,6 @@
 -- Demand 3 as one claim: what the calls answer, write and leave, over every list of calls, is what the reading by samples says, in the
--- visiting list's order and in every other order that puts the source first on exactly the same wires. Definitions only; the theorem is
--- in proofs/Demand.antt.
+-- visiting list's order and in every other order that puts the source first on exactly the same wires. Definitions only; that `Demand`
+-- holds of every board that the judge accepts is proved in proofs/Demand.antt.
 use Prim.Native.Nat.{ℕ}
 use mathlib.Core.Path.{_≡_}
 use mathlib.Core.List.{List, [], _∷_}
@@ -8,7 +8,9 @@ use lib.Dec.{T}
 use lib.Ieee.{binary32, fits}
 use Rattle.leaves.specs.Words.{unwords}
 use Rattle.reading.specs.Order.{Reorders}
-use Rattle.graph.specs.Board.{Parsed}
+use Rattle.reading.specs.Keeps.{All}
+use Rattle.graph.specs.Board.{Parsed, whole}
+use Rattle.graph.specs.Judge.{readBoard}
 use Rattle.graph.specs.Memory.{freshValues}
 use Rattle.graph.specs.Calls.{Left, blockIn, messageOf, listed}
 use Rattle.graph.specs.Reading.{Call, block, message, Reply, Timed, IsReading, accepted, repliesTo, memoryAfter}
@@ -54,3 +56,10 @@ pub record Claim (board : List ℕ) (p : Parsed) (cs : List Call) : Type 0 where
       → repliesIn o board cs (unwords (freshValues p)) ≡ repliesTo p s 0 cs
   pub memory : (s : Timed Frame) (u v : Timed Heard) → IsReading p (accepted p cs) s u v → (o : List ℕ) → Reorders (p .wires) (listed p) o
       → memoryIn o board cs (unwords (freshValues p)) ≡ memoryAfter p (accepted p cs) s u
+
+-- ---- demand 3 of a board's bytes: they are read as a board, and the claim holds of every list of calls
+
+pub record Demand (board : List ℕ) : Type 0 where
+  pub parsed : Parsed
+  pub reads : readBoard board ≡ whole parsed
+  pub claim : (cs : List Call) → All Single cs → Claim board parsed cs

@@ -32,16 +32,20 @@ abbrev pub asks : Parsed → Call → Option (theory.Call Frame ℕ)
 asks p (block x l r) = cond (accepts p (block x l r)) (some (theory.block (map mono (words x)))) none
 asks p (message k v) = cond (accepts p (message k v)) (some (theory.message k (toBits binary32 v))) none
 
-abbrev pub boardOf : Parsed → theory.Board Call Frame ℕ
-boardOf p = record {
+-- where calls come as C
+abbrev pub boardFor : {C : Type 0} → (C → Call) → Parsed → theory.Board C Frame ℕ
+boardFor call p = record {
   size = p .size;
   wires = p .wires;
   input = p .input;
   visit = listed p;
   sink = 0;
   silence = silence;
-  accepts = asks p;
+  accepts = λ c. asks p (call c);
 }
+
+abbrev pub boardOf : Parsed → theory.Board Call Frame ℕ
+boardOf p = boardFor (λ c. c) p
 
 -- ---- the rules
 
