@@ -18,7 +18,6 @@ use Rattle.nodes.specs.History.{Heard, stateOf}
 use Rattle.nodes.proofs.HistoryFrames.{map-tab}
 use Rattle.reading.specs.Table.{tab}
 use Rattle.reading.specs.Board as theory
-use Rattle.reading.specs.Calls as calls
 use Rattle.reading.specs.Places.{joined}
 use Rattle.reading.specs.Visit.{start}
 use Rattle.reading.specs.Time.{timeReply, nextBlock, timeReplies}
@@ -29,11 +28,11 @@ use Rattle.reading.proofs.Table.{tab-agree}
 use Rattle.graph.specs.Board.{Parsed}
 use Rattle.graph.specs.Memory.{kindAt}
 use Rattle.graph.specs.Reading.{Call, block, message, Reply, Timed, silence, reached, accepts, answerTo, end, inputAt, earlier, samplesOf, reachedCell, lastInput, otherCell, cellAfter, cellsTo, memoryAfter, outputs, replyTo, blocksAfter, repliesTo}
-use Rattle.graph.specs.Instance.{Cells, mono, asks, cellIn, shownTo, memoryOf}
+use Rattle.graph.specs.Instance.{Cells, mono, asks, boardOf, cellIn, shownTo, memoryOf}
 use Rattle.graph.specs.Fine.{Fine}
 use Rattle.graph.specs.declared.answer.Answer.{Answer}
-use Rattle.graph.proofs.Lawful.{Given, board, lists}
-use Rattle.graph.proofs.Told.{sent, callsOf, end-sent}
+use Rattle.graph.proofs.Lawful.{lists}
+use Rattle.graph.proofs.Told.{sent, end-sent}
 use Rattle.graph.proofs.ShownCall.{replyFor}
 use Rattle.graph.proofs.DemandReading.{still, whole, whole-reached, whole-other, earlier-reached, wholly, still-end}
 
@@ -43,10 +42,6 @@ shown-joined : (p : Parsed) (c : Cells) (f : ℕ → Cell) → ((k : ℕ) → ce
 unfolding shownTo
 shown-joined p c f e zero = refl
 shown-joined p c f e (suc n) = λ i. shown-joined p c f e n i ++ valuesOf (e n i)
-
--- what a call answers, from what it wrote
-abbrev pub replyGiven : Parsed → Given → calls.Reply Frame → Reply
-replyGiven p c w = replyFor p (c .call) w
 
 module _ (p : Parsed) (fine : Fine p) (es : List Call) (s : Timed Frame) (u : Timed Heard) where
   -- the samples and states with those of the nodes that are not reached
@@ -59,7 +54,7 @@ module _ (p : Parsed) (fine : Fine p) (es : List Call) (s : Timed Frame) (u : Ti
   -- ---- the memory afterwards
 
   abbrev after : Cells
-  after = encCells (λ k. stateOf (kindAt p k)) (flatCells (board p) (map sent es) full states)
+  after = encCells (λ k. stateOf (kindAt p k)) (flatCells (boardOf p) (map sent es) full states)
 
   module _ (k : ℕ) where
     abbrev channels : ℕ
@@ -118,7 +113,7 @@ module _ (p : Parsed) (fine : Fine p) (es : List Call) (s : Timed Frame) (u : Ti
   cells-joined zero = refl
   cells-joined (suc n) = ap (λ (l : List ℕ). l ++ valuesOf (cellAfter p es s u n)) (cells-joined n)
 
-  pub memory-shown : memoryOf p (encCells (λ k. stateOf (kindAt p k)) (flatCells (board p) (map sent es) (whole p fine es s) (wholly p fine es s u)))
+  pub memory-shown : memoryOf p (encCells (λ k. stateOf (kindAt p k)) (flatCells (boardOf p) (map sent es) (whole p fine es s) (wholly p fine es s u)))
       ≡ memoryAfter p es s u
   memory-shown = ap unwords (shown-joined p after (cellAfter p es s u) cell-after (length (p .nodes)) ∙ cells-joined (length (p .nodes)))
 
@@ -134,18 +129,18 @@ module _ (p : Parsed) (fine : Fine p) (es : List Call) (s : Timed Frame) (u : Ti
       map-tab (λ f. f .right) (p .size) (λ i. full (b * p .size + i) 0)
       ∙ tab-agree (p .size) _ _ (λ i h. ap (λ (f : Frame). f .right) (whole-reached p fine es s (b * p .size + i) 0 (lists p fine .all 0 start)))
 
-  pub replies-shown : (cs : List Given) (b : ℕ)
-      → answers (replyGiven p) cs (timeReplies (board p) (byBlock (p .size) (whole p fine es s)) b cs) ≡ repliesTo p s b (callsOf cs)
+  pub replies-shown : (cs : List Call) (b : ℕ)
+      → answers (replyFor p) cs (timeReplies (boardOf p) (byBlock (p .size) (whole p fine es s)) b cs) ≡ repliesTo p s b cs
   unfolding repliesTo
   replies-shown [] b = refl
-  replies-shown (c ∷ cs) b = one (c .call) (replies-shown cs)
+  replies-shown (c ∷ cs) b = one c (replies-shown cs)
     where
       rest : ℕ → List Reply
-      rest n = answers (replyGiven p) cs (timeReplies (board p) (byBlock (p .size) full) n cs)
+      rest n = answers (replyFor p) cs (timeReplies (boardOf p) (byBlock (p .size) full) n cs)
 
-      one : (d : Call) → ((n : ℕ) → rest n ≡ repliesTo p s n (callsOf cs))
-          → replyFor p d (timeReply (board p) (byBlock (p .size) full) b (asks p d)) ∷ rest (nextBlock b (asks p d))
-          ≡ replyTo p s b d ∷ repliesTo p s (blocksAfter p b d) (callsOf cs)
+      one : (d : Call) → ((n : ℕ) → rest n ≡ repliesTo p s n cs)
+          → replyFor p d (timeReply (boardOf p) (byBlock (p .size) full) b (asks p d)) ∷ rest (nextBlock b (asks p d))
+          ≡ replyTo p s b d ∷ repliesTo p s (blocksAfter p b d) cs
       one (block x l r) ih = go (accepts p (block x l r))
         where
           a : Answer
@@ -156,18 +151,18 @@ module _ (p : Parsed) (fine : Fine p) (es : List Call) (s : Timed Frame) (u : Ti
 
           go : (q : Bool)
               → _≡_ {A = List Reply}
-              (replyFor p (block x l r) (timeReply (board p) (byBlock (p .size) full) b (asked q)) ∷ rest (nextBlock b (asked q)))
-              (cond q (outputs p s b a) (record { answer = a; left = l; right = r }) ∷ repliesTo p s (cond q (suc b) b) (callsOf cs))
+              (replyFor p (block x l r) (timeReply (boardOf p) (byBlock (p .size) full) b (asked q)) ∷ rest (nextBlock b (asked q)))
+              (cond q (outputs p s b a) (record { answer = a; left = l; right = r }) ∷ repliesTo p s (cond q (suc b) b) cs)
           go true = λ i. record { answer = a; left = unwords (out-left b i); right = unwords (out-right b i) } ∷ ih (suc b) i
           go false = λ i. record { answer = a; left = l; right = r } ∷ ih b i
-      one (message k v) ih = go (accepts p (message k v))
+      one (message k w) ih = go (accepts p (message k w))
         where
           asked : Bool → Option (theory.Call Frame ℕ)
-          asked q = cond q (some (sent (message k v))) none
+          asked q = cond q (some (sent (message k w))) none
 
           go : (q : Bool)
               → _≡_ {A = List Reply}
-              (replyFor p (message k v) (timeReply (board p) (byBlock (p .size) full) b (asked q)) ∷ rest (nextBlock b (asked q)))
-              (replyTo p s b (message k v) ∷ repliesTo p s b (callsOf cs))
-          go true = λ i. replyTo p s b (message k v) ∷ ih b i
-          go false = λ i. replyTo p s b (message k v) ∷ ih b i
+              (replyFor p (message k w) (timeReply (boardOf p) (byBlock (p .size) full) b (asked q)) ∷ rest (nextBlock b (asked q)))
+              (replyTo p s b (message k w) ∷ repliesTo p s b cs)
+          go true = λ i. replyTo p s b (message k w) ∷ ih b i
+          go false = λ i. replyTo p s b (message k w) ∷ ih b i

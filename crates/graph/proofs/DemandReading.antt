@@ -32,12 +32,12 @@ use Rattle.graph.specs.Board.{Parsed}
 use Rattle.graph.specs.Memory.{kindAt}
 use Rattle.graph.specs.Calls.{listed}
 use Rattle.graph.specs.Reading.{Call, Timed, silence, reached, rightSample, inputs, told, toldAll, end, inputAt, earlier, brings, broughtTo, heldAt, IsReading}
-use Rattle.graph.specs.Instance.{mono, frameOf, broughtFrom, readingRules}
+use Rattle.graph.specs.Instance.{mono, boardOf, frameOf, broughtFrom, readingRules}
 use Rattle.graph.specs.Fine.{Fine}
 use Rattle.graph.proofs.RoundSources.{mem-distinct}
 use Rattle.graph.proofs.ShownRun.{frame-of, second-source}
 use Rattle.graph.proofs.ShownBlock.{listed-order}
-use Rattle.graph.proofs.Lawful.{board, lists}
+use Rattle.graph.proofs.Lawful.{lists}
 use Rattle.graph.proofs.Told.{sent, end-sent, input-sent, told-sent, toldTo, told-through}
 
 -- what node k's wires bring, where source a brings f a
@@ -95,13 +95,13 @@ module _ (p : Parsed) (fine : Fine p) (es : List Call) where
   abbrev cs : List (theory.Call Frame ℕ)
   cs = map sent es
 
-  in-time : (t : ℕ) → t < end p es → t < flat.end (board p) cs
+  in-time : (t : ℕ) → t < end p es → t < flat.end (boardOf p) cs
   in-time t h = subst (λ (n : ℕ). t < n) (sym (end-sent p es)) h
 
-  out-time : (t : ℕ) → t < flat.end (board p) cs → t < end p es
+  out-time : (t : ℕ) → t < flat.end (boardOf p) cs → t < end p es
   out-time t h = subst (λ (n : ℕ). t < n) (end-sent p es) h
 
-  held-sent : (s : Timed Frame) (t k : ℕ) → heldWhen (board p) cs s t k ≡ heldAt p es s t k
+  held-sent : (s : Timed Frame) (t k : ℕ) → heldWhen (boardOf p) cs s t k ≡ heldAt p es s t k
   held-sent s t k = ap (λ (x : Frame). cond (eqb k (p .input)) x (earlier p s t k)) (input-sent p es t)
 
   fresh-sent : (k : ℕ) → (readingRules p) .fresh k ≡ freshHeard (kindAt p k)
@@ -117,7 +117,7 @@ module _ (p : Parsed) (fine : Fine p) (es : List Call) where
 
   -- ---- from the theory's equations to the reading's
 
-  pub flat-reading : (s : Timed Frame) (u v : Timed Heard) → IsFlat (board p) (readingRules p) cs s u v → IsReading p es s u v
+  pub flat-reading : (s : Timed Frame) (u v : Timed Heard) → IsFlat (boardOf p) (readingRules p) cs s u v → IsReading p es s u v
   flat-reading s u v f = record {
     first = λ k r. ap (λ (w : ℕ → Heard). w k) (f .first) ∙ first-sent k;
     next = λ t k h r. ap (λ (w : ℕ → Heard). w k) (f .next t (in-time t h)) ∙ next-sent (eqb (suc t % p .size) 0) (suc t / p .size) (v t) k;
@@ -159,11 +159,11 @@ module _ (p : Parsed) (fine : Fine p) (es : List Call) where
         let ra = lists p fine .closed k a r e in
         λ i. cond (late (listed p) a k) (earlier-reached t a ra i) (whole-reached t a ra i)
 
-    held-reached : (t k : ℕ) → reached p k ≡ true → heldWhen (board p) cs whole t k ≡ heldAt p es s t k
+    held-reached : (t k : ℕ) → reached p k ≡ true → heldWhen (boardOf p) cs whole t k ≡ heldAt p es s t k
     held-reached t k r =
         held-sent whole t k ∙ ap (λ (x : Frame). cond (eqb k (p .input)) (mono (inputAt p es t)) x) (earlier-reached t k r)
 
-    held-other : (t k : ℕ) → reached p k ≡ false → whole t k ≡ heldWhen (board p) cs whole t k
+    held-other : (t k : ℕ) → reached p k ≡ false → whole t k ≡ heldWhen (boardOf p) cs whole t k
     held-other t k r = whole-other t k r ∙ go (eqb k (p .input)) refl ∙ sym (held-sent whole t k)
       where
         quiet : eqb k (p .input) ≡ false → (b : Bool) → silence ≡ cond b (whole (t - p .size) k) silence
@@ -178,7 +178,7 @@ module _ (p : Parsed) (fine : Fine p) (es : List Call) where
     abbrev pub wholly : Timed Heard → Timed Heard
     wholly w t k = cond (reached p k) (w t k) (still t k)
 
-    pub reading-flat : (u v : Timed Heard) → IsReading p es s u v → IsFlat (board p) (readingRules p) cs whole (wholly u) (wholly v)
+    pub reading-flat : (u v : Timed Heard) → IsReading p es s u v → IsFlat (boardOf p) (readingRules p) cs whole (wholly u) (wholly v)
     unfolding still
     reading-flat u v f = record {
       first = fun-ext (λ k. first k (reached p k) refl ∙ sym (first-sent k));
@@ -209,7 +209,7 @@ module _ (p : Parsed) (fine : Fine p) (es : List Call) where
 
         listed-at : (t k : ℕ) → t < end p es → reached p k ≡ true
             → _≡_ {A = Frame × Heard} (whole t k, wholly v t k)
-            ((readingRules p) .step k (t % p .size) (wholly u t k) (heldWhen (board p) cs whole t k) (map (brings p whole t k) (sources (p .wires) k)))
+            ((readingRules p) .step k (t % p .size) (wholly u t k) (heldWhen (boardOf p) cs whole t k) (map (brings p whole t k) (sources (p .wires) k)))
         listed-at t k h r =
             let brought = map-agree (brings p s t k) (brings p whole t k) (sources (p .wires) k) (λ a e. sym (brings-reached t k a r e)) in
             let here = whole-reached t k r ∙ f .sample t k h r in

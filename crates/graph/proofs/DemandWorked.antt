@@ -12,7 +12,7 @@ use Rattle.nodes.specs.History.{Heard}
 use Rattle.nodes.specs.Rule.{Frame, total, leftOf, rightOf, keeps, carryAfter, get, xLine, yLine, placeAfter, lineAfter, sampleBy, stateBy}
 use Rattle.nodes.specs.Cell.{valuesOf, cellOf, numberOf, freshCell, numberFits, carryFits, placeFits, frameAt, putFrame, stepCell, runCell}
 use Rattle.nodes.specs.Node.{nodeRun}
-use Rattle.reading.proofs.Order.{reorders-self}
+use Rattle.reading.specs.Calls.{replies}
 use Rattle.graph.specs.Answer.{answer}
 use Rattle.graph.specs.Record.{foundOf, foundAt}
 use Rattle.graph.specs.Sources.{distinct}
@@ -22,13 +22,11 @@ use Rattle.graph.specs.Visit.{visitingList}
 use Rattle.graph.specs.Memory.{freshValues, checkCells, runNode, runNodes, putInput}
 use Rattle.graph.specs.Calls.{freshOf, checkSamples, blockIn, listed}
 use Rattle.graph.specs.Reading.{Call, block, Reply, Timed, IsReading, accepted, repliesTo}
-use Rattle.graph.specs.Claim.{repliesIn}
+use Rattle.graph.specs.Claim.{callIn}
 use Rattle.graph.specs.Write.{kindOf, parsedOf, writeBoard}
 use Rattle.graph.proofs.RoundBytes.{board-bytes}
 use Rattle.graph.proofs.RoundWorked.{feedback}
-use Rattle.graph.proofs.FineBoard.{fine-board}
-use Rattle.graph.proofs.Lawful.{board-sound}
-use Rattle.graph.proofs.Demand.{board-claim}
+use Rattle.graph.proofs.Demand.{board-claim, own-order}
 
 -- two samples as bytes: (1, 0), (0, 1), (0.5, 0) and (0, 0)
 abbrev one : List ℕ
@@ -64,8 +62,8 @@ unfolding writeBoard kindOf freshOf freshValues freshCell numberOf readBoard rea
 feedback-fresh = refl
 
 -- P: the three blocks
-pub feedback-blocks : repliesIn (listed p) (writeBoard feedback) three (unwords (freshValues p)) ≡ said ahead ∷ said quiet ∷ said half ∷ []
-unfolding writeBoard kindOf freshValues freshCell numberOf repliesIn blockIn readBoard readRecords run stepOf takeFound foundAt foundOf ruleOf checkSources distinct
+pub feedback-blocks : replies (callIn listed (writeBoard feedback)) three (unwords (freshValues p)) ≡ said ahead ∷ said quiet ∷ said half ∷ []
+unfolding writeBoard kindOf freshValues freshCell numberOf blockIn readBoard readRecords run stepOf takeFound foundAt foundOf ruleOf checkSources distinct
     visitingList checkCells checkSamples numberFits carryFits placeFits words unwords runNodes runNode putInput nodeRun runCell iter stepCell putFrame frameAt
     cellOf valuesOf sampleBy stateBy leftOf rightOf keeps carryAfter get xLine yLine placeAfter lineAfter total ofBits toBits add mul round
 feedback-blocks = refl
@@ -73,6 +71,6 @@ feedback-blocks = refl
 -- and so says every reading of them
 pub feedback-reading : (s : Timed Frame) (u v : Timed Heard) → IsReading p (accepted p three) s u v → repliesTo p s 0 three ≡ said ahead ∷ said quiet ∷ said half ∷ []
 feedback-reading s u v r =
-    let fine = fine-board (writeBoard feedback) (board-bytes feedback) p reads in
-    let claim = board-claim (writeBoard feedback) (board-bytes feedback) p reads three (tt, (tt, (tt, tt))) in
-    sym (claim .replies s u v r (listed p) (reorders-self (p .wires) (listed p) (board-sound p fine .once))) ∙ feedback-blocks
+    let bytes = board-bytes feedback in
+    let claim = board-claim (writeBoard feedback) bytes p reads three in
+    sym (claim .replies s u v r listed (own-order (writeBoard feedback) bytes p reads)) ∙ feedback-blocks

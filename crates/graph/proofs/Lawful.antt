@@ -3,7 +3,7 @@
 --     board-sound                   the board is sound
 --     rules-encode                  the rules on what memory holds encode those on what the reading knows
 --     rules-lawful                  every call keeps what `Held` says of the states: so 8 never occurs
--- The theory's calls are those whose values are singles: `Given`. Assumes nothing.
+-- Assumes nothing.
 use Prim.Native.Nat.{ℕ, zero, suc, _<_}
 use mathlib.Core.Path.{_≡_, refl, sym, ap, subst, _∙_}
 use mathlib.Core.List.{List, [], _∷_, map}
@@ -14,7 +14,8 @@ use native.Mathlib.Decide.{decLt}
 use borrow.Author.Tests.{not-false}
 use lib.Dec.{eqb, ltb}
 use lib.ListN.{length, getD, length-map, length-replicate}
-use lib.Ieee.{Float, binary32, toBits}
+use lib.Ieee.{binary32, toBits}
+use lib.Ieee.Bits.{ofBits-fits}
 use Rattle.leaves.specs.Words.{words}
 use Rattle.nodes.specs.Kind.{lineOf}
 use Rattle.nodes.specs.Iter.{iter}
@@ -27,7 +28,7 @@ use Rattle.nodes.proofs.Kept.{Judged, fits-judged, fits-kept, value-number}
 use Rattle.nodes.proofs.Fresh as fresh
 use Rattle.nodes.proofs.HistoryRules as histories
 use Rattle.nodes.proofs.Unread.{line-after-long}
-use Rattle.reading.specs.Board.{Board, Whole, Sound}
+use Rattle.reading.specs.Board.{Whole, Sound}
 use Rattle.reading.specs.Board as theory
 use Rattle.reading.specs.Encode.{Encodes}
 use Rattle.reading.specs.Keeps.{Lawful}
@@ -36,22 +37,12 @@ use Rattle.graph.specs.Board.{Parsed}
 use Rattle.graph.specs.Listed.{ListsReached}
 use Rattle.graph.specs.Memory.{passed, kindAt}
 use Rattle.graph.specs.Calls.{listed}
-use Rattle.graph.specs.Reading.{Call, block, message, accepts, silence}
-use Rattle.graph.specs.Claim.{Single}
-use Rattle.graph.specs.Instance.{boardFor, mono, asks, broughtFrom, memoryRules, readingRules}
+use Rattle.graph.specs.Reading.{Call, block, message, valueOf, accepts, silence}
+use Rattle.graph.specs.Instance.{boardOf, mono, asks, broughtFrom, memoryRules, readingRules}
 use Rattle.graph.specs.Fine.{Fine, Held}
 use Rattle.graph.proofs.Listed.{lists-reached}
 use Rattle.graph.proofs.ShownRun.{source-there}
 use Rattle.graph.proofs.ShownCall.{input-whole}
-
--- ---- the board, with the calls whose values are singles
-
-pub record Given : Type 0 where
-  pub call : Call
-  pub single : Single call
-
-abbrev pub board : Parsed → Board Given Frame ℕ
-board p = boardFor (λ c. c .call) p
 
 module _ (p : Parsed) (fine : Fine p) where
   pub lists : ListsReached (p .wires) (listed p)
@@ -59,11 +50,11 @@ module _ (p : Parsed) (fine : Fine p) where
 
   -- ---- accepted calls
 
-  number-accepted : (k : ℕ) (v : Float) → accepts p (message k v) ≡ true → valueFits (kindAt p k) v ≡ true
-  number-accepted k v e = go (ltb k (length (p .nodes)) && takesNumber (kindAt p k)) (valueFits (kindAt p k) v) refl e
+  number-accepted : (k w : ℕ) → accepts p (message k w) ≡ true → valueFits (kindAt p k) (valueOf w) ≡ true
+  number-accepted k w e = go (ltb k (length (p .nodes)) && takesNumber (kindAt p k)) (valueFits (kindAt p k) (valueOf w)) refl e
     where
-      go : (a b : Bool) → valueFits (kindAt p k) v ≡ b → eqb ((cond a (cond b passed (answer 12 k)) (answer 11 k)) .number) 0 ≡ true
-          → valueFits (kindAt p k) v ≡ true
+      go : (a b : Bool) → valueFits (kindAt p k) (valueOf w) ≡ b → eqb ((cond a (cond b passed (answer 12 k)) (answer 11 k)) .number) 0 ≡ true
+          → valueFits (kindAt p k) (valueOf w) ≡ true
       go true true q h = q
       go true false q h = absurd (false≢true h)
       go false b q h = absurd (false≢true h)
@@ -74,26 +65,26 @@ module _ (p : Parsed) (fine : Fine p) where
   Asked (some (theory.block xs)) = length xs ≡ p .size
   Asked (some (theory.message k v)) = numberFits (kindAt p k) v ≡ true
 
-  asked : (c : Call) → Single c → Asked (asks p c)
-  asked (block x l r) s = go (accepts p (block x l r)) refl
+  asked : (c : Call) → Asked (asks p c)
+  asked (block x l r) = go (accepts p (block x l r)) refl
     where
       go : (b : Bool) → accepts p (block x l r) ≡ b → Asked (cond b (some (theory.block (map mono (words x)))) none)
       go true e = length-map (words x) mono ∙ input-whole p x l r e
       go false e = tt
-  asked (message k v) s = go (accepts p (message k v)) refl
+  asked (message k w) = go (accepts p (message k w)) refl
     where
-      go : (b : Bool) → accepts p (message k v) ≡ b → Asked (cond b (some (theory.message k (toBits binary32 v))) none)
-      go true e = value-number (kindAt p k) v s (number-accepted k v e)
+      go : (b : Bool) → accepts p (message k w) ≡ b → Asked (cond b (some (theory.message k (toBits binary32 (valueOf w)))) none)
+      go true e = value-number (kindAt p k) (valueOf w) (ofBits-fits binary32 w) (number-accepted k w e)
       go false e = tt
 
   -- ---- the board is sound
 
-  pub board-sound : Sound (board p)
+  pub board-sound : Sound (boardOf p)
   board-sound = record {
     no-self = λ k s e. source-there p fine k s e .1;
     once = lists .once;
     input-first = λ k m s. not-false _ (lists .input-first (p .input) (fine .input-free) k m s);
-    whole-blocks = λ c a e. whole a (subst Asked e (asked (c .call) (c .single)));
+    whole-blocks = λ c a e. whole a (subst Asked e (asked c));
   }
     where
       whole : (a : theory.Call Frame ℕ) → Asked (some a) → Whole (p .size) a
@@ -147,12 +138,12 @@ module _ (p : Parsed) (fine : Fine p) where
         place = after .place;
       }
 
-  pub rules-lawful : Lawful (board p) (memoryRules p) (λ f. Unit {0}) (Held p)
+  pub rules-lawful : Lawful (boardOf p) (memoryRules p) (λ f. Unit {0}) (Held p)
   unfolding memoryRules
   rules-lawful = record {
     silence = tt;
     fresh = fresh-held;
     step = λ k i s h b held _ _. (tt, step-held k s (broughtFrom p k b) held);
-    set = λ c k v s e h. record { long = h .long; number = subst Asked e (asked (c .call) (c .single)); carry = h .carry; place = h .place };
+    set = λ c k v s e h. record { long = h .long; number = subst Asked e (asked c); carry = h .carry; place = h .place };
     input = λ c xs e i. tt;
   }

@@ -12,7 +12,7 @@ use mathlib.Core.List.{List, [], _∷_, map}
 use native.Mathlib.Omega.{arith}
 use borrow.Author.Tests.{eqb-true, ltb-true}
 use lib.Dec.{eqb, ltb}
-use lib.Ieee.{Float, binary32, toBits}
+use lib.Ieee.{binary32, toBits}
 use lib.ListN.{length}
 use Rattle.leaves.specs.Parts.{part}
 use Rattle.leaves.specs.Words.{words, unwords, length-words}
@@ -28,7 +28,7 @@ use Rattle.graph.specs.Board.{Parsed, Reading, whole}
 use Rattle.graph.specs.Judge.{readBoard}
 use Rattle.graph.specs.Memory.{kindAt, passed, runNodes, runBlock}
 use Rattle.graph.specs.Calls.{Left, andThen, checkLength, checkMemory, checkSamples, asFound, ranBlock, blockBy, blockIn, setNumber, messageBy, messageOf}
-use Rattle.graph.specs.Reading.{Call, block, message, answerTo, accepts, Reply}
+use Rattle.graph.specs.Reading.{Call, block, message, valueOf, answerTo, accepts, Reply}
 use Rattle.graph.specs.Claim.{replied, callIn}
 use Rattle.graph.specs.Instance.{Cells, mono, boardOf, memoryRules, shown, memoryOf}
 use Rattle.graph.specs.Fine.{Fine, Held}
@@ -42,7 +42,7 @@ use Rattle.graph.proofs.ShownBytes.{words-unwords, kept-long, length-pa
 abbrev pub replyFor : Parsed → Call → calls.Reply Frame → Reply
 replyFor p (block x l r) none = record { answer = answerTo p (block x l r); left = l; right = r }
 replyFor p (block x l r) (some fs) = record { answer = answerTo p (block x l r); left = unwords (leftsOf fs); right = unwords (rightsOf fs) }
-replyFor p (message k v) w = record { answer = answerTo p (message k v); left = []; right = [] }
+replyFor p (message k w) o = record { answer = answerTo p (message k w); left = []; right = [] }
 
 -- ---- what an accepted call's checks say
 
@@ -80,27 +80,31 @@ module _ (p : Parsed) (x l r : List ℕ) (yes′ : accepts p (block x l r) ≡ t
       let e : length x ≡ 4 * p .size = eqb-true (length x) four (one .0) in
       length-words x ∙ omega arith
 
-node-there : (p : Parsed) (k : ℕ) (v : Float) → accepts p (message k v) ≡ true → k < length (p .nodes)
-node-there p k v e = go (ltb k (length (p .nodes))) refl e
+node-there : (p : Parsed) (k w : ℕ) → accepts p (message k w) ≡ true → k < length (p .nodes)
+node-there p k w e = go (ltb k (length (p .nodes))) refl e
   where
     go : (b : Bool) → ltb k (length (p .nodes)) ≡ b
-        → eqb ((cond (b && takesNumber (kindAt p k)) (cond (valueFits (kindAt p k) v) passed (answer 12 k)) (answer 11 k)) .number) 0 ≡ true
+        → eqb ((cond (b && takesNumber (kindAt p k)) (cond (valueFits (kindAt p k) (valueOf w)) passed (answer 12 k)) (answer 11 k)) .number) 0 ≡ true
         → k < length (p .nodes)
     go true q e = ltb-true k (length (p .nodes)) q
     go false q e = absurd (false≢true e)
 
 -- ---- a call by what was read
 
-abbrev callBy : List ℕ → Reading → Call → List ℕ → List ℕ × Reply
-callBy o d (block x l r) m = (blockBy (λ p. o) d m x l r .memory, replied (blockBy (λ p. o) d m x l r))
-callBy o d (message k v) m = ((messageBy d m k v) .1, record { answer = (messageBy d m k v) .0; left = []; right = [] })
+abbrev callBy : (Parsed → List ℕ) → Reading → Call → List ℕ → List ℕ × Reply
+callBy order d (block x l r) m = (blockBy order d m x l r .memory, replied (blockBy order d m x l r))
+callBy order d (message k w) m = ((messageBy d m k (valueOf w)) .1, record { answer = (messageBy d m k (valueOf w)) .0; left = []; right = [] })
 
-call-by : (o board : List ℕ) (c : Call) (m : List ℕ) → callIn o board c m ≡ callBy o (readBoard board) c m
+call-by : (order : Parsed → List ℕ) (board : List ℕ) (c : Call) (m : List ℕ) → callIn order board c m ≡ callBy order (readBoard board) c m
 unfolding blockIn messageOf
-call-by o board (block x l r) m = refl
-call-by o board (message k v) m = refl
+call-by order board (block x l r) m = refl
+call-by order board (message k w) m = refl
 
-module _ (p : Parsed) (fine : Fine p) (o : List ℕ) (nodes : OfBoard p o) (m : Cells) (long : Long p m) (held : (k : ℕ) → Held p k (m k .state)) where
+module _ (p : Parsed) (fine : Fine p) (order : Parsed → List ℕ) (nodes : OfBoard p (order p)) (m : Cells) (long : Long p m)
+    (held : (k : ℕ) → Held p k (m k .state)) where
+  abbrev o : List ℕ
+  o = order p
+
   abbrev M : List ℕ
   M = memoryOf p m
 
@@ -144,7 +148,7 @@ module _ (p : Parsed) (fine : Fine p) (o : List ℕ) (nodes : OfBoard p o) (m : 
         let a = sym (blocks-pass p x l r e .1) in
         λ i. (unwords (values i), record { answer = a i; left = unwords (ls i); right = unwords (rs i) })
 
-    block-shown : callBy o (whole p) c M ≡ (memoryOf p ((run c) .0), replyFor p c ((run c) .1))
+    block-shown : callBy order (whole p) c M ≡ (memoryOf p ((run c) .0), replyFor p c ((run c) .1))
     block-shown =
         ap (λ (a : Answer). (told a .memory, replied (told a))) (checks-rest (answerTo p c)) ∙ go (accepts p c) refl
       where
@@ -161,36 +165,37 @@ module _ (p : Parsed) (fine : Fine p) (o : List ℕ) (nodes : OfBoard p o) (m : 
 
   -- ---- a number message
 
-  module _ (k : ℕ) (v : Float) where
-    message-by : callBy o (whole p) (message k v) M ≡ (memoryOf p ((run (message k v)) .0), replyFor p (message k v) ((run (message k v)) .1))
+  module _ (k w : ℕ) where
+    message-by : callBy order (whole p) (message k w) M ≡ (memoryOf p ((run (message k w)) .0), replyFor p (message k w) ((run (message k w)) .1))
     message-by =
-        ap (λ (a : Answer). (told a, record { answer = a; left = []; right = [] })) (checks-rest (answerTo p (message k v)))
-        ∙ go (accepts p (message k v)) refl
+        ap (λ (a : Answer). (told a, record { answer = a; left = []; right = [] })) (checks-rest (answerTo p (message k w)))
+        ∙ go (accepts p (message k w)) refl
       where
         told : Answer → List ℕ
-        told a = cond (eqb (a .number) 0) (unwords (setNumber p k v (words M))) M
+        told a = cond (eqb (a .number) 0) (unwords (setNumber p k (valueOf w) (words M))) M
 
         sent : theory.Call Frame ℕ
-        sent = theory.message k (toBits binary32 v)
+        sent = theory.message k (toBits binary32 (valueOf w))
 
-        go : (q : Bool) → accepts p (message k v) ≡ q
-            → _≡_ {A = List ℕ × Reply} (cond q (unwords (setNumber p k v (words M))) M, replyFor p (message k v) none)
-            (memoryOf p ((settled (cond q (some sent) none)) .0), replyFor p (message k v) ((settled (cond q (some sent) none)) .1))
+        go : (q : Bool) → accepts p (message k w) ≡ q
+            → _≡_ {A = List ℕ × Reply} (cond q (unwords (setNumber p k (valueOf w) (words M))) M, replyFor p (message k w) none)
+            (memoryOf p ((settled (cond q (some sent) none)) .0), replyFor p (message k w) ((settled (cond q (some sent) none)) .1))
         go true e =
-            let values = ap (setNumber p k v) (words-unwords (shown p m)) ∙ message-shown p fine m long k (node-there p k v e) o v in
-            λ i. (unwords (values i), replyFor p (message k v) none)
+            let values = ap (setNumber p k (valueOf w)) (words-unwords (shown p m)) ∙ message-shown p fine m long k (node-there p k w e) o (valueOf w) in
+            λ i. (unwords (values i), replyFor p (message k w) none)
         go false e = refl
 
-  by-shown : (c : Call) → callBy o (whole p) c M ≡ (memoryOf p ((run c) .0), replyFor p c ((run c) .1))
+  by-shown : (c : Call) → callBy order (whole p) c M ≡ (memoryOf p ((run c) .0), replyFor p c ((run c) .1))
   by-shown (block x l r) = block-shown x l r
-  by-shown (message k v) = message-by k v
+  by-shown (message k w) = message-by k w
 
 -- ---- the promise
 
 module _ (board : List ℕ) (p : Parsed) (reads : readBoard board ≡ whole p) (fine : Fine p) (G : Frame → Type 0) where
   -- in any order of nodes of the board
-  pub call-shown : (o : List ℕ) → OfBoard p o → Keeps-promise (boardOf p) (memoryRules p) G (Held p) o (memoryOf p) (replyFor p) (callIn o board)
-  call-shown o nodes c m kept =
-      call-by o board c (memoryOf p m)
-      ∙ ap (λ (d : Reading). callBy o d c (memoryOf p m)) reads
-      ∙ by-shown p fine o nodes m (kept-long p G m kept) (kept .state) c
+  pub call-shown : (order : Parsed → List ℕ) → OfBoard p (order p)
+      → Keeps-promise (boardOf p) (memoryRules p) G (Held p) (order p) (memoryOf p) (replyFor p) (callIn order board)
+  call-shown order nodes c m kept =
+      call-by order board c (memoryOf p m)
+      ∙ ap (λ (d : Reading). callBy order d c (memoryOf p m)) reads
+      ∙ by-shown p fine order nodes m (kept-long p G m kept) (kept .state) c

@@ -13,7 +13,7 @@ use mathlib.Core.Bool.{Bool, true, false, cond}
 use borrow.Author.Tests.{eqb-true}
 use lib.Dec.{eqb}
 use lib.ListN.{length, getD, length-map, List·getD-map}
-use lib.Ieee.{Float, binary32, toBits}
+use lib.Ieee.{binary32, toBits}
 use Rattle.leaves.specs.Words.{words}
 use Rattle.nodes.specs.Rule.{Frame}
 use Rattle.nodes.specs.History.{Heard, setNumber}
@@ -21,33 +21,28 @@ use Rattle.reading.specs.Board as theory
 use Rattle.reading.specs.Time as time
 use Rattle.reading.specs.Flat as flat
 use Rattle.graph.specs.Board.{Parsed}
-use Rattle.graph.specs.Reading.{Call, block, message, accepts, accepted, inputs, told, toldAll, end, inputAt}
-use Rattle.graph.specs.Instance.{mono, asks, readingRules}
-use Rattle.graph.proofs.Lawful.{Given, board}
+use Rattle.graph.specs.Reading.{Call, block, message, valueOf, accepts, accepted, inputs, messageTo, told, toldAll, end, inputAt}
+use Rattle.graph.specs.Instance.{mono, asks, boardOf, readingRules}
 
 abbrev pub sent : Call → theory.Call Frame ℕ
 sent (block x l r) = theory.block (map mono (words x))
-sent (message k v) = theory.message k (toBits binary32 v)
-
--- the calls of a list
-abbrev pub callsOf : List Given → List Call
-callsOf cs = map (λ c. c .call) cs
+sent (message k w) = theory.message k (toBits binary32 (valueOf w))
 
 asks-sent : (p : Parsed) (c : Call) → asks p c ≡ cond (accepts p c) (some (sent c)) none
 asks-sent p (block x l r) = refl
-asks-sent p (message k v) = refl
+asks-sent p (message k w) = refl
 
 hear-sent : (b : Bool) (c : Call) (hs : List (theory.Call Frame ℕ)) (es : List Call) → hs ≡ map sent es
     → time.hearOne (cond b (some (sent c)) none) hs ≡ map sent (cond b (c ∷ es) es)
 hear-sent true c hs es e = ap (λ (l : List (theory.Call Frame ℕ)). sent c ∷ l) e
 hear-sent false c hs es e = e
 
-pub heard-sent : (p : Parsed) (cs : List Given) → time.heard (board p) cs ≡ map sent (accepted p (callsOf cs))
+pub heard-sent : (p : Parsed) (cs : List Call) → time.heard (boardOf p) cs ≡ map sent (accepted p cs)
 unfolding accepted
 heard-sent p [] = refl
 heard-sent p (c ∷ cs) =
-    ap (λ (a : Option (theory.Call Frame ℕ)). time.hearOne a (time.heard (board p) cs)) (asks-sent p (c .call))
-    ∙ hear-sent (accepts p (c .call)) (c .call) (time.heard (board p) cs) (accepted p (callsOf cs)) (heard-sent p cs)
+    ap (λ (a : Option (theory.Call Frame ℕ)). time.hearOne a (time.heard (boardOf p) cs)) (asks-sent p c)
+    ∙ hear-sent (accepts p c) c (time.heard (boardOf p) cs) (accepted p cs) (heard-sent p cs)
 
 -- ---- input blocks
 
@@ -55,16 +50,16 @@ inputs-sent : (es : List Call) → time.inputs (map sent es) ≡ map (map mono) 
 unfolding inputs
 inputs-sent [] = refl
 inputs-sent (block x l r ∷ es) = ap (λ (xs : List (List Frame)). map mono (words x) ∷ xs) (inputs-sent es)
-inputs-sent (message k v ∷ es) = inputs-sent es
+inputs-sent (message k w ∷ es) = inputs-sent es
 
 module _ (p : Parsed) (es : List Call) where
   pub blocks-sent : length (time.inputs (map sent es)) ≡ length (inputs es)
   blocks-sent = ap length (inputs-sent es) ∙ length-map (inputs es) (map mono)
 
-  pub end-sent : flat.end (board p) (map sent es) ≡ end p es
+  pub end-sent : flat.end (boardOf p) (map sent es) ≡ end p es
   end-sent = ap (λ (n : ℕ). n * p .size) blocks-sent
 
-  pub input-sent : (t : ℕ) → time.inputAt (board p) (map sent es) (t / p .size) (t % p .size) ≡ mono (inputAt p es t)
+  pub input-sent : (t : ℕ) → time.inputAt (boardOf p) (map sent es) (t / p .size) (t % p .size) ≡ mono (inputAt p es t)
   input-sent t =
       ap (λ (xs : List (List Frame)). getD (getD xs (t / p .size) []) (t % p .size) (mono 0)) (inputs-sent es)
       ∙ ap (λ (xs : List Frame). getD xs (t % p .size) (mono 0)) (List·getD-map (map mono) (inputs es) (t / p .size) [])
@@ -86,8 +81,8 @@ unfolding told readingRules
 told-sent p [] b s k = refl
 told-sent p (block x l r ∷ es) zero s k = refl
 told-sent p (block x l r ∷ es) (suc b) s k = told-sent p es b s k
-told-sent p (message j v ∷ es) zero s k = told-sent p es zero _ k ∙ ap (told es zero k) (said j k (toBits binary32 v) s)
-told-sent p (message j v ∷ es) (suc b) s k = told-sent p es (suc b) s k
+told-sent p (message j w ∷ es) zero s k = told-sent p es zero _ k ∙ ap (told es zero k) (said j k (toBits binary32 (valueOf w)) s)
+told-sent p (message j w ∷ es) (suc b) s k = told-sent p es (suc b) s k
 
 -- the messages before each block up to block b, one after the other
 unfoldable pub toldTo : List Call → ℕ → ℕ → Heard → Heard
@@ -99,14 +94,13 @@ unfolding toldTo told
 to-block x l r es zero k h = refl
 to-block x l r es (suc b) k h = ap (told es (suc b) k) (to-block x l r es b k h)
 
-to-message : (j : ℕ) (v : Float) (es : List Call) (b k : ℕ) (h : Heard)
-    → toldTo (message j v ∷ es) b k h ≡ toldTo es b k (cond (eqb k j) (setNumber (toBits binary32 v) h) h)
+to-message : (j w : ℕ) (es : List Call) (b k : ℕ) (h : Heard) → toldTo (message j w ∷ es) b k h ≡ toldTo es b k (messageTo j w k h)
 unfolding toldTo told
-to-message j v es zero k h = refl
-to-message j v es (suc b) k h = ap (told es (suc b) k) (to-message j v es b k h)
+to-message j w es zero k h = refl
+to-message j w es (suc b) k h = ap (told es (suc b) k) (to-message j w es b k h)
 
 pub told-through : (es : List Call) (k : ℕ) (h : Heard) → toldTo es (length (inputs es)) k h ≡ toldAll es k h
 unfolding toldTo told toldAll inputs
 told-through [] k h = refl
 told-through (block x l r ∷ es) k h = to-block x l r es (length (inputs es)) k h ∙ told-through es k h
-told-through (message j v ∷ es) k h = to-message j v es (length (inputs es)) k h ∙ told-through es k _
+told-through (message j w ∷ es) k h = to-message j w es (length (inputs es)) k h ∙ told-through es k _

@@ -19,7 +19,7 @@ use Rattle.graph.specs.Sources.{distinctSources, secondSource}
 use Rattle.graph.specs.Board.{Parsed}
 use Rattle.graph.specs.Memory.{kindAt}
 use Rattle.graph.specs.Calls.{listed}
-use Rattle.graph.specs.Reading.{Call, block, message, accepts, silence, rightSample, samplesOf}
+use Rattle.graph.specs.Reading.{Call, block, message, valueOf, accepts, silence, rightSample, samplesOf}
 
 -- ---- the board
 
@@ -30,22 +30,18 @@ mono x = record { left = x; right = 0 }
 -- what a call asks, if it is accepted
 abbrev pub asks : Parsed → Call → Option (theory.Call Frame ℕ)
 asks p (block x l r) = cond (accepts p (block x l r)) (some (theory.block (map mono (words x)))) none
-asks p (message k v) = cond (accepts p (message k v)) (some (theory.message k (toBits binary32 v))) none
+asks p (message k w) = cond (accepts p (message k w)) (some (theory.message k (toBits binary32 (valueOf w)))) none
 
--- where calls come as C
-abbrev pub boardFor : {C : Type 0} → (C → Call) → Parsed → theory.Board C Frame ℕ
-boardFor call p = record {
+abbrev pub boardOf : Parsed → theory.Board Call Frame ℕ
+boardOf p = record {
   size = p .size;
   wires = p .wires;
   input = p .input;
   visit = listed p;
   sink = 0;
   silence = silence;
-  accepts = λ c. asks p (call c);
+  accepts = asks p;
 }
-
-abbrev pub boardOf : Parsed → theory.Board Call Frame ℕ
-boardOf p = boardFor (λ c. c) p
 
 -- ---- the rules
 

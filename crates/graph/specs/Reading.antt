@@ -22,15 +22,20 @@ use Rattle.graph.specs.declared.answer.Answer.{Answer}
 
 -- ---- calls and their answers
 
--- a call as it comes: a block run with the bytes of its input block and of the two output blocks, or a number message
+-- a call as it comes: a block run with the bytes of its input block and of the two output blocks, or a number message with its node and its
+-- value's 32 bits
 pub data Call : Type 0 where
   block : List ℕ → List ℕ → List ℕ → Call
-  message : ℕ → Float → Call
+  message : ℕ → ℕ → Call
+
+-- the value of a message's bits
+abbrev pub valueOf : ℕ → Float
+valueOf w = ofBits binary32 w
 
 -- 9, 10 for blocks, 11, 12 for messages
 abbrev pub answerTo : Parsed → Call → Answer
 answerTo p (block x l r) = andThen (checkBlocks p x l r) (checkSamples 0 (words x))
-answerTo p (message k v) = checkNumber p k v
+answerTo p (message k w) = checkNumber p k (valueOf w)
 
 abbrev pub accepts : Parsed → Call → Bool
 accepts p c = eqb (answerTo p c .number) 0
@@ -44,7 +49,11 @@ accepted p (c ∷ cs) = cond (accepts p c) (c ∷ accepted p cs) (accepted p cs)
 unfoldable pub inputs : List Call → List (List ℕ)
 inputs [] = []
 inputs (block x l r ∷ cs) = words x ∷ inputs cs
-inputs (message k v ∷ cs) = inputs cs
+inputs (message k w ∷ cs) = inputs cs
+
+-- what an accepted message to node j makes of node k: it sets its own node's number
+abbrev pub messageTo : ℕ → ℕ → ℕ → Heard → Heard
+messageTo j w k h = cond (eqb k j) (setNumber (toBits binary32 (valueOf w)) h) h
 
 -- what the messages between block b − 1 and block b make of node k's number; at b = 0 those before the first block, after the last block
 -- those behind it
@@ -52,14 +61,14 @@ unfoldable pub told : List Call → ℕ → ℕ → Heard → Heard
 told [] b k h = h
 told (block x l r ∷ cs) zero k h = h
 told (block x l r ∷ cs) (suc b) k h = told cs b k h
-told (message j v ∷ cs) zero k h = told cs zero k (cond (eqb k j) (setNumber (toBits binary32 v) h) h)
-told (message j v ∷ cs) (suc b) k h = told cs (suc b) k h
+told (message j w ∷ cs) zero k h = told cs zero k (messageTo j w k h)
+told (message j w ∷ cs) (suc b) k h = told cs (suc b) k h
 
 -- what all messages make of it
 unfoldable pub toldAll : List Call → ℕ → Heard → Heard
 toldAll [] k h = h
 toldAll (block x l r ∷ cs) k h = toldAll cs k h
-toldAll (message j v ∷ cs) k h = toldAll cs k (cond (eqb k j) (setNumber (toBits binary32 v) h) h)
+toldAll (message j w ∷ cs) k h = toldAll cs k (messageTo j w k h)
 
 -- ---- samples by time and node
 
@@ -175,11 +184,11 @@ outputs p s b a = record {
 abbrev pub replyTo : Parsed → Timed Frame → ℕ → Call → Reply
 replyTo p s b (block x l r) =
     cond (accepts p (block x l r)) (outputs p s b (answerTo p (block x l r))) (record { answer = answerTo p (block x l r); left = l; right = r })
-replyTo p s b (message k v) = record { answer = answerTo p (message k v); left = []; right = [] }
+replyTo p s b (message k w) = record { answer = answerTo p (message k w); left = []; right = [] }
 
 abbrev pub blocksAfter : Parsed → ℕ → Call → ℕ
 blocksAfter p b (block x l r) = cond (accepts p (block x l r)) (suc b) b
-blocksAfter p b (message k v) = b
+blocksAfter p b (message k w) = b
 
 unfoldable pub repliesTo : Parsed → Timed Frame → ℕ → List Call → List Reply
 repliesTo p s b [] = []
