@@ -6,9 +6,12 @@
 -- Assumes nothing.
 use Prim.Native.Nat.{ℕ, suc, _/_, _%_}
 use mathlib.Core.Path.{_≡_, refl, sym, ap, subst, _∙_}
+use mathlib.Core.Bool.{Bool, cond}
 use mathlib.Core.List.{List, []}
 use native.Mathlib.Omega.{arith}
-use lib.Dec.{T}
+use borrow.Author.Tests.{eq-eqb}
+use lib.Dec.{T, eqb}
+use lib.ListN.{length}
 use lib.Ieee.{Float, binary32, fits, toBits}
 use lib.Ieee.Bits.{ofBits-toBits}
 use Rattle.leaves.specs.Words.{Bytes, unwords}
@@ -25,14 +28,16 @@ use Rattle.reading.proofs.Order.{reorders-self}
 use Rattle.reading.proofs.Time as solution
 use Rattle.reading.proofs.Flat as flat
 use Rattle.reading.proofs.Memory.{memory-claim}
+use Rattle.graph.specs.Answer.{answer}
 use Rattle.graph.specs.Board.{Parsed, Reading, going, refused, whole, memoryLength}
 use Rattle.graph.specs.Judge.{readBoard, answerBy, judgeOf}
-use Rattle.graph.specs.Memory.{kindAt, freshValues}
-use Rattle.graph.specs.Calls.{messageOf, listed}
-use Rattle.graph.specs.Reading.{Call, message, valueOf, Timed, Reply, IsReading, accepted, repliesTo, memoryAfter}
-use Rattle.graph.specs.Claim.{callIn, Claim, Demand}
+use Rattle.graph.specs.Memory.{kindAt, passed}
+use Rattle.graph.specs.Calls.{freshBy, freshOf, messageOf, listed}
+use Rattle.graph.specs.Reading.{Call, message, valueOf, Timed, Reply, IsReading, accepted}
+use Rattle.graph.specs.Claim.{callIn, freshMemory, AsRead, Claim, Demand}
 use Rattle.graph.specs.Instance.{boardOf, memoryRules, readingRules, memoryOf}
 use Rattle.graph.specs.Fine.{Fine, Held}
+use Rattle.graph.specs.declared.answer.Answer.{Answer}
 use Rattle.graph.proofs.RoundRefused.{Numbered, read-numbered}
 use Rattle.graph.proofs.FineBoard.{fine-board}
 use Rattle.graph.proofs.Lawful.{board-sound, rules-encode, rules-lawful}
@@ -41,7 +46,7 @@ use Rattle.graph.proofs.ShownBlock.{reordered}
 use Rattle.graph.proofs.ShownCall.{replyFor, call-shown}
 use Rattle.graph.proofs.ShownFresh.{fresh-shown}
 use Rattle.graph.proofs.DemandReading as reading
-use Rattle.graph.proofs.DemandAfter.{memory-shown, replies-shown}
+use Rattle.graph.proofs.DemandAfter.{accepted-whole, memory-shown, replies-shown}
 
 -- ---- the claim about a list of calls
 
@@ -91,36 +96,23 @@ module _ (bytes : List ℕ) (p : Parsed) (reads : readBoard bytes ≡ whole p) (
     abbrev G : Frame → Type 0
     G f = Unit {0}
 
-    abbrev fresh : List ℕ
-    fresh = memoryOf p (freshCells (boardOf p) (memoryRules p))
-
-    both : (replies (callIn order bytes) cs fresh ≡ repliesTo p s 0 cs) × (afterCalls (callIn order bytes) cs fresh ≡ memoryAfter p es s u)
-    both =
+    as-read : AsRead bytes p cs s u order
+    as-read =
         let main =
         memory-claim (boardOf p) (memoryRules p) G (Held p) (board-sound p fine) (rules-lawful p fine) (order p) (memoryOf p) (replyFor p)
         (callIn order bytes) (call-shown bytes p reads fine G order (reordered p fine (order p) fit))
-        (fine .least-size) fit (readingRules p) (λ k. stateOf (kindAt p k)) (rules-encode p fine) cs full (wholly u) (wholly v) solves in (
-          main .0 ∙ replies-shown p fine es s u cs 0,
-          main .1
+        (fine .least-size) fit (readingRules p) (λ k. stateOf (kindAt p k)) (rules-encode p fine) cs full (wholly u) (wholly v) solves in
+        let fresh : freshMemory p ≡ memoryOf p (freshCells (boardOf p) (memoryRules p)) = ap unwords (fresh-shown p) in
+        record {
+          replies = ap (replies (callIn order bytes) cs) fresh ∙ main .0 ∙ replies-shown p fine es s cs 0;
+          memory = ap (afterCalls (callIn order bytes) cs) fresh
+              ∙ main .1
               ∙ ap (λ (l : List (theory.Call Frame ℕ)). memoryOf p (encCells (λ k. stateOf (kindAt p k)) (flatCells (boardOf p) l full (wholly u)))) (heard-sent p cs)
-              ∙ memory-shown p fine es s u,
-        )
-
-    calls-reply : replies (callIn order bytes) cs (unwords (freshValues p)) ≡ repliesTo p s 0 cs
-    calls-reply = ap (replies (callIn order bytes) cs) (ap unwords (fresh-shown p)) ∙ both .0
-
-    calls-leave : afterCalls (callIn order bytes) cs (unwords (freshValues p)) ≡ memoryAfter p es s u
-    calls-leave = ap (afterCalls (callIn order bytes) cs) (ap unwords (fresh-shown p)) ∙ both .1
+              ∙ memory-shown p fine es s u v r (accepted-whole p cs);
+        }
 
   claim-fine : Claim bytes p cs
-  claim-fine = record {
-    samples = time.flat (p .size) samples;
-    before = before;
-    after = after;
-    reads = there-is;
-    replies = calls-reply;
-    memory = calls-leave;
-  }
+  claim-fine = record { samples = time.flat (p .size) samples; before = before; after = after; reads = there-is; as-read = as-read }
 
 -- ---- the theorem
 
@@ -131,6 +123,16 @@ board-claim bytes b p e cs = claim-fine bytes p e (fine-board bytes b p e) cs
 pub own-order : (bytes : List ℕ) → Bytes bytes → (p : Parsed) → readBoard bytes ≡ whole p → Reorders (p .wires) (listed p) (listed p)
 own-order bytes b p e = reorders-self (p .wires) (listed p) (board-sound p (fine-board bytes b p e) .once)
 
+-- the fresh call on memory of the right length
+fresh-call : (bytes : List ℕ) (p : Parsed) → readBoard bytes ≡ whole p → (m : List ℕ) → length m ≡ memoryLength p
+    → freshOf bytes m ≡ (answer 0 0, freshMemory p)
+unfolding freshOf
+fresh-call bytes p e m h =
+    ap (λ (d : Reading). freshBy d m) e ∙ ap (λ (b : Bool). judged (cond b passed (answer 7 (memoryLength p)))) (eq-eqb (length m) (memoryLength p) h)
+  where
+    judged : Answer → Answer × List ℕ
+    judged a = (a, cond (eqb (a .number) 0) (freshMemory p) m)
+
 -- of every board that the judge accepts
 pub demand : (board : List ℕ) → Bytes board → (judgeOf board) .number ≡ 0 → Demand board
 unfolding judgeOf
@@ -139,7 +141,13 @@ demand board b = go (readBoard board) refl (read-numbered board)
     go : (r : Reading) → readBoard board ≡ r → Numbered r → (answerBy memoryLength r) .number ≡ 0 → Demand board
     go (going at last p) e n z = absurd (omega arith)
     go (refused k w) e n z = absurd (omega arith)
-    go (whole p) e n z = record { parsed = p; reads = e; own = own-order board b p e; claim = board-claim board b p e }
+    go (whole p) e n z = record {
+      parsed = p;
+      reads = e;
+      fresh = fresh-call board p e;
+      own = own-order board b p e;
+      claim = board-claim board b p e;
+    }
 
 -- ---- every message call is a message of the claim
 

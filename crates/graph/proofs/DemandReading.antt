@@ -3,6 +3,7 @@
 --     flat-reading     what solves the theory's equations solves the reading's
 --     whole            what solves the reading's, with the input node's blocks and silence for the nodes that are not reached
 --     reading-flat     solves the theory's
+--     input-whole      of the input node, listed or not, these are the input blocks
 --     still-end        a node that is not reached has heard its messages, and nothing else
 -- Assumes nothing.
 use Prim.Native.Nat.{ℕ, zero, suc, _+_, _-_, _*_, _/_, _%_, _<_}
@@ -15,10 +16,11 @@ use borrow.Author.Tests.{ltb-true, ne-eqb, eq-eqb}
 use lib.Dec.{eqb, ltb, leb}
 use lib.Arith.{digits-mod}
 use lib.ListN.{length, length-map}
-use lib.Ieee.{Float, nan, binary32, ofBits}
+use lib.Ieee.{Float, nan, binary32, ofBits, toBits}
 use Rattle.nodes.specs.Kind.{sourcesFit}
-use Rattle.nodes.specs.Rule.{Brought, Frame}
-use Rattle.nodes.specs.History.{Heard, freshHeard, sampleHeard, heardAfter}
+use Rattle.nodes.specs.declared.kind.NodeKind.{NodeKind}
+use Rattle.nodes.specs.Rule.{Brought, Frame, rightOf, keeps}
+use Rattle.nodes.specs.History.{Heard, freshHeard, setNumber, leftHeard, sampleHeard, heardAfter}
 use Rattle.nodes.proofs.Unread.{unread, heard-sample-unread, heard-unread}
 use Rattle.reading.specs.Table.{mem}
 use Rattle.reading.specs.Order.{sources, late}
@@ -27,11 +29,11 @@ use Rattle.reading.specs.Time as time
 use Rattle.reading.specs.Flat.{IsFlat, heldWhen}
 use Rattle.reading.specs.Flat as flat
 use Rattle.reading.proofs.Table.{map-agree}
-use Rattle.graph.specs.Sources.{distinctSources, secondSource}
+use Rattle.graph.specs.Sources.{distinct, distinctSources, secondSource}
 use Rattle.graph.specs.Board.{Parsed}
 use Rattle.graph.specs.Memory.{kindAt}
 use Rattle.graph.specs.Calls.{listed}
-use Rattle.graph.specs.Reading.{Call, Timed, silence, reached, rightSample, inputs, told, toldAll, end, inputAt, earlier, brings, broughtTo, heldAt, IsReading}
+use Rattle.graph.specs.Reading.{Call, Timed, silence, reached, rightSample, inputs, told, numberAfter, end, inputAt, earlier, brings, broughtTo, heldAt, IsReading}
 use Rattle.graph.specs.Instance.{mono, boardOf, frameOf, broughtFrom, readingRules}
 use Rattle.graph.specs.Fine.{Fine}
 use Rattle.graph.proofs.RoundSources.{mem-distinct}
@@ -174,6 +176,40 @@ module _ (p : Parsed) (fine : Fine p) (es : List Call) where
         go true e = refl
         go false e = quiet e (leb (p .size) t)
 
+    -- the input node, a pass without wires in, gives the input sample, listed or not
+    pub input-whole : (u v : Timed Heard) → IsReading p es s u v → (t : ℕ) → t < end p es → whole t (p .input) ≡ mono (inputAt p es t)
+    unfolding sampleHeard keeps distinct
+    input-whole u v f t h = go (reached p (p .input)) refl
+      where
+        k : ℕ
+        k = p .input
+
+        same : eqb k k ≡ true
+        same = eq-eqb k k refl
+
+        held : heldAt p es s t k ≡ mono (inputAt p es t)
+        held = ap (λ (b : Bool). cond b (mono (inputAt p es t)) (earlier p s t k)) same
+
+        none : length (broughtTo p s t k .left) ≡ 0
+        none = ap (λ (l : List ℕ). length (map (λ a. ofBits binary32 (brings p s t k a .left)) (distinct l))) (fine .input-free)
+
+        kept : keeps (kindAt p k) (broughtTo p s t k) ≡ true
+        kept = ap (λ (d : NodeKind). keeps d (broughtTo p s t k)) (fine .input-pass) ∙ eq-eqb (length (broughtTo p s t k .left)) 0 none
+
+        given : Frame
+        given = record {
+          left = toBits binary32 (leftHeard (kindAt p k) (u t k) (broughtTo p s t k));
+          right = toBits binary32 (rightOf (kindAt p k) (broughtTo p s t k));
+        }
+
+        go : (b : Bool) → reached p k ≡ b → whole t k ≡ mono (inputAt p es t)
+        go true r =
+            whole-reached t k r
+            ∙ f .sample t k h r
+            ∙ ap (λ (b : Bool). cond b (heldAt p es s t k) given) kept
+            ∙ held
+        go false r = whole-other t k r ∙ ap (λ (b : Bool). cond b (mono (inputAt p es t)) silence) same
+
     -- the states, with those of the nodes that stand still
     abbrev pub wholly : Timed Heard → Timed Heard
     wholly w t k = cond (reached p k) (w t k) (still t k)
@@ -245,5 +281,5 @@ module _ (p : Parsed) (fine : Fine p) (es : List Call) where
       ∙ ap (λ (q : Bool). cond q (told es (suc t / p .size) k (still t k)) (still t k)) (eq-eqb (suc t % p .size) 0 m)
       ∙ (λ i. told es (d i) k ((still-in k b (p .size - 1) (omega arith) ∙ still-at k b) i))
 
-  pub still-end : (k : ℕ) → still (end p es) k ≡ toldAll es k (freshHeard (kindAt p k))
+  pub still-end : (k : ℕ) → still (end p es) k ≡ setNumber (numberAfter es k (freshHeard (kindAt p k) .number)) (freshHeard (kindAt p k))
   still-end k = still-at k (length (inputs es)) ∙ told-through es k (freshHeard (kindAt p k))

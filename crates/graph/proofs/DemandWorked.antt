@@ -73,4 +73,4 @@ pub feedback-reading : (s : Timed Frame) (u v : Timed Heard) → IsReading p (ac
 feedback-reading s u v r =
     let bytes = board-bytes feedback in
     let claim = board-claim (writeBoard feedback) bytes p reads three in
-    sym (claim .replies s u v r listed (own-order (writeBoard feedback) bytes p reads)) ∙ feedback-blocks
+    sym (claim .as-read s u v r listed (own-order (writeBoard feedback) bytes p reads) .replies) ∙ feedback-blocks

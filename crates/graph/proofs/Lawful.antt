@@ -42,7 +42,7 @@ use Rattle.graph.specs.Instance.{boardOf, mono, asks, broughtFrom, memor
 use Rattle.graph.specs.Fine.{Fine, Held}
 use Rattle.graph.proofs.Listed.{lists-reached}
 use Rattle.graph.proofs.ShownRun.{source-there}
-use Rattle.graph.proofs.ShownCall.{input-whole}
+use Rattle.graph.proofs.ShownCall.{block-whole}
 
 module _ (p : Parsed) (fine : Fine p) where
   pub lists : ListsReached (p .wires) (listed p)
@@ -69,7 +69,7 @@ module _ (p : Parsed) (fine : Fine p) where
   asked (block x l r) = go (accepts p (block x l r)) refl
     where
       go : (b : Bool) → accepts p (block x l r) ≡ b → Asked (cond b (some (theory.block (map mono (words x)))) none)
-      go true e = length-map (words x) mono ∙ input-whole p x l r e
+      go true e = length-map (words x) mono ∙ block-whole p x l r e
       go false e = tt
   asked (message k w) = go (accepts p (message k w)) refl
     where

@@ -1,7 +1,7 @@
 -- The promise of one call: on memory that shows cells it leaves what shows the cells that the theory's call leaves, and replies by what that
 -- wrote, with the nodes of a block run taken in any order.
 --     replyFor             a reply's bytes, from what the theory's call wrote
---     input-whole          the input block of an accepted block run
+--     block-whole          the input block of an accepted block run
 --     call-shown           the promise, as the theory asks it
 -- Assumes nothing.
 use Prim.Native.Nat.{ℕ, suc, _+_, _*_, _<_}
@@ -73,8 +73,8 @@ module _ (p : Parsed) (x l r : List ℕ) (yes′ : accepts p (block x l r) ≡ t
       go true q e = (q, ap Both q ∙ samples-pass 0 (words x) e)
       go false q e = absurd (false≢true e)
 
-  pub input-whole : length (words x) ≡ p .size
-  input-whole =
+  pub block-whole : length (words x) ≡ p .size
+  block-whole =
       let two = and-eq-true-iff (eqb (length x) four && eqb (length l) four) (eqb (length r) four) .0 (blocks-pass .0) in
       let one = and-eq-true-iff (eqb (length x) four) (eqb (length l) four) .0 (two .0) in
       let e : length x ≡ 4 * p .size = eqb-true (length x) four (one .0) in
@@ -136,7 +136,7 @@ module _ (p : Parsed) (fine : Fine p) (order : Parsed → List ℕ) (nodes : OfB
     ran-block : accepts p c ≡ true
         → _≡_ {A = List ℕ × Reply} (ranBlock p o x M .memory, replied (ranBlock p o x M)) (memoryOf p after, replyFor p c (some (after 0 .samples)))
     ran-block e =
-        let w : length (words x) ≡ p .size = input-whole p x l r e in
+        let w : length (words x) ≡ p .size = block-whole p x l r e in
         let before-long : Long p (blocks.putInput (boardOf p) (map mono (words x)) m) = input-long p fine m long (words x) w in
         let after-long : Long p after = order-long p o (blocks.putInput (boardOf p) (map mono (words x)) m) before-long in
         let values : runBlock p o (words x) (words M) ≡ shown p after =

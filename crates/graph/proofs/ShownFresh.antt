@@ -58,7 +58,7 @@ module _ (p : Parsed) where
   abbrev fresh : Cells
   fresh = blocks.freshCells (boardOf p) (memoryRules p)
 
-  fresh-cell : (k : ℕ) → freshCell (p .size) (kindAt p k) ≡ cellIn p fresh k
+  pub fresh-cell : (k : ℕ) → freshCell (p .size) (kindAt p k) ≡ cellIn p fresh k
   unfolding freshCell memoryRules
   fresh-cell k = λ i. record { state = freshCell (p .size) (kindAt p k) .state; samples = sym (silent (kindAt p k) (p .size)) i }
 

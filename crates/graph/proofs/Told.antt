@@ -3,7 +3,7 @@
 --     heard-sent           the theory hears the accepted calls
 --     inputs-sent, end-sent, input-sent    their input blocks, the time after the last, the input sample of a time
 --     told-sent            what messages make of a node
---     told-through         the messages before each block, one after the other, are all messages
+--     told-through         the messages before each block, one after the other, leave the number that all messages leave
 -- Assumes nothing.
 use Prim.Native.Nat.{ℕ, zero, suc, _*_, _/_, _%_}
 use mathlib.Core.Path.{_≡_, refl, sym, ap, _∙_}
@@ -21,7 +21,7 @@ use Rattle.reading.specs.Board as theory
 use Rattle.reading.specs.Time as time
 use Rattle.reading.specs.Flat as flat
 use Rattle.graph.specs.Board.{Parsed}
-use Rattle.graph.specs.Reading.{Call, block, message, valueOf, accepts, accepted, inputs, messageTo, told, toldAll, end, inputAt}
+use Rattle.graph.specs.Reading.{Call, block, message, valueOf, accepts, accepted, inputs, messageTo, told, numberAfter, end, inputAt}
 use Rattle.graph.specs.Instance.{mono, asks, boardOf, readingRules}
 
 abbrev pub sent : Call → theory.Call Frame ℕ
@@ -99,8 +99,16 @@ unfolding toldTo told
 to-message j w es zero k h = refl
 to-message j w es (suc b) k h = ap (told es (suc b) k) (to-message j w es b k h)
 
-pub told-through : (es : List Call) (k : ℕ) (h : Heard) → toldTo es (length (inputs es)) k h ≡ toldAll es k h
-unfolding toldTo told toldAll inputs
+pub told-through : (es : List Call) (k : ℕ) (h : Heard) → toldTo es (length (inputs es)) k h ≡ setNumber (numberAfter es k (h .number)) h
+unfolding toldTo told numberAfter inputs setNumber
 told-through [] k h = refl
 told-through (block x l r ∷ es) k h = to-block x l r es (length (inputs es)) k h ∙ told-through es k h
-told-through (message j w ∷ es) k h = to-message j w es (length (inputs es)) k h ∙ told-through es k _
+told-through (message j w ∷ es) k h = to-message j w es (length (inputs es)) k h ∙ told-through es k (messageTo j w k h) ∙ go (eqb k j)
+  where
+    new : ℕ
+    new = toBits binary32 (valueOf w)
+
+    go : (b : Bool) → setNumber (numberAfter es k ((cond b (setNumber new h) h) .number)) (cond b (setNumber new h) h)
+        ≡ setNumber (numberAfter es k (cond b new (h .number))) h
+    go true = refl
+    go false = refl

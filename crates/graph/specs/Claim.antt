@@ -4,15 +4,17 @@
 use Prim.Native.Nat.{ℕ}
 use mathlib.Core.Path.{_≡_}
 use mathlib.Core.List.{List, []}
+use lib.ListN.{length}
 use Rattle.leaves.specs.Words.{unwords}
 use Rattle.nodes.specs.Rule.{Frame}
 use Rattle.nodes.specs.History.{Heard}
 use Rattle.reading.specs.Order.{Reorders}
 use Rattle.reading.specs.Calls as calls
-use Rattle.graph.specs.Board.{Parsed, whole}
+use Rattle.graph.specs.Answer.{answer}
+use Rattle.graph.specs.Board.{Parsed, whole, memoryLength}
 use Rattle.graph.specs.Judge.{readBoard}
 use Rattle.graph.specs.Memory.{freshValues}
-use Rattle.graph.specs.Calls.{Left, blockIn, messageOf, listed}
+use Rattle.graph.specs.Calls.{Left, freshOf, blockIn, messageOf, listed}
 use Rattle.graph.specs.Reading.{Call, block, message, valueOf, Reply, Timed, IsReading, accepted, repliesTo, memoryAfter}
 
 -- ---- a call on a board's bytes and its memory
@@ -30,20 +32,24 @@ callIn order board (message k w) m =
 
 -- ---- the claim about a board that reads as p, and a list of calls
 
+abbrev pub freshMemory : Parsed → List ℕ
+freshMemory p = unwords (freshValues p)
+
+-- From fresh memory, each call on the memory that the one before left, the calls do as the samples s and the states u say: every answer and
+-- output block, and every byte of the memory.
+pub record AsRead (board : List ℕ) (p : Parsed) (cs : List Call) (s : Timed Frame) (u : Timed Heard) (order : Parsed → List ℕ) : Type 0 where
+  pub replies : calls.replies (callIn order board) cs (freshMemory p) ≡ repliesTo p s 0 cs
+  pub memory : calls.afterCalls (callIn order board) cs (freshMemory p) ≡ memoryAfter p (accepted p cs) s u
+
 pub record Claim (board : List ℕ) (p : Parsed) (cs : List Call) : Type 0 where
   -- there is a reading
   pub samples : Timed Frame
   pub before : Timed Heard
   pub after : Timed Heard
   pub reads : IsReading p (accepted p cs) samples before after
-  -- and whatever solves its equations says what the calls do, from fresh memory, each on the memory that the one before left, in whatever
-  -- order the block runs take the nodes: every answer and output block, and every byte of the memory
-  pub replies : (s : Timed Frame) (u v : Timed Heard) → IsReading p (accepted p cs) s u v
-      → (order : Parsed → List ℕ) → Reorders (p .wires) (listed p) (order p)
-      → calls.replies (callIn order board) cs (unwords (freshValues p)) ≡ repliesTo p s 0 cs
-  pub memory : (s : Timed Frame) (u v : Timed Heard) → IsReading p (accepted p cs) s u v
-      → (order : Parsed → List ℕ) → Reorders (p .wires) (listed p) (order p)
-      → calls.afterCalls (callIn order board) cs (unwords (freshValues p)) ≡ memoryAfter p (accepted p cs) s u
+  -- and the calls do as any reading says, in whatever order the block runs take the nodes
+  pub as-read : (s : Timed Frame) (u v : Timed Heard) → IsReading p (accepted p cs) s u v
+      → (order : Parsed → List ℕ) → Reorders (p .wires) (listed p) (order p) → AsRead board p cs s u order
 
 -- ---- demand 3 of a board's bytes
 
@@ -51,6 +57,8 @@ pub record Demand (board : List ℕ) : Type 0 where
   -- they are read as a board
   pub parsed : Parsed
   pub reads : readBoard board ≡ whole parsed
+  -- the fresh call makes fresh memory
+  pub fresh : (m : List ℕ) → length m ≡ memoryLength parsed → freshOf board m ≡ (answer 0 0, freshMemory parsed)
   -- the visiting list is one of the orders
   pub own : Reorders (parsed .wires) (listed parsed) (listed parsed)
   -- the claim holds of every list of calls

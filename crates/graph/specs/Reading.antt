@@ -4,13 +4,13 @@ use Prim.Native.Nat.{ℕ, zero, suc, _+_, _-_, _*_, _/_, _%_, _<_}
 use mathlib.Core.Path.{_≡_}
 use mathlib.Core.Bool.{Bool, true, false, cond, _&&_}
 use mathlib.Core.List.{List, [], _∷_, _++_, map}
-use lib.ListN.{length, getD}
+use lib.ListN.{length, getD, replicate}
 use lib.Dec.{leb, eqb}
 use lib.Ieee.{Float, binary32, ofBits, toBits}
 use Rattle.leaves.specs.Words.{words, unwords}
 use Rattle.nodes.specs.Kind.{channelsOf}
-use Rattle.nodes.specs.Rule.{Brought, Frame}
-use Rattle.nodes.specs.Cell.{Cell, valuesOf}
+use Rattle.nodes.specs.Rule.{Brought, Frame, State}
+use Rattle.nodes.specs.Cell.{Cell, valuesOf, freshCell}
 use Rattle.nodes.specs.History.{Heard, freshHeard, setNumber, sampleHeard, heardAfter, stateOf}
 use Rattle.reading.specs.Table.{mem, tab}
 use Rattle.reading.specs.Order.{late}
@@ -63,12 +63,6 @@ told (block x l r ∷ cs) zero k h = h
 told (block x l r ∷ cs) (suc b) k h = told cs b k h
 told (message j w ∷ cs) zero k h = told cs zero k (messageTo j w k h)
 told (message j w ∷ cs) (suc b) k h = told cs (suc b) k h
-
--- what all messages make of it
-unfoldable pub toldAll : List Call → ℕ → Heard → Heard
-toldAll [] k h = h
-toldAll (block x l r ∷ cs) k h = toldAll cs k h
-toldAll (message j w ∷ cs) k h = toldAll cs k (messageTo j w k h)
 
 -- ---- samples by time and node
 
@@ -133,6 +127,20 @@ pub record IsReading (p : Parsed) (cs : List Call) (s : Timed Frame) (u v : Time
 abbrev pub samplesOf : ℕ → List Frame → List ℕ
 samplesOf channels fs = cond (eqb channels 2) (map (λ f. f .left) fs ++ map (λ f. f .right) fs) (map (λ f. f .left) fs)
 
+-- the last of a list of blocks, z if there is none
+unfoldable pub lastOf : List ℕ → List (List ℕ) → List ℕ
+lastOf z [] = z
+lastOf z (x ∷ xs) = lastOf x xs
+
+-- node k's number after all messages, where it starts as n
+unfoldable pub numberAfter : List Call → ℕ → ℕ → ℕ
+numberAfter [] k n = n
+numberAfter (block x l r ∷ cs) k n = numberAfter cs k n
+numberAfter (message j w ∷ cs) k n = numberAfter cs k (cond (eqb k j) (toBits binary32 (valueOf w)) n)
+
+abbrev pub withNumber : ℕ → State → State
+withNumber n s = record { number = n; carry = s .carry; place = s .place; line = s .line }
+
 module _ (p : Parsed) (cs : List Call) (s : Timed Frame) (u : Timed Heard) where
   -- a reached node's cell: its number, its phase or y1, its line, and its last block, zeros if none
   abbrev pub reachedCell : ℕ → Cell
@@ -141,19 +149,17 @@ module _ (p : Parsed) (cs : List Call) (s : Timed Frame) (u : Timed Heard) where
     samples = samplesOf (channelsOf (kindAt p k)) (tab (p .size) (λ i. earlier p s (end p cs + i) k));
   }
 
-  -- the last accepted input block, zeros if none
-  abbrev pub lastInput : List ℕ
-  lastInput = tab (p .size) (λ i. cond (leb (p .size) (end p cs + i)) (inputAt p cs (end p cs + i - p .size)) 0)
-
-  -- another cell is as fresh but for the number, and the input node's samples
+  -- another cell is as fresh but for the number
   abbrev pub otherCell : ℕ → Cell
-  otherCell k = record {
-    state = stateOf (kindAt p k) (toldAll cs k (freshHeard (kindAt p k)));
-    samples = cond (eqb k (p .input)) lastInput (samplesOf (channelsOf (kindAt p k)) (tab (p .size) (λ i. silence)));
-  }
+  otherCell k =
+      let c = freshCell (p .size) (kindAt p k) in
+      record { state = withNumber (numberAfter cs k (c .state .number)) (c .state); samples = c .samples }
 
+  -- the input node's samples, listed or not, are the last accepted input block, zeros if none
   abbrev pub cellAfter : ℕ → Cell
-  cellAfter k = cond (reached p k) (reachedCell k) (otherCell k)
+  cellAfter k =
+      let c = cond (reached p k) (reachedCell k) (otherCell k) in
+      record { state = c .state; samples = cond (eqb k (p .input)) (lastOf (replicate (p .size) 0) (inputs cs)) (c .samples) }
 
   -- cells in node order
   unfoldable pub cellsTo : ℕ → List ℕ
