@@ -33,7 +33,7 @@ use Rattle.graph.specs.Board.{Parsed, Reading, going, refused, whole, me
 use Rattle.graph.specs.Judge.{readBoard, answerBy, judgeOf}
 use Rattle.graph.specs.Memory.{kindAt, passed}
 use Rattle.graph.specs.Calls.{freshBy, freshOf, messageOf, listed}
-use Rattle.graph.specs.Reading.{Call, message, valueOf, Timed, Reply, IsReading, accepted}
+use Rattle.graph.specs.Reading.{Call, message, valueOf, Timed, IsReading, accepted}
 use Rattle.graph.specs.Claim.{callIn, freshMemory, AsRead, Claim, Demand}
 use Rattle.graph.specs.Instance.{boardOf, memoryRules, readingRules, memoryOf}
 use Rattle.graph.specs.Fine.{Fine, Held}
@@ -71,7 +71,7 @@ module _ (bytes : List ℕ) (p : Parsed) (reads : readBoard bytes ≡ whole p) (
   abbrev after : Timed Heard
   after t = states (t / p .size) (suc (t % p .size))
 
-  there-is : IsReading p es (time.flat (p .size) samples) before after
+  there-is : IsReading p es (time.flat (p .size) samples) before
   there-is =
       reading.flat-reading p fine es (time.flat (p .size) samples) before after
       (subst (λ (l : List (theory.Call Frame ℕ)). IsFlat (boardOf p) (readingRules p) l (time.flat (p .size) samples) before after) (heard-sent p cs)
@@ -80,18 +80,21 @@ module _ (bytes : List ℕ) (p : Parsed) (reads : readBoard bytes ≡ whole p) (
 
   -- ---- and the calls are what any reading says, in any order
 
-  module _ (s : Timed Frame) (u v : Timed Heard) (r : IsReading p es s u v)
+  module _ (s : Timed Frame) (u : Timed Heard) (r : IsReading p es s u)
       (order : Parsed → List ℕ) (fit : Reorders (p .wires) (listed p) (order p)) where
     abbrev full : Timed Frame
     full = reading.whole p fine es s
 
-    abbrev wholly : Timed Heard → Timed Heard
-    wholly = reading.wholly p fine es s
+    abbrev known : Timed Heard
+    known = reading.before p fine es s u
 
-    solves : IsFlat (boardOf p) (readingRules p) heard full (wholly u) (wholly v)
+    abbrev left : Timed Heard
+    left = reading.after p fine es s u
+
+    solves : IsFlat (boardOf p) (readingRules p) heard full known left
     solves =
-        subst (λ (l : List (theory.Call Frame ℕ)). IsFlat (boardOf p) (readingRules p) l full (wholly u) (wholly v)) (sym (heard-sent p cs))
-        (reading.reading-flat p fine es s u v r)
+        subst (λ (l : List (theory.Call Frame ℕ)). IsFlat (boardOf p) (readingRules p) l full known left) (sym (heard-sent p cs))
+        (reading.reading-flat p fine es s u r)
 
     abbrev G : Frame → Type 0
     G f = Unit {0}
@@ -101,18 +104,18 @@ module _ (bytes : List ℕ) (p : Parsed) (reads : readBoard bytes ≡ whole p) (
         let main =
         memory-claim (boardOf p) (memoryRules p) G (Held p) (board-sound p fine) (rules-lawful p fine) (order p) (memoryOf p) (replyFor p)
         (callIn order bytes) (call-shown bytes p reads fine G order (reordered p fine (order p) fit))
-        (fine .least-size) fit (readingRules p) (λ k. stateOf (kindAt p k)) (rules-encode p fine) cs full (wholly u) (wholly v) solves in
+        (fine .least-size) fit (readingRules p) (λ k. stateOf (kindAt p k)) (rules-encode p fine) cs full known left solves in
         let fresh : freshMemory p ≡ memoryOf p (freshCells (boardOf p) (memoryRules p)) = ap unwords (fresh-shown p) in
         record {
           replies = ap (replies (callIn order bytes) cs) fresh ∙ main .0 ∙ replies-shown p fine es s cs 0;
           memory = ap (afterCalls (callIn order bytes) cs) fresh
               ∙ main .1
-              ∙ ap (λ (l : List (theory.Call Frame ℕ)). memoryOf p (encCells (λ k. stateOf (kindAt p k)) (flatCells (boardOf p) l full (wholly u)))) (heard-sent p cs)
-              ∙ memory-shown p fine es s u v r (accepted-whole p cs);
+              ∙ ap (λ (l : List (theory.Call Frame ℕ)). memoryOf p (encCells (λ k. stateOf (kindAt p k)) (flatCells (boardOf p) l full known))) (heard-sent p cs)
+              ∙ memory-shown p fine es s u r (accepted-whole p cs);
         }
 
   claim-fine : Claim bytes p cs
-  claim-fine = record { samples = time.flat (p .size) samples; before = before; after = after; reads = there-is; as-read = as-read }
+  claim-fine = record { samples = time.flat (p .size) samples; known = before; reads = there-is; as-read = as-read }
 
 -- ---- the theorem
 

@@ -31,7 +31,7 @@ use Rattle.reading.specs.Keeps.{All}
 use Rattle.reading.proofs.Table.{tab-agree, tab-constant, length-tab, getD-tab}
 use Rattle.graph.specs.Board.{Parsed}
 use Rattle.graph.specs.Memory.{kindAt}
-use Rattle.graph.specs.Reading.{Call, block, message, Reply, Timed, silence, reached, accepts, accepted, inputs, answerTo, end, inputAt, earlier, IsReading, samplesOf, lastOf, numberAfter, withNumber, reachedCell, otherCell, cellAfter, cellsTo, memoryAfter, outputs, replyTo, blocksAfter, repliesTo}
+use Rattle.graph.specs.Reading.{Call, block, message, Reply, Timed, silence, reached, accepts, accepted, inputs, answerTo, end, inputAt, numberAt, earlier, IsReading, samplesOf, lastOf, withNumber, reachedCell, otherCell, cellAfter, cellsTo, memoryAfter, outputs, replyTo, blocksAfter, repliesTo}
 use Rattle.graph.specs.Instance.{Cells, mono, asks, boardOf, memoryRules, readingRules, cellIn, shownTo, memoryOf}
 use Rattle.graph.specs.Fine.{Fine}
 use Rattle.graph.specs.declared.answer.Answer.{Answer}
@@ -39,7 +39,7 @@ use Rattle.graph.proofs.Lawful.{lists, rules-encode}
 use Rattle.graph.proofs.Told.{sent, end-sent}
 use Rattle.graph.proofs.ShownCall.{block-whole, replyFor}
 use Rattle.graph.proofs.ShownFresh.{fresh-cell}
-use Rattle.graph.proofs.DemandReading.{still, whole, whole-reached, whole-other, earlier-reached, input-whole, wholly, still-end}
+use Rattle.graph.proofs.DemandReading.{still, whole, whole-reached, whole-other, earlier-reached, input-whole, before}
 
 -- ---- cells one behind another
 
@@ -113,14 +113,14 @@ last-block n (x ∷ xs) w =
         ∙ (λ j. getD (getD (x ∷ xs) (digits-div (length xs) h j) []) (digits-mod (length xs) h j) 0)
         ∙ ap (λ (l : List ℕ). getD l i 0) (sym (last-get (replicate n 0) x xs))
 
-module _ (p : Parsed) (fine : Fine p) (es : List Call) (s : Timed Frame) (u v : Timed Heard) (f : IsReading p es s u v)
+module _ (p : Parsed) (fine : Fine p) (es : List Call) (s : Timed Frame) (u : Timed Heard) (f : IsReading p es s u)
     (blocks : Blocks (p .size) (inputs es)) where
   -- the samples and states with those of the nodes that are not reached
   abbrev full : Timed Frame
   full = whole p fine es s
 
   abbrev states : Timed Heard
-  states = wholly p fine es s u
+  states = before p fine es s u
 
   -- ---- the memory afterwards
 
@@ -142,9 +142,9 @@ module _ (p : Parsed) (fine : Fine p) (es : List Call) (s : Timed Frame) (u v : 
       where
         other : stateOf (kindAt p k) (still p fine es (end p es) k) ≡ otherCell p es s u k .state
         other =
-            let n : ℕ = numberAfter es k (freshHeard (kindAt p k) .number) in
+            let n : ℕ = numberAt p es (end p es) k in
             let enc = rules-encode p fine in
-            ap (stateOf (kindAt p k)) (still-end p fine es k) ∙ sym (enc .set k n (freshHeard (kindAt p k))) ∙ ap (withNumber n) (sym (enc .fresh k))
+            sym (enc .set k n (freshHeard (kindAt p k))) ∙ ap (withNumber n) (sym (enc .fresh k))
 
         go : (b : Bool) → stateOf (kindAt p k) (cond b (u (end p es) k) (still p fine es (end p es) k)) ≡ (cond b (reachedCell p es s u k) (otherCell p es s u k)) .state
         go true = refl
@@ -177,7 +177,7 @@ module _ (p : Parsed) (fine : Fine p) (es : List Call) (s : Timed Frame) (u v : 
             → (cond b (full (t - p .size) k) silence) .left ≡ cond b (inputAt p es (t - p .size)) 0
         go t true l h =
             let m = leb-true (p .size) t l in
-            ap (λ (x : Frame). x .left) (ap (full (t - p .size)) e ∙ input-whole p fine es s u v f (t - p .size) (omega arith))
+            ap (λ (x : Frame). x .left) (ap (full (t - p .size)) e ∙ input-whole p fine es s u f (t - p .size) (omega arith))
         go t false l h = refl
 
     samples-after : samplesOf channels frames ≡ cellAfter p es s u k .samples
@@ -201,7 +201,7 @@ module _ (p : Parsed) (fine : Fine p) (es : List Call) (s : Timed Frame) (u v : 
   cells-joined zero = refl
   cells-joined (suc n) = ap (λ (l : List ℕ). l ++ valuesOf (cellAfter p es s u n)) (cells-joined n)
 
-  pub memory-shown : memoryOf p (encCells (λ k. stateOf (kindAt p k)) (flatCells (boardOf p) (map sent es) (whole p fine es s) (wholly p fine es s u)))
+  pub memory-shown : memoryOf p (encCells (λ k. stateOf (kindAt p k)) (flatCells (boardOf p) (map sent es) (whole p fine es s) (before p fine es s u)))
       ≡ memoryAfter p es s u
   memory-shown = ap unwords (shown-joined p after (cellAfter p es s u) cell-after (length (p .nodes)) ∙ cells-joined (length (p .nodes)))
 

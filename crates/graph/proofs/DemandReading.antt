@@ -4,17 +4,15 @@
 --     whole            what solves the reading's, with the input node's blocks and silence for the nodes that are not reached
 --     reading-flat     solves the theory's
 --     input-whole      of the input node, listed or not, these are the input blocks
---     still-end        a node that is not reached has heard its messages, and nothing else
+--     still            what a node that is not reached hears: its messages, and nothing else
 -- Assumes nothing.
-use Prim.Native.Nat.{ℕ, zero, suc, _+_, _-_, _*_, _/_, _%_, _<_}
+use Prim.Native.Nat.{ℕ, zero, suc, _-_, _%_, _≤_, _<_}
 use mathlib.Core.Path.{_≡_, refl, sym, ap, subst, _∙_, fun-ext}
 use mathlib.Core.List.{List, map}
 use mathlib.Core.Bool.{Bool, true, false, cond}
-use native.Mathlib.Nat.{mul-mod-left, mul-div-cancel}
 use native.Mathlib.Omega.{arith}
-use borrow.Author.Tests.{ltb-true, ne-eqb, eq-eqb}
+use borrow.Author.Tests.{ltb-true, eq-eqb}
 use lib.Dec.{eqb, ltb, leb}
-use lib.Arith.{digits-mod}
 use lib.ListN.{length, length-map}
 use lib.Ieee.{Float, nan, binary32, ofBits, toBits}
 use Rattle.nodes.specs.Kind.{sourcesFit}
@@ -25,7 +23,6 @@ use Rattle.nodes.proofs.Unread.{unread, heard-sample-unread, heard-unread}
 use Rattle.reading.specs.Table.{mem}
 use Rattle.reading.specs.Order.{sources, late}
 use Rattle.reading.specs.Board as theory
-use Rattle.reading.specs.Time as time
 use Rattle.reading.specs.Flat.{IsFlat, heldWhen}
 use Rattle.reading.specs.Flat as flat
 use Rattle.reading.proofs.Table.{map-agree}
@@ -33,14 +30,14 @@ use Rattle.graph.specs.Sources.{distinct, distinctSources, secondSource}
 use Rattle.graph.specs.Board.{Parsed}
 use Rattle.graph.specs.Memory.{kindAt}
 use Rattle.graph.specs.Calls.{listed}
-use Rattle.graph.specs.Reading.{Call, Timed, silence, reached, rightSample, inputs, told, numberAfter, end, inputAt, earlier, brings, broughtTo, heldAt, IsReading}
+use Rattle.graph.specs.Reading.{Call, Timed, silence, reached, rightSample, end, inputAt, numberAt, earlier, brings, broughtTo, heldAt, IsReading}
 use Rattle.graph.specs.Instance.{mono, boardOf, frameOf, broughtFrom, readingRules}
 use Rattle.graph.specs.Fine.{Fine}
 use Rattle.graph.proofs.RoundSources.{mem-distinct}
 use Rattle.graph.proofs.ShownRun.{frame-of, second-source}
 use Rattle.graph.proofs.ShownBlock.{listed-order}
 use Rattle.graph.proofs.Lawful.{lists}
-use Rattle.graph.proofs.Told.{sent, end-sent, input-sent, told-sent, toldTo, told-through}
+use Rattle.graph.proofs.Told.{sent, end-sent, input-sent, told-fresh, told-then}
 
 -- what node k's wires bring, where source a brings f a
 abbrev broughtOf : Parsed → ℕ → (ℕ → Frame) → Brought
@@ -106,41 +103,56 @@ module _ (p : Parsed) (fine : Fine p) (es : List Call) where
   held-sent : (s : Timed Frame) (t k : ℕ) → heldWhen (boardOf p) cs s t k ≡ heldAt p es s t k
   held-sent s t k = ap (λ (x : Frame). cond (eqb k (p .input)) x (earlier p s t k)) (input-sent p es t)
 
-  fresh-sent : (k : ℕ) → (readingRules p) .fresh k ≡ freshHeard (kindAt p k)
-  unfolding readingRules
-  fresh-sent k = refl
+  -- what a reached node leaves of a time
+  abbrev pub left : Timed Frame → Timed Heard → Timed Heard
+  left s u t k = heardAfter (kindAt p k) (u t k) (broughtTo p s t k)
 
-  first-sent : (k : ℕ) → time.told (readingRules p) cs 0 ((readingRules p) .fresh) k ≡ told es 0 k (freshHeard (kindAt p k))
-  first-sent k = told-sent p es 0 ((readingRules p) .fresh) k ∙ ap (told es 0 k) (fresh-sent k)
+  left-number : (s : Timed Frame) (u : Timed Heard) (t k : ℕ) → left s u t k .number ≡ u t k .number
+  unfolding heardAfter
+  left-number s u t k = refl
 
-  next-sent : (b : Bool) (n : ℕ) (w : ℕ → Heard) (k : ℕ) → cond b (time.told (readingRules p) cs n w) w k ≡ cond b (told es n k (w k)) (w k)
-  next-sent true n w k = told-sent p es n w k
-  next-sent false n w k = refl
+  set-number : (n : ℕ) (h : Heard) → setNumber n h .number ≡ n
+  unfolding setNumber
+  set-number n h = refl
 
   -- ---- from the theory's equations to the reading's
 
-  pub flat-reading : (s : Timed Frame) (u v : Timed Heard) → IsFlat (boardOf p) (readingRules p) cs s u v → IsReading p es s u v
+  module _ (s : Timed Frame) (u v : Timed Heard) (f : IsFlat (boardOf p) (readingRules p) cs s u v) (k : ℕ) (r : reached p k ≡ true) where
+    both : (t : ℕ) → t < end p es
+        → _≡_ {A = Frame × Heard} (s t k, v t k)
+        (sampleHeard (kindAt p k) (u t k) (heldAt p es s t k) (broughtTo p s t k), left s u t k)
+    both t h =
+        f .listed t k (in-time t h) r
+        ∙ ap (λ (x : Frame). (readingRules p) .step k (t % p .size) (u t k) x (map (brings p s t k) (sources (p .wires) k))) (held-sent s t k)
+        ∙ step-sent p fine k (t % p .size) (listed-order p fine k r) (u t k) (heldAt p es s t k) (brings p s t k)
+
+    first-of : u 0 k ≡ setNumber (numberAt p es 0 k) (freshHeard (kindAt p k))
+    first-of = ap (λ (w : ℕ → Heard). w k) (f .first) ∙ told-fresh p (fine .least-size) es k
+
+    next-of : (t : ℕ) → t < end p es → u t k .number ≡ numberAt p es t k → u (suc t) k ≡ setNumber (numberAt p es (suc t) k) (left s u t k)
+    next-of t h n =
+        let e = ap (λ (x : Frame × Heard). x .1) (both t h) in
+        ap (λ (w : ℕ → Heard). w k) (f .next t (in-time t h))
+        ∙ told-then p (fine .least-size) es k t (v t) (ap (λ (x : Heard). x .number) e ∙ left-number s u t k ∙ n)
+        ∙ ap (setNumber (numberAt p es (suc t) k)) e
+
+    numbers : (t : ℕ) → t ≤ end p es → u t k .number ≡ numberAt p es t k
+    numbers zero h = ap (λ (x : Heard). x .number) first-of ∙ set-number (numberAt p es 0 k) (freshHeard (kindAt p k))
+    numbers (suc t) h =
+        ap (λ (x : Heard). x .number) (next-of t (omega arith) (numbers t (omega arith))) ∙ set-number (numberAt p es (suc t) k) (left s u t k)
+
+  pub flat-reading : (s : Timed Frame) (u v : Timed Heard) → IsFlat (boardOf p) (readingRules p) cs s u v → IsReading p es s u
   flat-reading s u v f = record {
-    first = λ k r. ap (λ (w : ℕ → Heard). w k) (f .first) ∙ first-sent k;
-    next = λ t k h r. ap (λ (w : ℕ → Heard). w k) (f .next t (in-time t h)) ∙ next-sent (eqb (suc t % p .size) 0) (suc t / p .size) (v t) k;
-    sample = λ t k h r. ap (λ (x : Frame × Heard). x .0) (both t k h r);
-    state = λ t k h r. ap (λ (x : Frame × Heard). x .1) (both t k h r);
+    first = λ k r. first-of s u v f k r;
+    sample = λ t k h r. ap (λ (x : Frame × Heard). x .0) (both s u v f k r t h);
+    next = λ t k h r. next-of s u v f k r t h (numbers s u v f k r t (omega arith));
   }
-    where
-      both : (t k : ℕ) → t < end p es → reached p k ≡ true
-          → _≡_ {A = Frame × Heard} (s t k, v t k)
-          (sampleHeard (kindAt p k) (u t k) (heldAt p es s t k) (broughtTo p s t k), heardAfter (kindAt p k) (u t k) (broughtTo p s t k))
-      both t k h r =
-          f .listed t k (in-time t h) r
-          ∙ ap (λ (x : Frame). (readingRules p) .step k (t % p .size) (u t k) x (map (brings p s t k) (sources (p .wires) k))) (held-sent s t k)
-          ∙ step-sent p fine k (t % p .size) (listed-order p fine k r) (u t k) (heldAt p es s t k) (brings p s t k)
 
   -- ---- from the reading's equations to the theory's
 
-  -- what a node that is not reached has heard before a time
-  unfoldable pub still : ℕ → ℕ → Heard
-  still zero k = told es 0 k (freshHeard (kindAt p k))
-  still (suc t) k = cond (eqb (suc t % p .size) 0) (told es (suc t / p .size) k (still t k)) (still t k)
+  -- a node that is not reached hears its messages, and nothing else
+  abbrev pub still : Timed Heard
+  still t k = setNumber (numberAt p es t k) (freshHeard (kindAt p k))
 
   module _ (s : Timed Frame) where
     -- the input node has the input blocks, listed or not; another that is not reached is silent
@@ -177,9 +189,9 @@ module _ (p : Parsed) (fine : Fine p) (es : List Call) where
         go false e = quiet e (leb (p .size) t)
 
     -- the input node, a pass without wires in, gives the input sample, listed or not
-    pub input-whole : (u v : Timed Heard) → IsReading p es s u v → (t : ℕ) → t < end p es → whole t (p .input) ≡ mono (inputAt p es t)
+    pub input-whole : (u : Timed Heard) → IsReading p es s u → (t : ℕ) → t < end p es → whole t (p .input) ≡ mono (inputAt p es t)
     unfolding sampleHeard keeps distinct
-    input-whole u v f t h = go (reached p (p .input)) refl
+    input-whole u f t h = go (reached p (p .input)) refl
       where
         k : ℕ
         k = p .input
@@ -210,76 +222,55 @@ module _ (p : Parsed) (fine : Fine p) (es : List Call) where
             ∙ held
         go false r = whole-other t k r ∙ ap (λ (b : Bool). cond b (mono (inputAt p es t)) silence) same
 
-    -- the states, with those of the nodes that stand still
-    abbrev pub wholly : Timed Heard → Timed Heard
-    wholly w t k = cond (reached p k) (w t k) (still t k)
+    -- what is known before and after a time, with the nodes that are not reached
+    module _ (u : Timed Heard) where
+      abbrev pub before : Timed Heard
+      before t k = cond (reached p k) (u t k) (still t k)
 
-    pub reading-flat : (u v : Timed Heard) → IsReading p es s u v → IsFlat (boardOf p) (readingRules p) cs whole (wholly u) (wholly v)
-    unfolding still
-    reading-flat u v f = record {
-      first = fun-ext (λ k. first k (reached p k) refl ∙ sym (first-sent k));
-      next = λ t h.
-          fun-ext (λ k. next t k (out-time t h) (reached p k) refl ∙ sym (next-sent (eqb (suc t % p .size) 0) (suc t / p .size) (wholly v t) k));
-      listed = λ t k h r. λ i. listed-at t k (out-time t h) r i;
-      others = λ t k h r. λ i. (held-other t k r i, other-state u v t k r i);
-    }
-      where
-        first : (k : ℕ) (b : Bool) → reached p k ≡ b → cond b (u 0 k) (still 0 k) ≡ told es 0 k (freshHeard (kindAt p k))
-        first k true r = f .first k r
-        first k false r = refl
+      abbrev pub after : Timed Heard
+      after t k = cond (reached p k) (left s u t k) (still t k)
 
-        next : (t k : ℕ) → t < end p es → (b : Bool) → reached p k ≡ b
-            → cond b (u (suc t) k) (still (suc t) k)
-            ≡ cond (eqb (suc t % p .size) 0) (told es (suc t / p .size) k (wholly v t k)) (wholly v t k)
-        next t k h true r =
-            f .next t k h r
-            ∙ ap (λ (b : Bool). cond (eqb (suc t % p .size) 0) (told es (suc t / p .size) k (cond b (v t k) (still t k))) (cond b (v t k) (still t k))) (sym r)
-        next t k h false r =
-            ap (λ (b : Bool). cond (eqb (suc t % p .size) 0) (told es (suc t / p .size) k (cond b (v t k) (still t k))) (cond b (v t k) (still t k))) (sym r)
+    module _ (u : Timed Heard) (f : IsReading p es s u) where
+      before-first : (k : ℕ) (b : Bool) → reached p k ≡ b → cond b (u 0 k) (still 0 k) ≡ still 0 k
+      before-first k true r = f .first k r
+      before-first k false r = refl
 
-        other-state : (u v : Timed Heard) (t k : ℕ) → reached p k ≡ false → wholly v t k ≡ wholly u t k
-        other-state u v t k r = ap (λ (b : Bool). cond b (v t k) (still t k)) r ∙ ap (λ (b : Bool). cond b (u t k) (still t k)) (sym r)
+      before-next : (t k : ℕ) → t < end p es → (b : Bool) → reached p k ≡ b
+          → cond b (u (suc t) k) (still (suc t) k) ≡ setNumber (numberAt p es (suc t) k) (cond b (left s u t k) (still t k))
+      unfolding setNumber
+      before-next t k h true r = f .next t k h r
+      before-next t k h false r = refl
 
-        reached-state : (w : Timed Heard) (t k : ℕ) → reached p k ≡ true → wholly w t k ≡ w t k
-        reached-state w t k r = ap (λ (b : Bool). cond b (w t k) (still t k)) r
+      number-of : (t k : ℕ) → t < end p es → reached p k ≡ true → u t k .number ≡ numberAt p es t k
+      number-of zero k h r = ap (λ (x : Heard). x .number) (f .first k r) ∙ set-number (numberAt p es 0 k) (freshHeard (kindAt p k))
+      number-of (suc t) k h r = ap (λ (x : Heard). x .number) (f .next t k (omega arith) r) ∙ set-number (numberAt p es (suc t) k) (left s u t k)
 
-        listed-at : (t k : ℕ) → t < end p es → reached p k ≡ true
-            → _≡_ {A = Frame × Heard} (whole t k, wholly v t k)
-            ((readingRules p) .step k (t % p .size) (wholly u t k) (heldWhen (boardOf p) cs whole t k) (map (brings p whole t k) (sources (p .wires) k)))
-        listed-at t k h r =
-            let brought = map-agree (brings p s t k) (brings p whole t k) (sources (p .wires) k) (λ a e. sym (brings-reached t k a r e)) in
-            let here = whole-reached t k r ∙ f .sample t k h r in
-            let there = reached-state v t k r ∙ f .state t k h r in
-            _∙_ {A = Frame × Heard} (λ i. (here i, there i))
-            (sym (step-sent p fine k (t % p .size) (listed-order p fine k r) (u t k) (heldAt p es s t k) (brings p s t k))
-            ∙ (λ i. (readingRules p) .step k (t % p .size) (sym (reached-state u t k r) i) (sym (held-reached t k r) i) (brought i)))
+      after-number : (t k : ℕ) → t < end p es → (b : Bool) → reached p k ≡ b → (cond b (left s u t k) (still t k)) .number ≡ numberAt p es t k
+      after-number t k h true r = left-number s u t k ∙ number-of t k h r
+      after-number t k h false r = set-number (numberAt p es t k) (freshHeard (kindAt p k))
 
-  -- ---- standing still
+      listed-at : (t k : ℕ) → t < end p es → reached p k ≡ true
+          → _≡_ {A = Frame × Heard} (whole t k, after u t k)
+          ((readingRules p) .step k (t % p .size) (before u t k) (heldWhen (boardOf p) cs whole t k) (map (brings p whole t k) (sources (p .wires) k)))
+      listed-at t k h r =
+          let brought = map-agree (brings p s t k) (brings p whole t k) (sources (p .wires) k) (λ a e. sym (brings-reached t k a r e)) in
+          let here = whole-reached t k r ∙ f .sample t k h r in
+          let then = ap (λ (b : Bool). cond b (left s u t k) (still t k)) r in
+          let known = ap (λ (b : Bool). cond b (u t k) (still t k)) r in
+          _∙_ {A = Frame × Heard} (λ i. (here i, then i))
+          (sym (step-sent p fine k (t % p .size) (listed-order p fine k r) (u t k) (heldAt p es s t k) (brings p s t k))
+          ∙ (λ i. (readingRules p) .step k (t % p .size) (sym known i) (sym (held-reached t k r) i) (brought i)))
 
-  -- within a block nothing is heard
-  still-in : (k b i : ℕ) → i < p .size → still (b * p .size + i) k ≡ still (b * p .size) k
-  unfolding still
-  still-in k b zero h = let e : b * p .size + 0 ≡ b * p .size = omega arith in ap (λ (t : ℕ). still t k) e
-  still-in k b (suc i) h =
-      let t : ℕ = b * p .size + i in
-      let e : b * p .size + suc i ≡ suc t = omega arith in
-      let m : suc t % p .size ≡ suc i = ap (λ (n : ℕ). n % p .size) (sym e) ∙ digits-mod b h in
-      ap (λ (n : ℕ). still n k) e
-      ∙ ap (λ (q : Bool). cond q (told es (suc t / p .size) k (still t k)) (still t k)) (ne-eqb (suc t % p .size) 0 (λ z. omega arith))
-      ∙ still-in k b i (omega arith)
+      other-at : (t k : ℕ) → reached p k ≡ false → after u t k ≡ before u t k
+      other-at t k r = ap (λ (b : Bool). cond b (left s u t k) (still t k)) r ∙ sym (ap (λ (b : Bool). cond b (u t k) (still t k)) r)
 
-  still-at : (k b : ℕ) → still (b * p .size) k ≡ toldTo es b k (freshHeard (kindAt p k))
-  unfolding still toldTo
-  still-at k zero = let e : 0 * p .size ≡ 0 = omega arith in ap (λ (t : ℕ). still t k) e
-  still-at k (suc b) =
-      let pos : 0 < p .size = fine .least-size in
-      let t : ℕ = b * p .size + (p .size - 1) in
-      let e : suc b * p .size ≡ suc t = omega arith in
-      let m : suc t % p .size ≡ 0 = ap (λ (n : ℕ). n % p .size) (sym e) ∙ mul-mod-left (suc b) (p .size) in
-      let d : suc t / p .size ≡ suc b = ap (λ (n : ℕ). n / p .size) (sym e) ∙ mul-div-cancel (suc b) pos in
-      ap (λ (n : ℕ). still n k) e
-      ∙ ap (λ (q : Bool). cond q (told es (suc t / p .size) k (still t k)) (still t k)) (eq-eqb (suc t % p .size) 0 m)
-      ∙ (λ i. told es (d i) k ((still-in k b (p .size - 1) (omega arith) ∙ still-at k b) i))
-
-  pub still-end : (k : ℕ) → still (end p es) k ≡ setNumber (numberAfter es k (freshHeard (kindAt p k) .number)) (freshHeard (kindAt p k))
-  still-end k = still-at k (length (inputs es)) ∙ told-through es k (freshHeard (kindAt p k))
+      pub reading-flat : IsFlat (boardOf p) (readingRules p) cs whole (before u) (after u)
+      reading-flat = record {
+        first = fun-ext (λ k. before-first k (reached p k) refl ∙ sym (told-fresh p (fine .least-size) es k));
+        next = λ t h.
+            fun-ext (λ k.
+            before-next t k (out-time t h) (reached p k) refl
+            ∙ sym (told-then p (fine .least-size) es k t (after u t) (after-number t k (out-time t h) (reached p k) refl)));
+        listed = λ t k h r. listed-at t k (out-time t h) r;
+        others = λ t k h r. λ i. (held-other t k r i, other-at t k r i);
+      }

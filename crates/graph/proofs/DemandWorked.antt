@@ -69,8 +69,8 @@ unfolding writeBoard kindOf freshValues freshCell numberOf blockIn readBoard rea
 feedback-blocks = refl
 
 -- and so says every reading of them
-pub feedback-reading : (s : Timed Frame) (u v : Timed Heard) → IsReading p (accepted p three) s u v → repliesTo p s 0 three ≡ said ahead ∷ said quiet ∷ said half ∷ []
-feedback-reading s u v r =
+pub feedback-reading : (s : Timed Frame) (u : Timed Heard) → IsReading p (accepted p three) s u → repliesTo p s 0 three ≡ said ahead ∷ said quiet ∷ said half ∷ []
+feedback-reading s u r =
     let bytes = board-bytes feedback in
     let claim = board-claim (writeBoard feedback) bytes p reads three in
-    sym (claim .as-read s u v r listed (own-order (writeBoard feedback) bytes p reads) .replies) ∙ feedback-blocks
+    sym (claim .as-read s u r listed (own-order (writeBoard feedback) bytes p reads) .replies) ∙ feedback-blocks

@@ -2,26 +2,31 @@
 --     sent                 what an accepted call asks
 --     heard-sent           the theory hears the accepted calls
 --     inputs-sent, end-sent, input-sent    their input blocks, the time after the last, the input sample of a time
---     told-sent            what messages make of a node
---     told-through         the messages before each block, one after the other, leave the number that all messages leave
+--     told-fresh, told-then    what messages make of a node, before time 0 and from one time to the next: its number is that of the time
 -- Assumes nothing.
-use Prim.Native.Nat.{ℕ, zero, suc, _*_, _/_, _%_}
+use Prim.Native.Nat.{ℕ, zero, suc, _+_, _*_, _/_, _%_, _<_}
 use mathlib.Core.Path.{_≡_, refl, sym, ap, _∙_}
 use mathlib.Core.List.{List, [], _∷_, map}
 use mathlib.Core.Option.{Option, none, some}
 use mathlib.Core.Bool.{Bool, true, false, cond}
-use borrow.Author.Tests.{eqb-true}
+use native.Mathlib.Nat.{mul-mod-left, mul-div-cancel, div-add-mod', mod-lt, zero-div}
+use native.Mathlib.Omega.{arith}
+use native.Mathlib.Decide.{ℕ-discrete}
+use borrow.Author.Tests.{eqb-true, eq-eqb, ne-eqb}
 use lib.Dec.{eqb}
+use lib.Arith.{digits-div, digits-mod}
 use lib.ListN.{length, getD, length-map, List·getD-map}
 use lib.Ieee.{binary32, toBits}
 use Rattle.leaves.specs.Words.{words}
 use Rattle.nodes.specs.Rule.{Frame}
-use Rattle.nodes.specs.History.{Heard, setNumber}
+use Rattle.nodes.specs.Cell.{numberOf}
+use Rattle.nodes.specs.History.{Heard, freshHeard, setNumber}
 use Rattle.reading.specs.Board as theory
 use Rattle.reading.specs.Time as time
 use Rattle.reading.specs.Flat as flat
 use Rattle.graph.specs.Board.{Parsed}
-use Rattle.graph.specs.Reading.{Call, block, message, valueOf, accepts, accepted, inputs, messageTo, told, numberAfter, end, inputAt}
+use Rattle.graph.specs.Memory.{kindAt}
+use Rattle.graph.specs.Reading.{Call, block, message, valueOf, accepts, accepted, inputs, numberIn, end, inputAt, numberAt}
 use Rattle.graph.specs.Instance.{mono, asks, boardOf, readingRules}
 
 abbrev pub sent : Call → theory.Call Frame ℕ
@@ -67,48 +72,78 @@ module _ (p : Parsed) (es : List Call) where
 
 -- ---- messages
 
--- a message to j, seen at node k
-said : (j k v : ℕ) (s : ℕ → Heard) → cond (eqb k j) (setNumber v (s j)) (s k) ≡ cond (eqb k j) (setNumber v (s k)) (s k)
-said j k v s = go (eqb k j) refl
+-- what has the number n already
+pub same-number : (h : Heard) (n : ℕ) → h .number ≡ n → h ≡ setNumber n h
+unfolding setNumber
+same-number h n e = λ i. record { number = e i; carry = h .carry; past = h .past }
+
+module _ (p : Parsed) where
+  told-first : (es : List Call) (s : ℕ → Heard) (k n : ℕ) → s k .number ≡ n
+      → time.told (readingRules p) (map sent es) 0 s k ≡ setNumber (numberIn es 0 k n) (s k)
+  unfolding numberIn readingRules setNumber
+  told-first [] s k n e = same-number (s k) n e
+  told-first (block x l r ∷ es) s k n e = same-number (s k) n e
+  told-first (message j w ∷ es) s k n e =
+      told-first es _ k (cond (eqb k j) new n) (set-number (eqb k j)) ∙ set-over (numberIn es 0 k (cond (eqb k j) new n)) (eqb k j) refl
+    where
+      new : ℕ
+      new = toBits binary32 (valueOf w)
+
+      set-number : (b : Bool) → (cond b (setNumber new (s j)) (s k)) .number ≡ cond b new n
+      set-number true = refl
+      set-number false = e
+
+      set-over : (m : ℕ) (b : Bool) → eqb k j ≡ b → setNumber m (cond b (setNumber new (s j)) (s k)) ≡ setNumber m (s k)
+      set-over m true q = ap (λ (i : ℕ). setNumber m (s i)) (sym (eqb-true k j q))
+      set-over m false q = refl
+
+  told-next : (es : List Call) (b : ℕ) (s : ℕ → Heard) (k n : ℕ) → s k .number ≡ numberIn es b k n
+      → time.told (readingRules p) (map sent es) (suc b) s k ≡ setNumber (numberIn es (suc b) k n) (s k)
+  unfolding numberIn
+  told-next [] b s k n e = same-number (s k) n e
+  told-next (block x l r ∷ es) zero s k n e = told-first es s k n e
+  told-next (block x l r ∷ es) (suc b) s k n e = told-next es b s k n e
+  told-next (message j w ∷ es) b s k n e = told-next es b s k (cond (eqb k j) (toBits binary32 (valueOf w)) n) e
+
+-- a time is in the block of the one before it, or in the next, at whose start messages are heard
+block-of : (n t : ℕ) → 0 < n → suc t / n ≡ cond (eqb (suc t % n) 0) (suc (t / n)) (t / n)
+block-of n t pos = go (ℕ-discrete (suc (t % n)) n)
   where
-    go : (b : Bool) → eqb k j ≡ b → cond b (setNumber v (s j)) (s k) ≡ cond b (setNumber v (s k)) (s k)
-    go true e = ap (λ (i : ℕ). setNumber v (s i)) (sym (eqb-true k j e))
-    go false e = refl
+    b : ℕ
+    b = t / n
 
-pub told-sent : (p : Parsed) (es : List Call) (b : ℕ) (s : ℕ → Heard) (k : ℕ)
-    → time.told (readingRules p) (map sent es) b s k ≡ told es b k (s k)
-unfolding told readingRules
-told-sent p [] b s k = refl
-told-sent p (block x l r ∷ es) zero s k = refl
-told-sent p (block x l r ∷ es) (suc b) s k = told-sent p es b s k
-told-sent p (message j w ∷ es) zero s k = told-sent p es zero _ k ∙ ap (told es zero k) (said j k (toBits binary32 (valueOf w)) s)
-told-sent p (message j w ∷ es) (suc b) s k = told-sent p es (suc b) s k
+    pick : (q : Bool) → suc t / n ≡ cond q (suc b) b → eqb (suc t % n) 0 ≡ q → suc t / n ≡ cond (eqb (suc t % n) 0) (suc b) b
+    pick q d e = d ∙ ap (λ (c : Bool). cond c (suc b) b) (sym e)
 
--- the messages before each block up to block b, one after the other
-unfoldable pub toldTo : List Call → ℕ → ℕ → Heard → Heard
-toldTo es zero k h = told es zero k h
-toldTo es (suc b) k h = told es (suc b) k (toldTo es b k h)
+    go : Dec (suc (t % n) ≡ n) → suc t / n ≡ cond (eqb (suc t % n) 0) (suc b) b
+    go (yes e) =
+        let whole : suc t ≡ suc (t / n) * n = omega (arith, div-add-mod' t n) in
+        pick true (ap (λ (m : ℕ). m / n) whole ∙ mul-div-cancel (suc b) pos)
+        (eq-eqb (suc t % n) 0 (ap (λ (m : ℕ). m % n) whole ∙ mul-mod-left (suc b) n))
+    go (no a) =
+        let small : suc (t % n) < n = omega (arith, mod-lt t pos) in
+        let part : suc t ≡ t / n * n + suc (t % n) = omega (arith, div-add-mod' t n) in
+        let m : suc t % n ≡ suc (t % n) = ap (λ (j : ℕ). j % n) part ∙ digits-mod b small in
+        pick false (ap (λ (j : ℕ). j / n) part ∙ digits-div b small) (ne-eqb (suc t % n) 0 (λ z. omega arith))
 
-to-block : (x l r : List ℕ) (es : List Call) (b k : ℕ) (h : Heard) → toldTo (block x l r ∷ es) (suc b) k h ≡ toldTo es b k h
-unfolding toldTo told
-to-block x l r es zero k h = refl
-to-block x l r es (suc b) k h = ap (told es (suc b) k) (to-block x l r es b k h)
+module _ (p : Parsed) (pos : 0 < p .size) (es : List Call) (k : ℕ) where
+  abbrev start : ℕ
+  start = toBits binary32 (numberOf (kindAt p k))
 
-to-message : (j w : ℕ) (es : List Call) (b k : ℕ) (h : Heard) → toldTo (message j w ∷ es) b k h ≡ toldTo es b k (messageTo j w k h)
-unfolding toldTo told
-to-message j w es zero k h = refl
-to-message j w es (suc b) k h = ap (told es (suc b) k) (to-message j w es b k h)
+  pub told-fresh : time.told (readingRules p) (map sent es) 0 ((readingRules p) .fresh) k ≡ setNumber (numberAt p es 0 k) (freshHeard (kindAt p k))
+  unfolding readingRules freshHeard
+  told-fresh =
+      told-first p es ((readingRules p) .fresh) k start refl
+      ∙ ap (λ (b : ℕ). setNumber (numberIn es b k start) (freshHeard (kindAt p k))) (sym (zero-div (p .size)))
 
-pub told-through : (es : List Call) (k : ℕ) (h : Heard) → toldTo es (length (inputs es)) k h ≡ setNumber (numberAfter es k (h .number)) h
-unfolding toldTo told numberAfter inputs setNumber
-told-through [] k h = refl
-told-through (block x l r ∷ es) k h = to-block x l r es (length (inputs es)) k h ∙ told-through es k h
-told-through (message j w ∷ es) k h = to-message j w es (length (inputs es)) k h ∙ told-through es k (messageTo j w k h) ∙ go (eqb k j)
-  where
-    new : ℕ
-    new = toBits binary32 (valueOf w)
-
-    go : (b : Bool) → setNumber (numberAfter es k ((cond b (setNumber new h) h) .number)) (cond b (setNumber new h) h)
-        ≡ setNumber (numberAfter es k (cond b new (h .number))) h
-    go true = refl
-    go false = refl
+  pub told-then : (t : ℕ) (w : ℕ → Heard) → w k .number ≡ numberAt p es t k
+      → cond (eqb (suc t % p .size) 0) (time.told (readingRules p) (map sent es) (suc t / p .size) w) w k ≡ setNumber (numberAt p es (suc t) k) (w k)
+  told-then t w h = go (eqb (suc t % p .size) 0) (block-of (p .size) t pos)
+    where
+      go : (q : Bool) → suc t / p .size ≡ cond q (suc (t / p .size)) (t / p .size)
+          → cond q (time.told (readingRules p) (map sent es) (suc t / p .size) w) w k ≡ setNumber (numberAt p es (suc t) k) (w k)
+      go true e =
+          ap (λ (b : ℕ). time.told (readingRules p) (map sent es) b w k) e
+          ∙ told-next p es (t / p .size) w k start h
+          ∙ ap (λ (b : ℕ). setNumber (numberIn es b k start) (w k)) (sym e)
+      go false e = same-number (w k) (numberAt p es (suc t) k) (h ∙ ap (λ (b : ℕ). numberIn es b k start) (sym e))

@@ -35,8 +35,8 @@ callIn order board (message k w) m =
 abbrev pub freshMemory : Parsed → List ℕ
 freshMemory p = unwords (freshValues p)
 
--- From fresh memory, each call on the memory that the one before left, the calls do as the samples s and the states u say: every answer and
--- output block, and every byte of the memory.
+-- From fresh memory, each call on the memory that the one before left, the calls do as the reading s, u says: every answer and output block,
+-- and every byte of the memory.
 pub record AsRead (board : List ℕ) (p : Parsed) (cs : List Call) (s : Timed Frame) (u : Timed Heard) (order : Parsed → List ℕ) : Type 0 where
   pub replies : calls.replies (callIn order board) cs (freshMemory p) ≡ repliesTo p s 0 cs
   pub memory : calls.afterCalls (callIn order board) cs (freshMemory p) ≡ memoryAfter p (accepted p cs) s u
@@ -44,11 +44,10 @@ pub record AsRead (board : List ℕ) (p : Parsed) (cs : List Call) (s : Timed Fr
 pub record Claim (board : List ℕ) (p : Parsed) (cs : List Call) : Type 0 where
   -- there is a reading
   pub samples : Timed Frame
-  pub before : Timed Heard
-  pub after : Timed Heard
-  pub reads : IsReading p (accepted p cs) samples before after
+  pub known : Timed Heard
+  pub reads : IsReading p (accepted p cs) samples known
   -- and the calls do as any reading says, in whatever order the block runs take the nodes
-  pub as-read : (s : Timed Frame) (u v : Timed Heard) → IsReading p (accepted p cs) s u v
+  pub as-read : (s : Timed Frame) (u : Timed Heard) → IsReading p (accepted p cs) s u
       → (order : Parsed → List ℕ) → Reorders (p .wires) (listed p) (order p) → AsRead board p cs s u order
 
 -- ---- demand 3 of a board's bytes

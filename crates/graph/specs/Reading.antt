@@ -2,7 +2,7 @@
 -- applies its row of the table (`sampleHeard`, `heardAfter` of the crate nodes) to what its wires bring. Definitions only.
 use Prim.Native.Nat.{ℕ, zero, suc, _+_, _-_, _*_, _/_, _%_, _<_}
 use mathlib.Core.Path.{_≡_}
-use mathlib.Core.Bool.{Bool, true, false, cond, _&&_}
+use mathlib.Core.Bool.{Bool, true, cond}
 use mathlib.Core.List.{List, [], _∷_, _++_, map}
 use lib.ListN.{length, getD, replicate}
 use lib.Dec.{leb, eqb}
@@ -10,7 +10,7 @@ use lib.Ieee.{Float, binary32, ofBits, toBits}
 use Rattle.leaves.specs.Words.{words, unwords}
 use Rattle.nodes.specs.Kind.{channelsOf}
 use Rattle.nodes.specs.Rule.{Brought, Frame, State}
-use Rattle.nodes.specs.Cell.{Cell, valuesOf, freshCell}
+use Rattle.nodes.specs.Cell.{Cell, valuesOf, numberOf, freshCell}
 use Rattle.nodes.specs.History.{Heard, freshHeard, setNumber, sampleHeard, heardAfter, stateOf}
 use Rattle.reading.specs.Table.{mem, tab}
 use Rattle.reading.specs.Order.{late}
@@ -51,18 +51,13 @@ inputs [] = []
 inputs (block x l r ∷ cs) = words x ∷ inputs cs
 inputs (message k w ∷ cs) = inputs cs
 
--- what an accepted message to node j makes of node k: it sets its own node's number
-abbrev pub messageTo : ℕ → ℕ → ℕ → Heard → Heard
-messageTo j w k h = cond (eqb k j) (setNumber (toBits binary32 (valueOf w)) h) h
-
--- what the messages between block b − 1 and block b make of node k's number; at b = 0 those before the first block, after the last block
--- those behind it
-unfoldable pub told : List Call → ℕ → ℕ → Heard → Heard
-told [] b k h = h
-told (block x l r ∷ cs) zero k h = h
-told (block x l r ∷ cs) (suc b) k h = told cs b k h
-told (message j w ∷ cs) zero k h = told cs zero k (messageTo j w k h)
-told (message j w ∷ cs) (suc b) k h = told cs (suc b) k h
+-- node k's number in accepted block b, where it starts as n: each accepted message to the node sets it to the message's value from then on.
+-- Behind the last block it is set by all of them.
+unfoldable pub numberIn : List Call → ℕ → ℕ → ℕ → ℕ
+numberIn [] b k n = n
+numberIn (block x l r ∷ cs) zero k n = n
+numberIn (block x l r ∷ cs) (suc b) k n = numberIn cs b k n
+numberIn (message j w ∷ cs) b k n = numberIn cs b k (cond (eqb k j) (toBits binary32 (valueOf w)) n)
 
 -- ---- samples by time and node
 
@@ -84,6 +79,10 @@ module _ (p : Parsed) (cs : List Call) where
   -- the input sample of a time
   abbrev pub inputAt : ℕ → ℕ
   inputAt t = getD (getD (inputs cs) (t / p .size) []) (t % p .size) 0
+
+  -- node k's number at a time: it starts as in fresh memory
+  abbrev pub numberAt : Timed ℕ
+  numberAt t k = numberIn cs (t / p .size) k (toBits binary32 (numberOf (kindAt p k)))
 
 -- of the frame that node a brings, what the destination's channel 1 reads: a stereo source's channel 1, else channel 0
 abbrev pub rightSample : Parsed → ℕ → Frame → ℕ
@@ -110,16 +109,16 @@ module _ (p : Parsed) (s : Timed Frame) where
 abbrev pub heldAt : Parsed → List Call → Timed Frame → ℕ → ℕ → Frame
 heldAt p cs s t k = cond (eqb k (p .input)) (record { left = inputAt p cs t; right = 0 }) (earlier p s t k)
 
--- s is the samples of the reached nodes, u what is known of them just before a time and v just after it, for the accepted calls cs
-pub record IsReading (p : Parsed) (cs : List Call) (s : Timed Frame) (u v : Timed Heard) : Type 0 where
-  -- before time 0, after the messages before the first block
-  pub first : (k : ℕ) → reached p k ≡ true → u 0 k ≡ told cs 0 k (freshHeard (kindAt p k))
-  -- from one time to the next; messages come between blocks
-  pub next : (t k : ℕ) → t < end p cs → reached p k ≡ true
-      → u (suc t) k ≡ cond (eqb (suc t % p .size) 0) (told cs (suc t / p .size) k (v t k)) (v t k)
+-- s is the samples of the reached nodes, and u what is known of them just before each time, for the accepted calls cs
+pub record IsReading (p : Parsed) (cs : List Call) (s : Timed Frame) (u : Timed Heard) : Type 0 where
+  -- phase, y1 and lines start at 0
+  pub first : (k : ℕ) → reached p k ≡ true → u 0 k ≡ setNumber (numberAt p cs 0 k) (freshHeard (kindAt p k))
   -- each reached node applies its table row to what its wires bring
-  pub sample : (t k : ℕ) → t < end p cs → reached p k ≡ true → s t k ≡ sampleHeard (kindAt p k) (u t k) (heldAt p cs s t k) (broughtTo p s t k)
-  pub state : (t k : ℕ) → t < end p cs → reached p k ≡ true → v t k ≡ heardAfter (kindAt p k) (u t k) (broughtTo p s t k)
+  pub sample : (t k : ℕ) → t < end p cs → reached p k ≡ true
+      → s t k ≡ sampleHeard (kindAt p k) (u t k) (heldAt p cs s t k) (broughtTo p s t k)
+  -- and holds what earlier times left
+  pub next : (t k : ℕ) → t < end p cs → reached p k ≡ true
+      → u (suc t) k ≡ setNumber (numberAt p cs (suc t) k) (heardAfter (kindAt p k) (u t k) (broughtTo p s t k))
 
 -- ---- afterwards
 
@@ -131,12 +130,6 @@ samplesOf channels fs = cond (eqb channels 2) (map (λ f. f .left) fs ++ map (λ
 unfoldable pub lastOf : List ℕ → List (List ℕ) → List ℕ
 lastOf z [] = z
 lastOf z (x ∷ xs) = lastOf x xs
-
--- node k's number after all messages, where it starts as n
-unfoldable pub numberAfter : List Call → ℕ → ℕ → ℕ
-numberAfter [] k n = n
-numberAfter (block x l r ∷ cs) k n = numberAfter cs k n
-numberAfter (message j w ∷ cs) k n = numberAfter cs k (cond (eqb k j) (toBits binary32 (valueOf w)) n)
 
 abbrev pub withNumber : ℕ → State → State
 withNumber n s = record { number = n; carry = s .carry; place = s .place; line = s .line }
@@ -153,7 +146,7 @@ module _ (p : Parsed) (cs : List Call) (s : Timed Frame) (u : Timed Heard) where
   abbrev pub otherCell : ℕ → Cell
   otherCell k =
       let c = freshCell (p .size) (kindAt p k) in
-      record { state = withNumber (numberAfter cs k (c .state .number)) (c .state); samples = c .samples }
+      record { state = withNumber (numberAt p cs (end p cs) k) (c .state); samples = c .samples }
 
   -- the input node's samples, listed or not, are the last accepted input block, zeros if none
   abbrev pub cellAfter : ℕ → Cell
