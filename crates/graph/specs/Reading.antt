@@ -28,11 +28,12 @@ pub data Call : Type 0 where
   block : List ℕ → List ℕ → List ℕ → Call
   message : ℕ → ℕ → Call
 
--- the value of a message's bits
+-- a message's value
 abbrev pub valueOf : ℕ → Float
 valueOf w = ofBits binary32 w
 
--- 9, 10 for blocks, 11, 12 for messages
+-- 9, 10 for blocks, 11, 12 for messages: a board that is read, and its memory as calls leave it, pass the checks before these, and 8 never
+-- occurs
 abbrev pub answerTo : Parsed → Call → Answer
 answerTo p (block x l r) = andThen (checkBlocks p x l r) (checkSamples 0 (words x))
 answerTo p (message k w) = checkNumber p k (valueOf w)
@@ -45,14 +46,14 @@ unfoldable pub accepted : Parsed → List Call → List Call
 accepted p [] = []
 accepted p (c ∷ cs) = cond (accepts p c) (c ∷ accepted p cs) (accepted p cs)
 
--- the input blocks of accepted calls, as patterns
+-- the input blocks of accepted calls, a pattern for each sample
 unfoldable pub inputs : List Call → List (List ℕ)
 inputs [] = []
 inputs (block x l r ∷ cs) = words x ∷ inputs cs
 inputs (message k w ∷ cs) = inputs cs
 
--- node k's number in accepted block b, where it starts as n: each accepted message to the node sets it to the message's value from then on.
--- Behind the last block it is set by all of them.
+-- node k's number in accepted block b, where it starts as n: each accepted message to the node sets it to the message's value from then on;
+-- behind the last block all have
 unfoldable pub numberIn : List Call → ℕ → ℕ → ℕ → ℕ
 numberIn [] b k n = n
 numberIn (block x l r ∷ cs) zero k n = n
@@ -61,13 +62,15 @@ numberIn (message j w ∷ cs) b k n = numberIn cs b k (cond (eqb k j) (toBits bi
 
 -- ---- samples by time and node
 
+-- of each time and node
 abbrev pub Timed : Type 0 → Type 0
 Timed A = ℕ → ℕ → A
 
+-- zero on both channels
 abbrev pub silence : Frame
 silence = record { left = 0; right = 0 }
 
--- node k is reached
+-- the reached nodes are the listed ones: node 0 and each from which wires lead to it (proofs/Listed.antt)
 abbrev pub reached : Parsed → ℕ → Bool
 reached p k = mem k (listed p)
 
@@ -122,7 +125,7 @@ pub record IsReading (p : Parsed) (cs : List Call) (s : Timed Frame) (u : Timed 
 
 -- ---- afterwards
 
--- N frames as a cell's samples, channel 0 first
+-- N frames as a cell's samples: N a channel, channel 0 first
 abbrev pub samplesOf : ℕ → List Frame → List ℕ
 samplesOf channels fs = cond (eqb channels 2) (map (λ f. f .left) fs ++ map (λ f. f .right) fs) (map (λ f. f .left) fs)
 
@@ -135,7 +138,7 @@ abbrev pub withNumber : ℕ → State → State
 withNumber n s = record { number = n; carry = s .carry; place = s .place; line = s .line }
 
 module _ (p : Parsed) (cs : List Call) (s : Timed Frame) (u : Timed Heard) where
-  -- a reached node's cell: its number, its phase or y1, its line, and its last block, zeros if none
+  -- a reached node's cell: its number, its phase or y1, its place and line (`stateOf`), and its last block, zeros if none
   abbrev pub reachedCell : ℕ → Cell
   reachedCell k = record {
     state = stateOf (kindAt p k) (u (end p cs) k);
@@ -185,10 +188,12 @@ replyTo p s b (block x l r) =
     cond (accepts p (block x l r)) (outputs p s b (answerTo p (block x l r))) (record { answer = answerTo p (block x l r); left = l; right = r })
 replyTo p s b (message k w) = record { answer = answerTo p (message k w); left = []; right = [] }
 
+-- how many have been accepted after it
 abbrev pub blocksAfter : Parsed → ℕ → Call → ℕ
 blocksAfter p b (block x l r) = cond (accepts p (block x l r)) (suc b) b
 blocksAfter p b (message k w) = b
 
+-- the replies to a list of calls
 unfoldable pub repliesTo : Parsed → Timed Frame → ℕ → List Call → List Reply
 repliesTo p s b [] = []
 repliesTo p s b (c ∷ cs) = replyTo p s b c ∷ repliesTo p s (blocksAfter p b c) cs
