@@ -32,11 +32,11 @@ use Rattle.reading.proofs.Table.{tab-agree, tab-constant, length-tab, getD-tab}
 use Rattle.graph.specs.Board.{Parsed}
 use Rattle.graph.specs.Memory.{kindAt}
 use Rattle.graph.specs.Reading.{Call, block, message, Reply, Timed, silence, reached, accepts, accepted, inputs, answerTo, end, inputAt, numberAt, earlier, IsReading, samplesOf, lastOf, withNumber, reachedCell, otherCell, cellAfter, cellsTo, memoryAfter, outputs, replyTo, blocksAfter, repliesTo}
-use Rattle.graph.specs.Instance.{Cells, mono, asks, boardOf, memoryRules, readingRules, cellIn, shownTo, memoryOf}
+use Rattle.graph.specs.Instance.{Cells, mono, sent, asks, boardOf, memoryRules, readingRules, cellIn, shownTo, memoryOf}
 use Rattle.graph.specs.Fine.{Fine}
 use Rattle.graph.specs.declared.answer.Answer.{Answer}
 use Rattle.graph.proofs.Lawful.{lists, rules-encode}
-use Rattle.graph.proofs.Told.{sent, end-sent}
+use Rattle.graph.proofs.Told.{end-sent}
 use Rattle.graph.proofs.ShownCall.{block-whole, replyFor}
 use Rattle.graph.proofs.ShownFresh.{fresh-cell}
 use Rattle.graph.proofs.DemandReading.{still, whole, whole-reached, whole-other, earlier-reached, input-whole, before}

@@ -17,7 +17,7 @@ use lib.ListN.{length, length-map}
 use lib.Ieee.{Float, nan, binary32, ofBits, toBits}
 use Rattle.nodes.specs.Kind.{sourcesFit}
 use Rattle.nodes.specs.declared.kind.NodeKind.{NodeKind}
-use Rattle.nodes.specs.Rule.{Brought, Frame, rightOf, keeps}
+use Rattle.nodes.specs.Rule.{Frame, rightOf, keeps}
 use Rattle.nodes.specs.History.{Heard, freshHeard, setNumber, leftHeard, sampleHeard, heardAfter}
 use Rattle.nodes.proofs.Unread.{unread, heard-sample-unread, heard-unread}
 use Rattle.reading.specs.Table.{mem}
@@ -30,22 +30,14 @@ use Rattle.graph.specs.Sources.{distinct, distinctSources, secondSource}
 use Rattle.graph.specs.Board.{Parsed}
 use Rattle.graph.specs.Memory.{kindAt}
 use Rattle.graph.specs.Calls.{listed}
-use Rattle.graph.specs.Reading.{Call, Timed, silence, reached, rightSample, end, inputAt, numberAt, earlier, brings, broughtTo, heldAt, IsReading}
-use Rattle.graph.specs.Instance.{mono, boardOf, frameOf, broughtFrom, readingRules}
+use Rattle.graph.specs.Reading.{Call, Timed, silence, reached, rightSample, broughtOf, end, inputAt, numberAt, earlier, brings, broughtTo, heldAt, IsReading}
+use Rattle.graph.specs.Instance.{mono, sent, boardOf, frameOf, broughtFrom, readingRules}
 use Rattle.graph.specs.Fine.{Fine}
 use Rattle.graph.proofs.RoundSources.{mem-distinct}
 use Rattle.graph.proofs.ShownRun.{frame-of, second-source}
 use Rattle.graph.proofs.ShownBlock.{listed-order}
 use Rattle.graph.proofs.Lawful.{lists}
-use Rattle.graph.proofs.Told.{sent, end-sent, input-sent, told-fresh, told-then}
-
--- what node k's wires bring, where source a brings f a
-abbrev broughtOf : Parsed → ℕ → (ℕ → Frame) → Brought
-broughtOf p k f = record {
-  left = map (λ a. ofBits binary32 (f a .left)) (distinctSources (p .wires) k);
-  right = map (λ a. ofBits binary32 (rightSample p a (f a))) (distinctSources (p .wires) k);
-  second = ofBits binary32 (f (secondSource (p .wires) k) .left);
-}
+use Rattle.graph.proofs.Told.{end-sent, input-sent, told-fresh, told-then}
 
 module _ (p : Parsed) (k : ℕ) (f : ℕ → Frame) where
   abbrev once : List ℕ

@@ -1,20 +1,18 @@
 -- Accepted calls as the theory of block run and reading hears them: their input blocks, their times and their messages are the same.
---     sent                 what an accepted call asks
 --     heard-sent           the theory hears the accepted calls
 --     inputs-sent, end-sent, input-sent    their input blocks, the time after the last, the input sample of a time
 --     told-fresh, told-then    what messages make of a node, before time 0 and from one time to the next: its number is that of the time
 -- Assumes nothing.
-use Prim.Native.Nat.{ℕ, zero, suc, _+_, _*_, _/_, _%_, _<_}
+use Prim.Native.Nat.{ℕ, zero, suc, _*_, _/_, _%_, _<_}
 use mathlib.Core.Path.{_≡_, refl, sym, ap, _∙_}
 use mathlib.Core.List.{List, [], _∷_, map}
-use mathlib.Core.Option.{Option, none, some}
+use mathlib.Core.Option.{none, some}
 use mathlib.Core.Bool.{Bool, true, false, cond}
-use native.Mathlib.Nat.{mul-mod-left, mul-div-cancel, div-add-mod', mod-lt, zero-div}
+use mathlib.Core.Logic.{⊎-elim}
+use native.Mathlib.Nat.{zero-div}
 use native.Mathlib.Omega.{arith}
-use native.Mathlib.Decide.{ℕ-discrete}
 use borrow.Author.Tests.{eqb-true, eq-eqb, ne-eqb}
 use lib.Dec.{eqb}
-use lib.Arith.{digits-div, digits-mod}
 use lib.ListN.{length, getD, length-map, List·getD-map}
 use lib.Ieee.{binary32, toBits}
 use Rattle.leaves.specs.Words.{words}
@@ -24,18 +22,11 @@ use Rattle.nodes.specs.History.{Heard, freshHeard, setNumber}
 use Rattle.reading.specs.Board as theory
 use Rattle.reading.specs.Time as time
 use Rattle.reading.specs.Flat as flat
+use Rattle.reading.proofs.Nodes.{next-time}
 use Rattle.graph.specs.Board.{Parsed}
 use Rattle.graph.specs.Memory.{kindAt}
 use Rattle.graph.specs.Reading.{Call, block, message, valueOf, accepts, accepted, inputs, numberIn, end, inputAt, numberAt}
-use Rattle.graph.specs.Instance.{mono, asks, boardOf, readingRules}
-
-abbrev pub sent : Call → theory.Call Frame ℕ
-sent (block x l r) = theory.block (map mono (words x))
-sent (message k w) = theory.message k (toBits binary32 (valueOf w))
-
-asks-sent : (p : Parsed) (c : Call) → asks p c ≡ cond (accepts p c) (some (sent c)) none
-asks-sent p (block x l r) = refl
-asks-sent p (message k w) = refl
+use Rattle.graph.specs.Instance.{mono, sent, boardOf, readingRules}
 
 hear-sent : (b : Bool) (c : Call) (hs : List (theory.Call Frame ℕ)) (es : List Call) → hs ≡ map sent es
     → time.hearOne (cond b (some (sent c)) none) hs ≡ map sent (cond b (c ∷ es) es)
@@ -45,9 +36,7 @@ hear-sent false c hs es e = e
 pub heard-sent : (p : Parsed) (cs : List Call) → time.heard (boardOf p) cs ≡ map sent (accepted p cs)
 unfolding accepted
 heard-sent p [] = refl
-heard-sent p (c ∷ cs) =
-    ap (λ (a : Option (theory.Call Frame ℕ)). time.hearOne a (time.heard (boardOf p) cs)) (asks-sent p c)
-    ∙ hear-sent (accepts p c) c (time.heard (boardOf p) cs) (accepted p cs) (heard-sent p cs)
+heard-sent p (c ∷ cs) = hear-sent (accepts p c) c (time.heard (boardOf p) cs) (accepted p cs) (heard-sent p cs)
 
 -- ---- input blocks
 
@@ -107,24 +96,10 @@ module _ (p : Parsed) where
 
 -- a time is in the block of the one before it, or in the next, at whose start messages are heard
 block-of : (n t : ℕ) → 0 < n → suc t / n ≡ cond (eqb (suc t % n) 0) (suc (t / n)) (t / n)
-block-of n t pos = go (ℕ-discrete (suc (t % n)) n)
+block-of n t pos = ⊎-elim (λ w. pick true (w .0) (eq-eqb (suc t % n) 0 (w .1))) (λ w. pick false (w .0) (ne-eqb (suc t % n) 0 (λ z. omega (arith, w .1)))) (next-time n t pos)
   where
-    b : ℕ
-    b = t / n
-
-    pick : (q : Bool) → suc t / n ≡ cond q (suc b) b → eqb (suc t % n) 0 ≡ q → suc t / n ≡ cond (eqb (suc t % n) 0) (suc b) b
-    pick q d e = d ∙ ap (λ (c : Bool). cond c (suc b) b) (sym e)
-
-    go : Dec (suc (t % n) ≡ n) → suc t / n ≡ cond (eqb (suc t % n) 0) (suc b) b
-    go (yes e) =
-        let whole : suc t ≡ suc (t / n) * n = omega (arith, div-add-mod' t n) in
-        pick true (ap (λ (m : ℕ). m / n) whole ∙ mul-div-cancel (suc b) pos)
-        (eq-eqb (suc t % n) 0 (ap (λ (m : ℕ). m % n) whole ∙ mul-mod-left (suc b) n))
-    go (no a) =
-        let small : suc (t % n) < n = omega (arith, mod-lt t pos) in
-        let part : suc t ≡ t / n * n + suc (t % n) = omega (arith, div-add-mod' t n) in
-        let m : suc t % n ≡ suc (t % n) = ap (λ (j : ℕ). j % n) part ∙ digits-mod b small in
-        pick false (ap (λ (j : ℕ). j / n) part ∙ digits-div b small) (ne-eqb (suc t % n) 0 (λ z. omega arith))
+    pick : (q : Bool) → suc t / n ≡ cond q (suc (t / n)) (t / n) → eqb (suc t % n) 0 ≡ q → suc t / n ≡ cond (eqb (suc t % n) 0) (suc (t / n)) (t / n)
+    pick q d e = d ∙ ap (λ (c : Bool). cond c (suc (t / n)) (t / n)) (sym e)
 
 module _ (p : Parsed) (pos : 0 < p .size) (es : List Call) (k : ℕ) where
   abbrev start : ℕ

@@ -87,9 +87,17 @@ module _ (p : Parsed) (cs : List Call) where
   abbrev pub numberAt : Timed ℕ
   numberAt t k = numberIn cs (t / p .size) k (toBits binary32 (numberOf (kindAt p k)))
 
--- of the frame that node a brings, what the destination's channel 1 reads: a stereo source's channel 1, else channel 0
+-- of the frame f that node a brings, what the destination's channel 1 reads: a stereo source's channel 1, else channel 0
 abbrev pub rightSample : Parsed → ℕ → Frame → ℕ
 rightSample p a f = cond (eqb (channelsOf (kindAt p a)) 2) (f .right) (f .left)
+
+-- what node k's wires bring, where the wire from a brings f a: each distinct source, by first wire, and the second wire's source
+abbrev pub broughtOf : Parsed → ℕ → (ℕ → Frame) → Brought
+broughtOf p k f = record {
+  left = map (λ a. ofBits binary32 (f a .left)) (distinctSources (p .wires) k);
+  right = map (λ a. ofBits binary32 (rightSample p a (f a))) (distinctSources (p .wires) k);
+  second = ofBits binary32 (f (secondSource (p .wires) k) .left);
+}
 
 module _ (p : Parsed) (s : Timed Frame) where
   -- node a's sample of N earlier, zero before time 0
@@ -101,12 +109,8 @@ module _ (p : Parsed) (s : Timed Frame) where
   brings t k a = cond (late (listed p) a k) (earlier t a) (s t a)
 
   -- what node k's wires bring at time t
-  abbrev pub broughtTo : ℕ → ℕ → Brought
-  broughtTo t k = record {
-    left = map (λ a. ofBits binary32 (brings t k a .left)) (distinctSources (p .wires) k);
-    right = map (λ a. ofBits binary32 (rightSample p a (brings t k a))) (distinctSources (p .wires) k);
-    second = ofBits binary32 (brings t k (secondSource (p .wires) k) .left);
-  }
+  abbrev pub broughtTo : Timed Brought
+  broughtTo t k = broughtOf p k (brings t k)
 
 -- what a pass without wires in gives: the input sample if it is the input node, else its own of N earlier
 abbrev pub heldAt : Parsed → List Call → Timed Frame → ℕ → ℕ → Frame
