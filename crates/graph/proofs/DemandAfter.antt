@@ -31,7 +31,7 @@ use Rattle.reading.specs.Keeps.{All}
 use Rattle.reading.proofs.Table.{tab-agree, tab-constant, length-tab, getD-tab}
 use Rattle.graph.specs.Board.{Parsed}
 use Rattle.graph.specs.Memory.{kindAt}
-use Rattle.graph.specs.Reading.{Call, block, message, Reply, Timed, silence, reached, accepts, accepted, inputs, answerTo, end, inputAt, numberAt, earlier, IsReading, samplesOf, lastOf, withNumber, reachedCell, otherCell, cellAfter, cellsTo, memoryAfter, outputs, replyTo, blocksAfter, repliesTo}
+use Rattle.graph.specs.Reading.{Call, block, message, Reply, Timed, silence, reached, accepts, accepted, inputs, answerTo, end, inputAt, numberAt, earlier, IsReading, samplesOf, lastOf, withNumber, reachedCell, otherCell, cellAfter, memoryAfter, outputs, replyTo, blocksAfter, repliesTo}
 use Rattle.graph.specs.Instance.{Cells, mono, sent, asks, boardOf, memoryRules, readingRules, cellIn, shownTo, memoryOf}
 use Rattle.graph.specs.Fine.{Fine}
 use Rattle.graph.specs.declared.answer.Answer.{Answer}
@@ -196,14 +196,9 @@ module _ (p : Parsed) (fine : Fine p) (es : List Call) (s : Timed Frame) (u : Ti
     cell-after : cellIn p after k ≡ cellAfter p es s u k
     cell-after = ap cellAt (end-sent p es) ∙ (λ i. record { state = state-after i; samples = samples-after i })
 
-  cells-joined : (n : ℕ) → joined n (λ k. valuesOf (cellAfter p es s u k)) ≡ cellsTo p es s u n
-  unfolding cellsTo
-  cells-joined zero = refl
-  cells-joined (suc n) = ap (λ (l : List ℕ). l ++ valuesOf (cellAfter p es s u n)) (cells-joined n)
-
   pub memory-shown : memoryOf p (encCells (λ k. stateOf (kindAt p k)) (flatCells (boardOf p) (map sent es) (whole p fine es s) (before p fine es s u)))
       ≡ memoryAfter p es s u
-  memory-shown = ap unwords (shown-joined p after (cellAfter p es s u) cell-after (length (p .nodes)) ∙ cells-joined (length (p .nodes)))
+  memory-shown = ap unwords (shown-joined p after (cellAfter p es s u) cell-after (length (p .nodes)))
 
 -- ---- the replies
 

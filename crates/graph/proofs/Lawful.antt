@@ -4,23 +4,22 @@
 --     rules-encode                  the rules on what memory holds encode those on what the reading knows
 --     rules-lawful                  every call keeps what `Held` says of the states: so 8 never occurs
 -- Assumes nothing.
-use Prim.Native.Nat.{ℕ, zero, suc, _<_}
+use Prim.Native.Nat.{ℕ, _<_}
 use mathlib.Core.Path.{_≡_, refl, sym, ap, subst, _∙_}
-use mathlib.Core.List.{List, [], _∷_, map}
+use mathlib.Core.List.{[]}
 use mathlib.Core.Option.{Option, none, some}
-use mathlib.Core.Bool.{Bool, true, false, cond, _&&_, false≢true}
+use mathlib.Core.Bool.{Bool, true, false, cond}
 use native.Mathlib.Omega.{arith}
 use native.Mathlib.Decide.{decLt}
 use borrow.Author.Tests.{not-false}
-use lib.Dec.{eqb, ltb}
-use lib.ListN.{length, getD, length-map, length-replicate}
+use lib.ListN.{length, List·getD-eq-default, length-map, length-replicate}
 use lib.Ieee.{binary32, toBits}
 use lib.Ieee.Bits.{ofBits-fits}
 use Rattle.leaves.specs.Words.{words}
 use Rattle.nodes.specs.Kind.{lineOf}
 use Rattle.nodes.specs.Iter.{iter}
 use Rattle.nodes.specs.Rule.{Brought, Frame, State, stateBy}
-use Rattle.nodes.specs.Cell.{valuesOf, cellOf, numberOf, freshCell, takesNumber, valueFits, numberFits, stepCell}
+use Rattle.nodes.specs.Cell.{valuesOf, cellOf, numberOf, freshCell, numberFits, stepCell}
 use Rattle.nodes.specs.History.{stateOf}
 use Rattle.nodes.specs.declared.kind.NodeKind.the-variants.{Pass}
 use Rattle.nodes.specs.declared.kind.NodeRecord.{NodeRecord}
@@ -32,17 +31,16 @@ use Rattle.reading.specs.Board.{Whole, Sound}
 use Rattle.reading.specs.Board as theory
 use Rattle.reading.specs.Encode.{Encodes}
 use Rattle.reading.specs.Keeps.{Lawful}
-use Rattle.graph.specs.Answer.{answer}
 use Rattle.graph.specs.Board.{Parsed}
 use Rattle.graph.specs.Listed.{ListsReached}
-use Rattle.graph.specs.Memory.{passed, kindAt}
+use Rattle.graph.specs.Memory.{kindAt}
 use Rattle.graph.specs.Calls.{listed}
 use Rattle.graph.specs.Reading.{Call, block, message, valueOf, accepts, silence}
-use Rattle.graph.specs.Instance.{boardOf, mono, asks, broughtFrom, memoryRules, readingRules}
+use Rattle.graph.specs.Instance.{boardOf, mono, sent, asks, broughtFrom, memoryRules, readingRules}
 use Rattle.graph.specs.Fine.{Fine, Held}
 use Rattle.graph.proofs.Listed.{lists-reached}
 use Rattle.graph.proofs.ShownRun.{source-there}
-use Rattle.graph.proofs.ShownCall.{block-whole}
+use Rattle.graph.proofs.ShownCall.{block-whole, message-given}
 
 module _ (p : Parsed) (fine : Fine p) where
   pub lists : ListsReached (p .wires) (listed p)
@@ -50,31 +48,21 @@ module _ (p : Parsed) (fine : Fine p) where
 
   -- ---- accepted calls
 
-  number-accepted : (k w : ℕ) → accepts p (message k w) ≡ true → valueFits (kindAt p k) (valueOf w) ≡ true
-  number-accepted k w e = go (ltb k (length (p .nodes)) && takesNumber (kindAt p k)) (valueFits (kindAt p k) (valueOf w)) refl e
-    where
-      go : (a b : Bool) → valueFits (kindAt p k) (valueOf w) ≡ b → eqb ((cond a (cond b passed (answer 12 k)) (answer 11 k)) .number) 0 ≡ true
-          → valueFits (kindAt p k) (valueOf w) ≡ true
-      go true true q h = q
-      go true false q h = absurd (false≢true h)
-      go false b q h = absurd (false≢true h)
-
   -- what an accepted call asks: a whole block, or a number that fits
   abbrev Asked : Option (theory.Call Frame ℕ) → Type 0
   Asked none = Unit {0}
   Asked (some (theory.block xs)) = length xs ≡ p .size
   Asked (some (theory.message k v)) = numberFits (kindAt p k) v ≡ true
 
+  sent-fits : (c : Call) → accepts p c ≡ true → Asked (some (sent c))
+  sent-fits (block x l r) e = length-map (words x) mono ∙ block-whole p x l r e
+  sent-fits (message k w) e = value-number (kindAt p k) (valueOf w) (ofBits-fits binary32 w) (message-given p k w e .1)
+
   asked : (c : Call) → Asked (asks p c)
-  asked (block x l r) = go (accepts p (block x l r)) refl
+  asked c = go (accepts p c) refl
     where
-      go : (b : Bool) → accepts p (block x l r) ≡ b → Asked (cond b (some (theory.block (map mono (words x)))) none)
-      go true e = length-map (words x) mono ∙ block-whole p x l r e
-      go false e = tt
-  asked (message k w) = go (accepts p (message k w)) refl
-    where
-      go : (b : Bool) → accepts p (message k w) ≡ b → Asked (cond b (some (theory.message k (toBits binary32 (valueOf w)))) none)
-      go true e = value-number (kindAt p k) (valueOf w) (ofBits-fits binary32 w) (number-accepted k w e)
+      go : (b : Bool) → accepts p c ≡ b → Asked (cond b (some (sent c)) none)
+      go true e = sent-fits c e
       go false e = tt
 
   -- ---- the board is sound
@@ -95,12 +83,7 @@ module _ (p : Parsed) (fine : Fine p) where
 
   -- past the last node all are passes
   beyond : (k : ℕ) → (k < length (p .nodes) → ⊥) → kindAt p k ≡ Pass
-  beyond k h = ap (λ (r : NodeRecord). r .kind) (past (p .nodes) k h)
-    where
-      past : (rs : List NodeRecord) (j : ℕ) → (j < length rs → ⊥) → getD rs j (record { kind = Pass; channels = 0; cell = 0 }) ≡ record { kind = Pass; channels = 0; cell = 0 }
-      past [] j n = refl
-      past (r ∷ rs) zero n = absurd (n (omega arith))
-      past (r ∷ rs) (suc j) n = past rs j (λ l. n (omega arith))
+  beyond k h = ap (λ (r : NodeRecord). r .kind) (List·getD-eq-default (p .nodes) (record { kind = Pass; channels = 0; cell = 0 }) (omega arith))
 
   -- every kind's line and first number are as they must be
   kind-sound : (k : ℕ) → fresh.Sound (kindAt p k)

@@ -1,7 +1,8 @@
 -- The promise of one call: on memory that shows cells it leaves what shows the cells that the theory's call leaves, and replies by what that
 -- wrote, with the nodes of a block run taken in any order.
 --     replyFor             a reply's bytes, from what the theory's call wrote
---     block-whole          the input block of an accepted block run
+--     block-whole          the input block of an accepted block run is whole
+--     message-given        the node of an accepted message is there, and its value in range
 --     call-shown           the promise, as the theory asks it
 -- Assumes nothing.
 use Prim.Native.Nat.{ℕ, suc, _+_, _*_, _<_}
@@ -80,14 +81,17 @@ module _ (p : Parsed) (x l r : List ℕ) (yes′ : accepts p (block x l r) ≡ t
       let e : length x ≡ 4 * p .size = eqb-true (length x) four (one .0) in
       length-words x ∙ omega arith
 
-node-there : (p : Parsed) (k w : ℕ) → accepts p (message k w) ≡ true → k < length (p .nodes)
-node-there p k w e = go (ltb k (length (p .nodes))) refl e
+-- the node of an accepted message is there, and its value in range
+pub message-given : (p : Parsed) (k w : ℕ) → accepts p (message k w) ≡ true → (k < length (p .nodes)) × (valueFits (kindAt p k) (valueOf w) ≡ true)
+message-given p k w e = go (ltb k (length (p .nodes))) (takesNumber (kindAt p k)) (valueFits (kindAt p k) (valueOf w)) refl refl e
   where
-    go : (b : Bool) → ltb k (length (p .nodes)) ≡ b
-        → eqb ((cond (b && takesNumber (kindAt p k)) (cond (valueFits (kindAt p k) (valueOf w)) passed (answer 12 k)) (answer 11 k)) .number) 0 ≡ true
-        → k < length (p .nodes)
-    go true q e = ltb-true k (length (p .nodes)) q
-    go false q e = absurd (false≢true e)
+    go : (a t v : Bool) → ltb k (length (p .nodes)) ≡ a → valueFits (kindAt p k) (valueOf w) ≡ v
+        → eqb ((cond (a && t) (cond v passed (answer 12 k)) (answer 11 k)) .number) 0 ≡ true
+        → (k < length (p .nodes)) × (valueFits (kindAt p k) (valueOf w) ≡ true)
+    go true true true q f e = (ltb-true k (length (p .nodes)) q, f)
+    go true true false q f e = absurd (false≢true e)
+    go true false v q f e = absurd (false≢true e)
+    go false t v q f e = absurd (false≢true e)
 
 -- ---- a call by what was read
 
@@ -181,7 +185,7 @@ module _ (p : Parsed) (fine : Fine p) (order : Parsed → List ℕ) (nodes : OfB
             → _≡_ {A = List ℕ × Reply} (cond q (unwords (setNumber p k (valueOf w) (words M))) M, replyFor p (message k w) none)
             (memoryOf p ((settled (cond q (some sent) none)) .0), replyFor p (message k w) ((settled (cond q (some sent) none)) .1))
         go true e =
-            let values = ap (setNumber p k (valueOf w)) (words-unwords (shown p m)) ∙ message-shown p fine m long k (node-there p k w e) o (valueOf w) in
+            let values = ap (setNumber p k (valueOf w)) (words-unwords (shown p m)) ∙ message-shown p fine m long k (message-given p k w e .0) o (valueOf w) in
             λ i. (unwords (values i), replyFor p (message k w) none)
         go false e = refl
 

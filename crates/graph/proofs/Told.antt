@@ -96,7 +96,10 @@ module _ (p : Parsed) where
 
 -- a time is in the block of the one before it, or in the next, at whose start messages are heard
 block-of : (n t : ℕ) → 0 < n → suc t / n ≡ cond (eqb (suc t % n) 0) (suc (t / n)) (t / n)
-block-of n t pos = ⊎-elim (λ w. pick true (w .0) (eq-eqb (suc t % n) 0 (w .1))) (λ w. pick false (w .0) (ne-eqb (suc t % n) 0 (λ z. omega (arith, w .1)))) (next-time n t pos)
+block-of n t pos =
+    ⊎-elim (λ w. pick true (w .0) (eq-eqb (suc t % n) 0 (w .1)))
+    (λ w. pick false (w .0) (ne-eqb (suc t % n) 0 (λ z. omega (arith, w .1))))
+    (next-time n t pos)
   where
     pick : (q : Bool) → suc t / n ≡ cond q (suc (t / n)) (t / n) → eqb (suc t % n) 0 ≡ q → suc t / n ≡ cond (eqb (suc t % n) 0) (suc (t / n)) (t / n)
     pick q d e = d ∙ ap (λ (c : Bool). cond c (suc (t / n)) (t / n)) (sym e)

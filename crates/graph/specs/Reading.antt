@@ -14,6 +14,7 @@ use Rattle.nodes.specs.Cell.{Cell, valuesOf, numberOf, freshCell}
 use Rattle.nodes.specs.History.{Heard, freshHeard, setNumber, sampleHeard, heardAfter, stateOf}
 use Rattle.reading.specs.Table.{mem, tab}
 use Rattle.reading.specs.Order.{late}
+use Rattle.reading.specs.Places.{joined}
 use Rattle.graph.specs.Sources.{distinctSources, secondSource}
 use Rattle.graph.specs.Board.{Parsed}
 use Rattle.graph.specs.Memory.{kindAt}
@@ -161,14 +162,9 @@ module _ (p : Parsed) (cs : List Call) (s : Timed Frame) (u : Timed Heard) where
       let c = cond (reached p k) (reachedCell k) (otherCell k) in
       record { state = c .state; samples = cond (eqb k (p .input)) (lastOf (replicate (p .size) 0) (inputs cs)) (c .samples) }
 
-  -- cells in node order
-  unfoldable pub cellsTo : ℕ → List ℕ
-  cellsTo zero = []
-  cellsTo (suc k) = cellsTo k ++ valuesOf (cellAfter k)
-
-  -- every byte of the memory
+  -- every byte of the memory: cells in node order
   abbrev pub memoryAfter : List ℕ
-  memoryAfter = unwords (cellsTo (length (p .nodes)))
+  memoryAfter = unwords (joined (length (p .nodes)) (λ k. valuesOf (cellAfter k)))
 
 -- ---- what each call answers and writes
 
