@@ -44,3 +44,16 @@ pub mod Ending
 pub mod Formed
 pub mod Accepted
 pub mod JudgeCases
+pub mod ShownCells
+pub mod ShownRun
+pub mod ShownBlock
+pub mod ShownBytes
+pub mod ShownCall
+pub mod ShownFresh
+pub mod FineBoard
+pub mod Lawful
+pub mod Told
+pub mod DemandReading
+pub mod DemandAfter
+pub mod Demand
+pub mod DemandWorked

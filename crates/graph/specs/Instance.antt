@@ -19,7 +19,7 @@ use Rattle.graph.specs.Sources.{distinctSources, secondSource}
 use Rattle.graph.specs.Board.{Parsed}
 use Rattle.graph.specs.Memory.{kindAt}
 use Rattle.graph.specs.Calls.{listed}
-use Rattle.graph.specs.Reading.{Call, block, message, accepts, silence, rightSample, samplesOf}
+use Rattle.graph.specs.Reading.{Call, block, message, valueOf, accepts, silence, rightSample, samplesOf}
 
 -- ---- the board
 
@@ -27,10 +27,14 @@ use Rattle.graph.specs.Reading.{Call, block, message, accepts, silence, 
 abbrev pub mono : ℕ → Frame
 mono x = record { left = x; right = 0 }
 
+-- what an accepted call asks
+abbrev pub sent : Call → theory.Call Frame ℕ
+sent (block x l r) = theory.block (map mono (words x))
+sent (message k w) = theory.message k (toBits binary32 (valueOf w))
+
 -- what a call asks, if it is accepted
 abbrev pub asks : Parsed → Call → Option (theory.Call Frame ℕ)
-asks p (block x l r) = cond (accepts p (block x l r)) (some (theory.block (map mono (words x)))) none
-asks p (message k v) = cond (accepts p (message k v)) (some (theory.message k (toBits binary32 v))) none
+asks p c = cond (accepts p c) (some (sent c)) none
 
 abbrev pub boardOf : Parsed → theory.Board Call Frame ℕ
 boardOf p = record {

@@ -23,3 +23,10 @@ pub mod Claim
 pub mod Instance
 pub mod Formed
 pub mod Walking
+pub mod Memory
+pub mod Calls
+pub mod Reading
+pub mod Claim
+pub mod Write
+pub mod Instance
+pub mod Fine

@@ -2,18 +2,19 @@
 -- applies its row of the table (`sampleHeard`, `heardAfter` of the crate nodes) to what its wires bring. Definitions only.
 use Prim.Native.Nat.{ℕ, zero, suc, _+_, _-_, _*_, _/_, _%_, _<_}
 use mathlib.Core.Path.{_≡_}
-use mathlib.Core.Bool.{Bool, true, false, cond, _&&_}
+use mathlib.Core.Bool.{Bool, true, cond}
 use mathlib.Core.List.{List, [], _∷_, _++_, map}
-use lib.ListN.{length, getD}
+use lib.ListN.{length, getD, replicate}
 use lib.Dec.{leb, eqb}
 use lib.Ieee.{Float, binary32, ofBits, toBits}
 use Rattle.leaves.specs.Words.{words, unwords}
 use Rattle.nodes.specs.Kind.{channelsOf}
-use Rattle.nodes.specs.Rule.{Brought, Frame}
-use Rattle.nodes.specs.Cell.{Cell, valuesOf}
+use Rattle.nodes.specs.Rule.{Brought, Frame, State}
+use Rattle.nodes.specs.Cell.{Cell, valuesOf, numberOf, freshCell}
 use Rattle.nodes.specs.History.{Heard, freshHeard, setNumber, sampleHeard, heardAfter, stateOf}
 use Rattle.reading.specs.Table.{mem, tab}
 use Rattle.reading.specs.Order.{late}
+use Rattle.reading.specs.Places.{joined}
 use Rattle.graph.specs.Sources.{distinctSources, secondSource}
 use Rattle.graph.specs.Board.{Parsed}
 use Rattle.graph.specs.Memory.{kindAt}
@@ -22,15 +23,21 @@ use Rattle.graph.specs.declared.answer.Answer.{Answer}
 
 -- ---- calls and their answers
 
--- a call as it comes: a block run with the bytes of its input block and of the two output blocks, or a number message
+-- a call as it comes: a block run with the bytes of its input block and of the two output blocks, or a number message with its node and its
+-- value's 32 bits
 pub data Call : Type 0 where
   block : List ℕ → List ℕ → List ℕ → Call
-  message : ℕ → Float → Call
+  message : ℕ → ℕ → Call
 
--- 9, 10 for blocks, 11, 12 for messages
+-- a message's value
+abbrev pub valueOf : ℕ → Float
+valueOf w = ofBits binary32 w
+
+-- 9, 10 for blocks, 11, 12 for messages: a board that is read, and its memory as calls leave it, pass the checks before these, and 8 never
+-- occurs
 abbrev pub answerTo : Parsed → Call → Answer
 answerTo p (block x l r) = andThen (checkBlocks p x l r) (checkSamples 0 (words x))
-answerTo p (message k v) = checkNumber p k v
+answerTo p (message k w) = checkNumber p k (valueOf w)
 
 abbrev pub accepts : Parsed → Call → Bool
 accepts p c = eqb (answerTo p c .number) 0
@@ -40,36 +47,31 @@ unfoldable pub accepted : Parsed → List Call → List Call
 accepted p [] = []
 accepted p (c ∷ cs) = cond (accepts p c) (c ∷ accepted p cs) (accepted p cs)
 
--- the input blocks of accepted calls, as patterns
+-- the input blocks of accepted calls, a pattern for each sample
 unfoldable pub inputs : List Call → List (List ℕ)
 inputs [] = []
 inputs (block x l r ∷ cs) = words x ∷ inputs cs
-inputs (message k v ∷ cs) = inputs cs
+inputs (message k w ∷ cs) = inputs cs
 
--- what the messages between block b − 1 and block b make of node k's number; at b = 0 those before the first block, after the last block
--- those behind it
-unfoldable pub told : List Call → ℕ → ℕ → Heard → Heard
-told [] b k h = h
-told (block x l r ∷ cs) zero k h = h
-told (block x l r ∷ cs) (suc b) k h = told cs b k h
-told (message j v ∷ cs) zero k h = told cs zero k (cond (eqb k j) (setNumber (toBits binary32 v) h) h)
-told (message j v ∷ cs) (suc b) k h = told cs (suc b) k h
-
--- what all messages make of it
-unfoldable pub toldAll : List Call → ℕ → Heard → Heard
-toldAll [] k h = h
-toldAll (block x l r ∷ cs) k h = toldAll cs k h
-toldAll (message j v ∷ cs) k h = toldAll cs k (cond (eqb k j) (setNumber (toBits binary32 v) h) h)
+-- node k's number in accepted block b, where it starts as n: each accepted message to the node sets it to the message's value from then on;
+-- behind the last block all have
+unfoldable pub numberIn : List Call → ℕ → ℕ → ℕ → ℕ
+numberIn [] b k n = n
+numberIn (block x l r ∷ cs) zero k n = n
+numberIn (block x l r ∷ cs) (suc b) k n = numberIn cs b k n
+numberIn (message j w ∷ cs) b k n = numberIn cs b k (cond (eqb k j) (toBits binary32 (valueOf w)) n)
 
 -- ---- samples by time and node
 
+-- of each time and node
 abbrev pub Timed : Type 0 → Type 0
 Timed A = ℕ → ℕ → A
 
+-- zero on both channels
 abbrev pub silence : Frame
 silence = record { left = 0; right = 0 }
 
--- node k is reached
+-- the reached nodes are the listed ones: node 0 and each from which wires lead to it (proofs/Listed.antt)
 abbrev pub reached : Parsed → ℕ → Bool
 reached p k = mem k (listed p)
 
@@ -82,9 +84,21 @@ module _ (p : Parsed) (cs : List Call) where
   abbrev pub inputAt : ℕ → ℕ
   inputAt t = getD (getD (inputs cs) (t / p .size) []) (t % p .size) 0
 
--- of the frame that node a brings, what the destination's channel 1 reads: a stereo source's channel 1, else channel 0
+  -- node k's number at a time: it starts as in fresh memory
+  abbrev pub numberAt : Timed ℕ
+  numberAt t k = numberIn cs (t / p .size) k (toBits binary32 (numberOf (kindAt p k)))
+
+-- of the frame f that node a brings, what the destination's channel 1 reads: a stereo source's channel 1, else channel 0
 abbrev pub rightSample : Parsed → ℕ → Frame → ℕ
 rightSample p a f = cond (eqb (channelsOf (kindAt p a)) 2) (f .right) (f .left)
+
+-- what node k's wires bring, where the wire from a brings f a: each distinct source, by first wire, and the second wire's source
+abbrev pub broughtOf : Parsed → ℕ → (ℕ → Frame) → Brought
+broughtOf p k f = record {
+  left = map (λ a. ofBits binary32 (f a .left)) (distinctSources (p .wires) k);
+  right = map (λ a. ofBits binary32 (rightSample p a (f a))) (distinctSources (p .wires) k);
+  second = ofBits binary32 (f (secondSource (p .wires) k) .left);
+}
 
 module _ (p : Parsed) (s : Timed Frame) where
   -- node a's sample of N earlier, zero before time 0
@@ -96,64 +110,61 @@ module _ (p : Parsed) (s : Timed Frame) where
   brings t k a = cond (late (listed p) a k) (earlier t a) (s t a)
 
   -- what node k's wires bring at time t
-  abbrev pub broughtTo : ℕ → ℕ → Brought
-  broughtTo t k = record {
-    left = map (λ a. ofBits binary32 (brings t k a .left)) (distinctSources (p .wires) k);
-    right = map (λ a. ofBits binary32 (rightSample p a (brings t k a))) (distinctSources (p .wires) k);
-    second = ofBits binary32 (brings t k (secondSource (p .wires) k) .left);
-  }
+  abbrev pub broughtTo : Timed Brought
+  broughtTo t k = broughtOf p k (brings t k)
 
 -- what a pass without wires in gives: the input sample if it is the input node, else its own of N earlier
 abbrev pub heldAt : Parsed → List Call → Timed Frame → ℕ → ℕ → Frame
 heldAt p cs s t k = cond (eqb k (p .input)) (record { left = inputAt p cs t; right = 0 }) (earlier p s t k)
 
--- s is the samples of the reached nodes, u what is known of them just before a time and v just after it, for the accepted calls cs
-pub record IsReading (p : Parsed) (cs : List Call) (s : Timed Frame) (u v : Timed Heard) : Type 0 where
-  -- before time 0, after the messages before the first block
-  pub first : (k : ℕ) → reached p k ≡ true → u 0 k ≡ told cs 0 k (freshHeard (kindAt p k))
-  -- from one time to the next; messages come between blocks
-  pub next : (t k : ℕ) → t < end p cs → reached p k ≡ true
-      → u (suc t) k ≡ cond (eqb (suc t % p .size) 0) (told cs (suc t / p .size) k (v t k)) (v t k)
+-- s is the samples of the reached nodes, and u what is known of them just before each time, for the accepted calls cs
+pub record IsReading (p : Parsed) (cs : List Call) (s : Timed Frame) (u : Timed Heard) : Type 0 where
+  -- phase, y1 and lines start at 0
+  pub first : (k : ℕ) → reached p k ≡ true → u 0 k ≡ setNumber (numberAt p cs 0 k) (freshHeard (kindAt p k))
   -- each reached node applies its table row to what its wires bring
-  pub sample : (t k : ℕ) → t < end p cs → reached p k ≡ true → s t k ≡ sampleHeard (kindAt p k) (u t k) (heldAt p cs s t k) (broughtTo p s t k)
-  pub state : (t k : ℕ) → t < end p cs → reached p k ≡ true → v t k ≡ heardAfter (kindAt p k) (u t k) (broughtTo p s t k)
+  pub sample : (t k : ℕ) → t < end p cs → reached p k ≡ true
+      → s t k ≡ sampleHeard (kindAt p k) (u t k) (heldAt p cs s t k) (broughtTo p s t k)
+  -- and holds what earlier times left
+  pub next : (t k : ℕ) → t < end p cs → reached p k ≡ true
+      → u (suc t) k ≡ setNumber (numberAt p cs (suc t) k) (heardAfter (kindAt p k) (u t k) (broughtTo p s t k))
 
 -- ---- afterwards
 
--- N frames as a cell's samples, channel 0 first
+-- N frames as a cell's samples: N a channel, channel 0 first
 abbrev pub samplesOf : ℕ → List Frame → List ℕ
 samplesOf channels fs = cond (eqb channels 2) (map (λ f. f .left) fs ++ map (λ f. f .right) fs) (map (λ f. f .left) fs)
 
+-- the last of a list of blocks, z if there is none
+unfoldable pub lastOf : List ℕ → List (List ℕ) → List ℕ
+lastOf z [] = z
+lastOf z (x ∷ xs) = lastOf x xs
+
+abbrev pub withNumber : ℕ → State → State
+withNumber n s = record { number = n; carry = s .carry; place = s .place; line = s .line }
+
 module _ (p : Parsed) (cs : List Call) (s : Timed Frame) (u : Timed Heard) where
-  -- a reached node's cell: its number, its phase or y1, its line, and its last block, zeros if none
+  -- a reached node's cell: its number, its phase or y1, its place and line (`stateOf`), and its last block, zeros if none
   abbrev pub reachedCell : ℕ → Cell
   reachedCell k = record {
     state = stateOf (kindAt p k) (u (end p cs) k);
     samples = samplesOf (channelsOf (kindAt p k)) (tab (p .size) (λ i. earlier p s (end p cs + i) k));
   }
 
-  -- the last accepted input block, zeros if none
-  abbrev pub lastInput : List ℕ
-  lastInput = tab (p .size) (λ i. cond (leb (p .size) (end p cs + i)) (inputAt p cs (end p cs + i - p .size)) 0)
-
-  -- another cell is as fresh but for the number, and the input node's samples
+  -- another cell is as fresh but for the number
   abbrev pub otherCell : ℕ → Cell
-  otherCell k = record {
-    state = stateOf (kindAt p k) (toldAll cs k (freshHeard (kindAt p k)));
-    samples = cond (eqb k (p .input)) lastInput (samplesOf (channelsOf (kindAt p k)) (tab (p .size) (λ i. silence)));
-  }
+  otherCell k =
+      let c = freshCell (p .size) (kindAt p k) in
+      record { state = withNumber (numberAt p cs (end p cs) k) (c .state); samples = c .samples }
 
+  -- the input node's samples, listed or not, are the last accepted input block, zeros if none
   abbrev pub cellAfter : ℕ → Cell
-  cellAfter k = cond (reached p k) (reachedCell k) (otherCell k)
+  cellAfter k =
+      let c = cond (reached p k) (reachedCell k) (otherCell k) in
+      record { state = c .state; samples = cond (eqb k (p .input)) (lastOf (replicate (p .size) 0) (inputs cs)) (c .samples) }
 
-  -- cells in node order
-  unfoldable pub cellsTo : ℕ → List ℕ
-  cellsTo zero = []
-  cellsTo (suc k) = cellsTo k ++ valuesOf (cellAfter k)
-
-  -- every byte of the memory
+  -- every byte of the memory: cells in node order
   abbrev pub memoryAfter : List ℕ
-  memoryAfter = unwords (cellsTo (length (p .nodes)))
+  memoryAfter = unwords (joined (length (p .nodes)) (λ k. valuesOf (cellAfter k)))
 
 -- ---- what each call answers and writes
 
@@ -175,12 +186,14 @@ outputs p s b a = record {
 abbrev pub replyTo : Parsed → Timed Frame → ℕ → Call → Reply
 replyTo p s b (block x l r) =
     cond (accepts p (block x l r)) (outputs p s b (answerTo p (block x l r))) (record { answer = answerTo p (block x l r); left = l; right = r })
-replyTo p s b (message k v) = record { answer = answerTo p (message k v); left = []; right = [] }
+replyTo p s b (message k w) = record { answer = answerTo p (message k w); left = []; right = [] }
 
+-- how many have been accepted after it
 abbrev pub blocksAfter : Parsed → ℕ → Call → ℕ
 blocksAfter p b (block x l r) = cond (accepts p (block x l r)) (suc b) b
-blocksAfter p b (message k v) = b
+blocksAfter p b (message k w) = b
 
+-- the replies to a list of calls
 unfoldable pub repliesTo : Parsed → Timed Frame → ℕ → List Call → List Reply
 repliesTo p s b [] = []
 repliesTo p s b (c ∷ cs) = replyTo p s b c ∷ repliesTo p s (blocksAfter p b c) cs

@@ -73,7 +73,7 @@ frames-long k N fs long = by-channels (λ c. length (samplesOf c fs) ≡ N * c) 
     two : length (map leftIn fs ++ map rightIn fs) ≡ N * 2
     two = omega (arith, length-append (map leftIn fs) (map rightIn fs), length-map fs leftIn, length-map fs rightIn)
 
-map-tab : {A B : Type 0} (f : A → B) (n : ℕ) (g : ℕ → A) → map f (tab n g) ≡ tab n (λ i. f (g i))
+pub map-tab : {A B : Type 0} (f : A → B) (n : ℕ) (g : ℕ → A) → map f (tab n g) ≡ tab n (λ i. f (g i))
 map-tab f zero g = refl
 map-tab {B = B} f (suc n) g = ap (λ (l : List B). f (g zero) ∷ l) (map-tab f n (λ i. g (suc i)))
 

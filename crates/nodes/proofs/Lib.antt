@@ -9,9 +9,12 @@ pub mod Brought
 pub mod Kept
 pub mod Fresh
 pub mod Carried
+pub mod Kept
+pub mod Fresh
 pub mod Histories
 pub mod HistoryFrames
 pub mod HistoryBlocks
 pub mod HistoryRules
 pub mod HistoryFits
 pub mod Rings
+pub mod Unread
