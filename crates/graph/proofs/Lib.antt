@@ -50,7 +50,6 @@ pub mod ShownBlock
 pub mod ShownBytes
 pub mod ShownCall
 pub mod ShownFresh
-pub mod FineBoard
 pub mod Lawful
 pub mod Told
 pub mod DemandReading

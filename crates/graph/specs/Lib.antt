@@ -23,10 +23,3 @@ pub mod Claim
 pub mod Instance
 pub mod Formed
 pub mod Walking
-pub mod Memory
-pub mod Calls
-pub mod Reading
-pub mod Claim
-pub mod Write
-pub mod Instance
-pub mod Fine

@@ -9,8 +9,6 @@ pub mod Brought
 pub mod Kept
 pub mod Fresh
 pub mod Carried
-pub mod Kept
-pub mod Fresh
 pub mod Histories
 pub mod HistoryFrames
 pub mod HistoryBlocks
