@@ -1,5 +1,5 @@
 -- One turn of the run of the listed nodes, on the board as the code holds it.
---     nodes-placed      what the starts of the samples ask
+--     starts-fit        what the starts of the samples ask
 --     listed-ordered    listed nodes are the board's
 --     turn-ready        what a node's block run asks
 --     turn-run          that it is the definition's
@@ -34,7 +34,7 @@ use Rattle.graph.specs.Read.{parsedOf, Sound}
 use Rattle.graph.specs.Listed.{SourcesBelow}
 use Rattle.graph.specs.Fine.{Fine}
 use Rattle.graph.specs.Formed.{TableAt}
-use Rattle.graph.specs.Parts.{nodeIn, NodePlaced, Placed, Starts, Runs}
+use Rattle.graph.specs.Parts.{nodeIn, StartFits, StartsFit, Starts, Runs}
 use Rattle.graph.specs.declared.answer.Answer.{Answer}
 use Rattle.graph.specs.declared.board.Board.{Board}
 use Rattle.graph.specs.declared.graph.Order.{Order}
@@ -95,11 +95,11 @@ module _ (b : Board) (sound : Sound b) (fine : Fine (parsedOf b)) where
   node-there : (k : ℕ) → k < b .count → k < length (p .nodes)
   node-there k h = omega (arith, count-nodes b sound)
 
-  pub nodes-placed : Placed (b .nodes) (b .count)
-  nodes-placed k h =
+  pub starts-fit : StartsFit (b .nodes) (b .count)
+  starts-fit k h =
       let there = node-there k h in
       let w = samples-within N (kindAt p k) in
-      subst NodePlaced (node-in b sound k h) (record {
+      subst StartFits (node-in b sound k h) (record {
         some-channel = omega (arith, fine .nodes k there .channels, w .some);
         few-channels = omega (arith, fine .nodes k there .channels, w .few);
         cell-in = omega (arith, cell-in p fine k there, sound .values-sum, sound .few-values);

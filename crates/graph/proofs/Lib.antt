@@ -40,6 +40,7 @@ pub mod CallStarts
 pub mod CallRun
 pub mod CallAccepted
 pub mod CallBlock
+pub mod CallCases
 pub mod Ending
 pub mod Formed
 pub mod Accepted

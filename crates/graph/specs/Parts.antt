@@ -25,14 +25,14 @@ nodeIn nodes k = getD nodes k (record { kind = Pass; channels = 0; cell = 0 })
 abbrev pub CellsIn : List NodeRecord → ℕ → ℕ → Type 0
 CellsIn nodes n long = (k : ℕ) → k < n → 4 * (nodeIn nodes k .cell + 3) ≤ long
 
--- the first n nodes have one channel or two, and their cells start among so many values as a memory may have
-pub record NodePlaced (r : NodeRecord) : Type 0 where
+-- the start of a node's samples fits: it has one channel or two, and its cell starts among so many values as a memory may have
+pub record StartFits (r : NodeRecord) : Type 0 where
   pub some-channel : 1 ≤ r .channels
   pub few-channels : r .channels ≤ 2
   pub cell-in : r .cell ≤ 278720
 
-abbrev pub Placed : List NodeRecord → ℕ → Type 0
-Placed nodes n = (k : ℕ) → k < n → NodePlaced (nodeIn nodes k)
+abbrev pub StartsFit : List NodeRecord → ℕ → Type 0
+StartsFit nodes n = (k : ℕ) → k < n → StartFits (nodeIn nodes k)
 
 -- an array gives for each of the first n nodes the value that `start` says
 pub record Starts (start : NodeRecord → ℕ) (nodes : List NodeRecord) (n : ℕ) (at : List ℕ) : Type 0 where

@@ -9,7 +9,7 @@ ghost use Rattle.graph.specs.Memory.{leftStart, rightStart, checkCells, 
 ghost use Rattle.graph.specs.Calls.{andThen, checkNeeded, checkLength, checkMemory, checkSizes, checkSamples, asFound, listed, freshOf, blockOf};
 ghost use Rattle.graph.specs.Read.{parsedOf, Sound};
 ghost use Rattle.graph.specs.Fine.{Fine};
-ghost use Rattle.graph.specs.Parts.{CellsIn, Placed, Starts, Runs, putNumbers};
+ghost use Rattle.graph.specs.Parts.{CellsIn, StartsFit, Starts, Runs, putNumbers};
 use crate::answer::Answer;
 use crate::board::Board;
 use crate::graph::Order;
@@ -173,7 +173,7 @@ fn copy(from: &[u8], start: usize, to: &mut [u8], at: usize, count: usize)
 
 // Where each node's channel 0 starts.
 fn left_starts(nodes: [NodeRecord; 64], count: usize) -> [usize; 64]
-    requires { ⌜ (length nodes ≡ 64) × (count ≤ 64) × Placed nodes count ⌝ }
+    requires { ⌜ (length nodes ≡ 64) × (count ≤ 64) × StartsFit nodes count ⌝ }
     ensures { λ r. ⌜ ((size : ℕ) → Starts (leftStart size) nodes count r) ⌝ }
 {
     let mut at = [0usize; 64];
@@ -188,7 +188,7 @@ fn left_starts(nodes: [NodeRecord; 64], count: usize) -> [usize; 64]
 
 // Where what the destination's channel 1 reads of each node starts.
 fn right_starts(nodes: [NodeRecord; 64], count: usize, size: usize) -> [usize; 64]
-    requires { ⌜ (length nodes ≡ 64) × (count ≤ 64) × (size ≤ 128) × Placed nodes count ⌝ }
+    requires { ⌜ (length nodes ≡ 64) × (count ≤ 64) × (size ≤ 128) × StartsFit nodes count ⌝ }
     ensures { λ r. ⌜ Starts (rightStart size) nodes count r ⌝ }
 {
     let mut at = [0usize; 64];

@@ -2,9 +2,9 @@
 // are known here only by the promises of the crate `nodes`.
 pub mod answer;
 pub mod board;
+pub mod context;
 pub mod graph;
 pub mod judge;
 pub mod record;
 pub mod sources;
 pub mod tail;
-pub mod context;

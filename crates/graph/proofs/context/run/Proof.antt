@@ -12,7 +12,7 @@ use Rattle.graph.specs.Memory.{runNode}
 use Rattle.graph.specs.Read.{parsedOf}
 use Rattle.graph.specs.Parts.{nodeIn}
 use Rattle.graph.specs.declared.board.Board.{Board}
-use Rattle.graph.proofs.CallRun.{nodes-placed, turn-run, turn-ready, Running, running-none, running-end, running-more, node-listed}
+use Rattle.graph.proofs.CallRun.{starts-fit, turn-run, turn-ready, Running, running-none, running-end, running-more, node-listed}
 use Rattle.graph.proofs.context.run.Statement.{statement}
 use Rattle.graph.proofs.context.run.Tie as tie
 
@@ -26,12 +26,12 @@ abbrev μ-loop : tie.MeasureT-loop
 left-starts-requires : tie.Need-left-starts-requires Inv-loop μ-loop
 left-starts-requires c κs =
     let start = c .before .before .before .before .before .before in
-    (start .pre .sound .nodes-long, start .pre .sound .few-nodes, nodes-placed (start .args .board) (start .pre .sound) (start .pre .fine))
+    (start .pre .sound .nodes-long, start .pre .sound .few-nodes, starts-fit (start .args .board) (start .pre .sound) (start .pre .fine))
 
 right-starts-requires : tie.Need-right-starts-requires Inv-loop μ-loop
 right-starts-requires c κs =
     let start = c .before .before .before .before .before .before .before in
-    (start .pre .sound .nodes-long, start .pre .sound .few-nodes, start .pre .sound .small-size, nodes-placed (start .args .board) (start .pre .sound) (start .pre .fine))
+    (start .pre .sound .nodes-long, start .pre .sound .few-nodes, start .pre .sound .small-size, starts-fit (start .args .board) (start .pre .sound) (start .pre .fine))
 
 loop-holds : tie.Need-loop-holds Inv-loop μ-loop
 loop-holds c =
