@@ -16,7 +16,8 @@ use Rattle.nodes.specs.Kind.{cellSize}
 use Rattle.nodes.specs.declared.kind.NodeRecord.{NodeRecord}
 use Rattle.graph.specs.Board.{Parsed, cellsOf, memoryLength}
 use Rattle.graph.specs.Judge.{readBoard}
-use Rattle.graph.specs.Visit.{Lists, Table, Gathered}
+use Rattle.graph.specs.Visit.{Lists}
+use Rattle.graph.specs.Walking.{Table, Gathered}
 use Rattle.graph.specs.Memory.{nodeAt, kindAt, putInput}
 use Rattle.graph.specs.Calls.{andThen, checkLength, checkMemory, checkBlocks, checkSamples, checkBlock, listed}
 use Rattle.graph.specs.Read.{parsedOf, Read}

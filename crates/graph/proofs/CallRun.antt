@@ -40,7 +40,7 @@ use Rattle.graph.specs.declared.board.Board.{Board}
 use Rattle.graph.specs.declared.graph.Order.{Order}
 use Rattle.graph.proofs.Listed.{lists-reached}
 use Rattle.graph.proofs.RoundSources.{mem-distinct}
-use Rattle.graph.proofs.Wired.{sources-below}
+use Rattle.graph.proofs.Wired.{arrays-below}
 use Rattle.graph.proofs.CallCells.{cell-in, node-in, count-nodes}
 use Rattle.graph.proofs.CallLaws.{Judged, Ordered, passed-judged, node-judged}
 
@@ -106,7 +106,7 @@ module _ (b : Board) (sound : Sound b) (fine : Fine (parsedOf b)) where
       })
 
   source-below : SourcesBelow (p .wires) (b .count)
-  source-below = sources-below (b .sources) (b .targets) (b .wires) (b .count) (sound .sources-in)
+  source-below = arrays-below (b .sources) (b .targets) (b .wires) (b .count) (sound .sources-in)
 
   pub listed-ordered : Ordered (parsedOf b) (listed (parsedOf b))
   listed-ordered k e =

@@ -1,12 +1,15 @@
 -- What a call knows of an accepted board's wires: they are as the visiting list, the late wires and the tail ask. Assumes nothing.
 use mathlib.Core.Path.{_≡_, refl, subst}
-use Prim.Native.Nat.{ℕ, _<_}
+use Prim.Native.Nat.{ℕ, zero, suc, _+_, _<_}
 use native.Mathlib.Nat.{le-trans}
+use native.Mathlib.Omega.{arith}
+use lib.ListN.{getD}
 use mathlib.Core.List.{List}
 use Rattle.reading.specs.Order.{Wire, Each}
 use Rattle.reading.proofs.Order.{each-source}
 use Rattle.graph.specs.Judge.{readBoard}
 use Rattle.graph.specs.Phases.{Within}
+use Rattle.graph.specs.Wires.{wiresFrom, wiresOf}
 use Rattle.graph.specs.Read.{parsedOf, Read}
 use Rattle.graph.specs.Formed.{Joins}
 use Rattle.graph.specs.Visit.{visitingList, Lists}
@@ -20,6 +23,16 @@ use Rattle.graph.proofs.Lines.{tail-of, lines-fit}
 
 joins-below : (n : ℕ) (ws : List Wire) → Each (Joins n) ws → SourcesBelow ws n
 joins-below n ws h k s e = let f = each-source (Joins n) ws h k s e in subst (λ (i : ℕ). i < n) (f .2) (f .1 .source-in)
+
+-- wires in arrays, with every source below m
+each-below : (ss ts : List ℕ) (m n i : ℕ) → ((j : ℕ) → j < i + n → getD ss j 0 < m) → Each (λ w. w .source < m) (wiresFrom ss ts i n)
+each-below ss ts m zero i h = tt
+each-below ss ts m (suc n) i h = (h i (omega arith), each-below ss ts m n (suc i) (λ j b. h j (omega arith)))
+
+pub arrays-below : (ss ts : List ℕ) (n m : ℕ) → Within m ss n → SourcesBelow (wiresOf ss ts n) m
+arrays-below ss ts n m h k s e =
+    let f = each-source (λ w. w .source < m) (wiresOf ss ts n) (each-below ss ts m n 0 (λ j b. h j (omega arith))) k s e in
+    subst (λ (i : ℕ). i < m) (f .2) (f .1)
 
 -- the board's wires
 abbrev wiresIn : Board → List Wire
