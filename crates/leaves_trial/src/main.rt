@@ -39,7 +39,7 @@ fn length(l: Length) -> Line {
 
 fn position(m: f32, n: u32) -> Line {
     if n <= 132300 {
-        let p = leaves::position::modulated(m, n);
+        let p = leaves::position::split(leaves::position::position(m, n));
         Line(p.index, to_bits(p.rest))
     } else {
         OUTSIDE

@@ -6,6 +6,7 @@ use lib.ListN.{length, getD, set}
 use lib.Ieee.{Float, nan, binary32, toBits, add}
 use Rattle.leaves.specs.Floats.{floatAt}
 use Rattle.leaves.specs.Floors.{zeroF}
+use Rattle.leaves.specs.Position.{positionOf}
 use Rattle.nodes.specs.Iter.{iter}
 use Rattle.nodes.specs.Rule.{Brought, total}
 
@@ -17,7 +18,8 @@ sample x i = getD x i nan
 unfoldable pub fill : (ℕ → Float) → ℕ → List Float → List Float
 fill f n x = iter (λ i y. set y i (f i)) n x
 
--- what is filled in: the samples from value `at` on, zeros, and each sample with the one from value `at` on added
+-- what is filled in: the samples from value `at` on, zeros, each sample with the one from value `at` on added, and where the samples m say
+-- that an all-pass of n reads its lines
 abbrev pub fetched : List ℕ → ℕ → ℕ → Float
 fetched ws at i = floatAt ws (at + i)
 
@@ -26,6 +28,9 @@ quiet i = zeroF
 
 abbrev pub added : List ℕ → ℕ → List Float → ℕ → Float
 added ws at x i = add binary32 (sample x i) (floatAt ws (at + i))
+
+abbrev pub positioned : List Float → ℕ → ℕ → Float
+positioned m n i = positionOf (sample m i) n
 
 -- an array filled with the samples from value `at` on, where they are asked for
 unfoldable pub fetchedIf : Bool → List ℕ → ℕ → ℕ → List Float → List Float

@@ -2,12 +2,15 @@
 // one place, in the cell after the samples.
 ghost use mathlib.Core.Path.{_≡_};
 ghost use Prim.Native.Nat.{_+_, _*_, _%_, _≤_, _<_};
+ghost use mathlib.Core.List.{List};
 ghost use lib.ListN.{length, getD};
 ghost use lib.Ieee.{Float};
 ghost use Rattle.leaves.specs.Words.{words};
 ghost use Rattle.leaves.specs.Floats.{floatAt};
+ghost use Rattle.leaves.specs.Floors.{Upto};
+ghost use Rattle.leaves.specs.Position.{positionOf};
 ghost use Rattle.nodes.specs.Rule.{allPass, between};
-ghost use Rattle.nodes.specs.Block.{alone, pair, given};
+ghost use Rattle.nodes.specs.Block.{sample, fill, positioned, alone, pair, given};
 ghost use Rattle.nodes.specs.Cell.{runValues};
 ghost use Rattle.nodes.specs.Ring.{stretchValues};
 use crate::delayn::stretch;
@@ -18,7 +21,8 @@ use leaves::bytes::word_at;
 use leaves::float::load;
 use leaves::float::store;
 use leaves::float::to_bits;
-use leaves::position::modulated;
+use leaves::position::position;
+use leaves::position::split;
 
 // The output for the input x and the delayed input and output.
 fn output(g: f32, x: f32, old_x: f32, old_y: f32) -> f32
@@ -94,7 +98,21 @@ fn wrapped(place: usize, i: usize, n: usize) -> usize
     }
 }
 
-// One sample, where the second source says which neighbours are read.
+// The positions at which the second source m has the rings read. A loop of its own vectorizes: the
+// division and the limits are then done for several samples at once.
+fn positions(m: &[f32; 128], n: usize, size: usize, p: &mut [f32; 128])
+    requires { ⌜ (size ≤ 128) × (n ≤ 132300) ⌝ }
+    ensures { λ _. ⌜ now (p .exit) ≡ fill (positioned (now (m .entry)) n) size (now (p .entry)) ⌝ }
+{
+    let mut i = 0;
+    while i < size {
+        p[i] = position(m[i], n as u32);
+        i += 1;
+    }
+}
+
+// One sample, where the position p[i] says which neighbours are read: the rule's sample for each
+// second source m that gives this position.
 fn modulate(
     cell: &mut [u8],
     n: usize,
@@ -102,15 +120,15 @@ fn modulate(
     place: usize,
     g: f32,
     x: &[f32; 128],
-    m: &[f32; 128],
+    p: &[f32; 128],
     i: usize,
 )
     requires { ⌜ (size ≤ 128) × (n ≤ 132300) × (i < size) × (place < n)
-        × (length (now cell) ≡ 4 * (3 + size + n * 2)) × (g ≡ floatAt (words (now cell)) 0) ⌝ }
-    ensures { λ _. ⌜ ((f : Float) → words (now (cell .exit))
-        ≡ stretchValues (NodeKind.AllPass n f) size (pair (now (x .entry)) (now (m .entry))) place i 1 (words (now (cell .entry)))) ⌝ }
+        × (length (now cell) ≡ 4 * (3 + size + n * 2)) × (g ≡ floatAt (words (now cell)) 0) × Upto n (sample (now p) i) ⌝ }
+    ensures { λ _. ⌜ ((f : Float) (m : List Float) → sample (now (p .entry)) i ≡ positionOf (sample m i) n → words (now (cell .exit))
+        ≡ stretchValues (NodeKind.AllPass n f) size (pair (now (x .entry)) m) place i 1 (words (now (cell .entry)))) ⌝ }
 {
-    let at = modulated(m[i], n as u32);
+    let at = split(p[i]);
     let older = wrapped(place, at.index as usize, n);
     let newer = wrap(older + 1, n);
     let ring = 3 + size;
@@ -129,10 +147,12 @@ fn run_modulated(cell: &mut [u8], n: usize, size: usize, g: f32, x: &[f32; 128],
     ensures { λ _. ⌜ ((f : Float) → words (now (cell .exit))
         ≡ runValues (NodeKind.AllPass n f) size (pair (now (x .entry)) (now (m .entry))) (words (now (cell .entry)))) ⌝ }
 {
+    let mut p = [0.0f32; 128];
+    positions(m, n, size, &mut p);
     let mut place = word_at(cell, 2) as usize;
     let mut i = 0;
     while i < size {
-        modulate(cell, n, size, place, g, x, m, i);
+        modulate(cell, n, size, place, g, x, &p, i);
         place = wrap(place + 1, n);
         i += 1;
     }

@@ -1,7 +1,7 @@
 -- `nodes::apfmsgain::modulate` meets its contract: the neighbours that it reads are those of the rule. Assumes nothing.
 use mathlib.Core.Path.{_≡_, refl, sym, ap, _∙_}
 use mathlib.Core.List.{List}
-use Prim.Native.Nat.{ℕ, _+_, _%_, _≤_, _<_}
+use Prim.Native.Nat.{ℕ, _+_, _%_, _^_, _≤_, _<_}
 use native.Mathlib.Omega.{arith}
 use lib.ListN.{length, set}
 use lib.Ieee.{Float, binary32, ofBits, toBits}
@@ -9,6 +9,7 @@ use Rattle.leaves.specs.Words.{words, length-words}
 use Rattle.leaves.specs.Floats.{floatAt}
 use Rattle.leaves.specs.Floors.{floorOf}
 use Rattle.leaves.specs.Position.{positionOf, restOf}
+use Rattle.leaves.proofs.Floors.{upto-more, floor-le}
 use Rattle.nodes.specs.Kind.{cellSize}
 use Rattle.nodes.specs.Rule.{allPass, between, tap, get}
 use Rattle.nodes.specs.Block.{sample, pair}
@@ -20,8 +21,9 @@ use Rattle.nodes.proofs.apfmsgain.modulate.Statement.{statement}
 use Rattle.nodes.proofs.apfmsgain.modulate.Tie as tie
 
 -- the sample: what it reads, its output and its three stores
-sample-by : (n size place i : ℕ) (f : Float) (x m : List Float) (ws us ts rs : List ℕ) (g a b o rest : Float) (index older newer y : ℕ)
-    → (index ≡ floorOf (positionOf (sample m i) n)) × (rest ≡ restOf (positionOf (sample m i) n)) × (index ≤ n)
+sample-by : (n size place i : ℕ) (f : Float) (x m : List Float) (ws us ts rs : List ℕ) (g a b o pos rest : Float) (index older newer y : ℕ)
+    → pos ≡ positionOf (sample m i) n
+    → (index ≡ floorOf pos) × (rest ≡ restOf pos)
     → (older ≡ (place + index) % n) × (older < n)
     → newer ≡ wrapOf (older + 1) n
     → a ≡ between (floatAt ws (3 + size + older)) (floatAt ws (3 + size + newer)) rest
@@ -33,7 +35,7 @@ sample-by : (n size place i : ℕ) (f : Float) (x m : List Float) (ws us ts rs :
     → rs ≡ set ts (3 + i) y
     → g ≡ floatAt ws 0 → length ws ≡ cellSize size (AllPass n f) → place < n → i < size
     → rs ≡ stretchValues (AllPass n f) size (pair x m) place i 1 ws
-sample-by n size place i f x m ws us ts rs g a b o rest index older newer y e-at e-older e-newer e-a e-b e-o e-y e-us e-ts e-rs e-g long in-ring in-block =
+sample-by n size place i f x m ws us ts rs g a b o pos rest index older newer y e-pos e-at e-older e-newer e-a e-b e-o e-y e-us e-ts e-rs e-g long in-ring in-block =
     all-pass-then n f size (pair x m) ws place i 0 i _ y _ _ _ ws us ts rs (stretch-none (AllPass n f) n (all-pass-ring n f) size (pair x m) ws long place i)
     e-us e-ts e-rs refl (λ q c h v.
     let s = c .state in
@@ -44,7 +46,7 @@ sample-by n size place i f x m ws us ts rs g a b o rest index older newer y e-at
     e-z
     ∙ (λ t. between (float-at size q c (h .samples) ws v (from + older) (at + older) (omega arith) t)
     (float-at size q c (h .samples) ws v (from + newer) (at + newer) (omega arith) t) rest)
-    ∙ tap-two n from s (pair x m i) index older newer rest refl (e-at .0) (e-at .1) (e-older .0 ∙ ap (λ (p : ℕ). (p + index) % n) here)
+    ∙ tap-two n from s (pair x m i) index older newer rest refl (e-at .0 ∙ ap floorOf e-pos) (e-at .1 ∙ ap restOf e-pos) (e-older .0 ∙ ap (λ (p : ℕ). (p + index) % n) here)
     e-newer (e-older .1) in
     e-y
     ∙ ap (toBits binary32)
@@ -52,23 +54,24 @@ sample-by n size place i f x m ws us ts rs g a b o rest index older newer y e-at
     (read 0 (3 + size) a (omega arith) e-a) (read n (3 + size + n) b refl e-b)))
     long (omega arith) in-block (omega arith) (omega arith) (omega arith) refl
 
-mul-modulated : tie.Need-mul-modulated
-mul-modulated c = search needs
+mul-split : tie.Need-mul-split
+mul-split c = search needs
 
-element-copy-out-modulated : tie.Need-element-copy-out-modulated
-element-copy-out-modulated c = search needs
+element-copy-out-split : tie.Need-element-copy-out-split
+element-copy-out-split c = search needs
 
-cast-modulated : tie.Need-cast-modulated
-cast-modulated c = search needs
-
-modulated-requires : tie.Need-modulated-requires
-modulated-requires c κs = search needs
+split-requires : tie.Need-split-requires
+split-requires c κs =
+    let s = c .before .before in
+    upto-more (s .args .n) (2 ^ 24) (sample (s .args .p .now) (s .args .i)) (omega arith) (s .pre .6)
 
 cast-wrapped : tie.Need-cast-wrapped
 cast-wrapped c = search needs
 
 wrapped-requires : tie.Need-wrapped-requires
-wrapped-requires c κs = search needs
+wrapped-requires c κs =
+    let s = c .before .before .before .before in
+    (omega arith, omega (arith, c .before .split .ensures .0, floor-le (sample (s .args .p .now) (s .args .i)) (s .args .n) (s .pre .6)))
 
 add-wrap : tie.Need-add-wrap
 add-wrap c = search needs
@@ -137,14 +140,14 @@ same-length : tie.Need-same-length
 same-length c = search needs
 
 returns : tie.Need-returns
-returns c f =
+returns c f m e =
     let p = c .before .before .before .before .before .before in
     let t = p .before .before .before .before in
     let r = t .before .before .before in
     let w = r .before .before .before .before .before .before .before in
     let s = w .before .before .before .before .before .before in
     let a = s .args in
-    sample-by (a .n) (a .size) (a .place) (a .i) f (a .x .now) (a .m .now) (words (a .cell .now)) _ _ _ _ _ _ _ _ _ _ _ _ (w .before .before .before .modulated .ensures)
+    sample-by (a .n) (a .size) (a .place) (a .i) f (a .x .now) m (words (a .cell .now)) _ _ _ _ _ _ _ _ _ _ _ _ _ e (w .before .before .before .split .ensures)
     (w .before .wrapped .ensures) (w .wrap .ensures) (r .before .before .before .before .before .between .ensures) (r .before .before .before .between2 .ensures)
     (r .before .output .ensures) (r .to-bits .ensures) (t .store .ensures) (p .put-word .ensures) (c .before .before .put-word2 .ensures)
     (s .pre .5) (omega (arith, length-words (a .cell .now), s)) (omega (arith, s)) (omega (arith, s))
@@ -153,10 +156,9 @@ pub modulate-spec : {M : Type 1} → statement M
 modulate-spec =
     tie.close
     (tie.spec
-    mul-modulated
-    element-copy-out-modulated
-    cast-modulated
-    modulated-requires
+    mul-split
+    element-copy-out-split
+    split-requires
     cast-wrapped
     wrapped-requires
     add-wrap
