@@ -1,7 +1,7 @@
 -- `nodes::apfmsgain::modulate` meets its contract: the neighbours that it reads are those of the rule. Assumes nothing.
 use mathlib.Core.Path.{_≡_, refl, sym, ap, _∙_}
 use mathlib.Core.List.{List}
-use Prim.Native.Nat.{ℕ, _+_, _%_, _^_, _≤_, _<_}
+use Prim.Native.Nat.{ℕ, _+_, _%_, _^_, _<_}
 use native.Mathlib.Omega.{arith}
 use lib.ListN.{length, set}
 use lib.Ieee.{Float, binary32, ofBits, toBits}
