@@ -1,0 +1,2 @@
+-- What the contracts of `plate` cite: document 01's plate, its writer and its mix message.
+pub mod Plate
