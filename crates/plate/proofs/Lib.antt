@@ -2,3 +2,4 @@
 pub mod Stores
 pub mod Tables
 pub mod Written
+pub mod PlateFacts
