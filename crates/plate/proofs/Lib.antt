@@ -2,4 +2,5 @@
 pub mod Stores
 pub mod Tables
 pub mod Written
+pub mod Dry
 pub mod PlateFacts

@@ -3,12 +3,17 @@
 use Prim.Native.Nat.{ℕ, _+_, _*_, _≤_, _<_}
 use mathlib.Core.Path.{_≡_, refl, sym, ap, _∙_}
 use mathlib.Core.Bool.{Bool, true, false, _&&_, false≢true, and-eq-true-iff}
-use mathlib.Core.List.{List, [], _∷_}
+use mathlib.Core.List.{List, [], _∷_, map}
 use native.Mathlib.Omega.{arith}
 use borrow.Author.Tests.{ltb-true, lt-ltb}
 use lib.ListN.{length}
-use lib.Dec.{ltb}
-use lib.Ieee.{ofBits, le}
+use lib.Dec.{T, ltb}
+use lib.Ieee.{Float, binary32, ofBits, toBits, fits, round, add, sub, mul, div, eq, lt, le}
+use lib.Ieee.Fits.{sub-fits}
+use Rattle.leaves.specs.Floors.{f1, finiteF, within, floorOf}
+use Rattle.leaves.specs.Lengths.{samplesOf, delayOf, allPassOf, placeOf}
+use Rattle.leaves.specs.declared.lengths.Length.the-variants.{Samples}
+use Rattle.leaves.proofs.Patterns.{pattern-lt, finite-float}
 use Rattle.nodes.specs.Kind.{lineOf, finite, ruleOf}
 use Rattle.nodes.specs.declared.kind.Rule.{Rule}
 use Rattle.nodes.specs.declared.kind.Rule.the-variants.{Is, Broken}
@@ -21,14 +26,16 @@ use Rattle.graph.specs.Sources.{distinct}
 use Rattle.graph.specs.Tail.{endless, tailBy, tailOf}
 use Rattle.graph.specs.Visit.{visitingList}
 use Rattle.graph.specs.Write.{NodeCard, Card, kindOf, parsedOf, writeBoard, NodeObeys, WireObeys, SourcesObey, Obeys, noNode, noWire}
+use Rattle.graph.specs.declared.answer.Answer.{Answer}
 use Rattle.graph.proofs.RoundObeys.{from-each, nodes-told, wires-told}
 use Rattle.graph.proofs.RoundRule.{kind-told}
 use Rattle.graph.proofs.RoundRun.{NodeFits, NodesFit, WireFits, WiresFit}
 use Rattle.graph.proofs.RoundSix.{Free, six-told}
 use Rattle.graph.proofs.Round.{judge-written}
-use Rattle.plate.specs.Plate.{plateNodes, plateWires, plateCard}
-use Rattle.plate.specs.Facts.{PlateFacts}
-use Rattle.plate.proofs.Written.{plate-long}
+use Rattle.plate.specs.Plate.{plateNodes, plateWires, plateCard, dryOf, writeOf}
+use Rattle.plate.specs.Facts.{allPassLines, milliseconds, PlateFacts, WrittenPlate}
+use Rattle.plate.proofs.Written.{plate-long, size-in, written}
+use Rattle.plate.proofs.Dry.{dry-finite}
 
 -- ---- what a card must obey, as tests that antt computes
 
@@ -114,6 +121,10 @@ card-obeys c least most ns ws six =
 
 -- ---- the plate
 
+delay-long : delayOf (ofBits binary32 0x4248_0000) ≡ Samples 2205
+unfolding delayOf within samplesOf floorOf round mul div eq lt le ofBits
+delay-long = refl
+
 module _ (N mix dry : ℕ) where
   abbrev plate : Card
   plate = plateCard N mix dry
@@ -138,6 +149,10 @@ module _ (N mix dry : ℕ) where
   unfolding plateWires visitingList lateWires isLate
   late-one = refl
 
+  asked : map (λ (ms : ℕ). placeOf (allPassOf (ofBits binary32 ms))) milliseconds ≡ allPassLines (plateNodes mix dry)
+  unfolding plateNodes allPassOf within samplesOf floorOf round mul div eq lt le ofBits
+  asked = refl
+
   module _ (mix-fits : mix < 4294967296) (mix-finite : finite mix ≡ true) (dry-fits : dry < 4294967296) (dry-finite : finite dry ≡ true) where
     nodes-right : nodesTest 0 0 (plate .nodes) ≡ true
     unfolding plateNodes kindOf ruleOf ofBits le
@@ -154,9 +169,30 @@ module _ (N mix dry : ℕ) where
         wire-count = refl;
         byte-count = plate-long N mix dry;
         all-passes = refl;
+        all-passes-asked = asked;
+        delay-asked = delay-long;
         repeats = refl;
         late = late-one;
         tail = tail-endless;
         obeys = plate-obeys;
         judged = judge-written plate plate-obeys ∙ ap (answer 0) memory-long;
       }
+
+-- ---- the written plate
+
+finite-bits : (x : Float) → T (fits binary32 x) → finiteF x ≡ true → finite (toBits binary32 x) ≡ true
+finite-bits x h e = sym (finite-float x h) ∙ e
+
+pub plate-written : (N : ℕ) (mix : Float) (b : List ℕ) → 1 ≤ N → N ≤ 128 → T (fits binary32 mix) → finiteF mix ≡ true → length b ≡ 1270 → WrittenPlate N mix b
+plate-written N mix b least most mix-fits number long =
+    let e = written N mix b (size-in N least most) number long in
+    let dry-fits = sub-fits binary32 f1 mix in
+    let facts =
+        plate-facts N (toBits binary32 mix) (toBits binary32 (dryOf mix)) (pattern-lt mix mix-fits) (finite-bits mix mix-fits number)
+        (pattern-lt (dryOf mix) dry-fits) (finite-bits (dryOf mix) dry-fits (dry-finite mix mix-fits number)) least most in
+    record {
+      answered = ap (λ (p : Answer × List ℕ). p .0) e;
+      bytes = ap (λ (p : Answer × List ℕ). p .1) e;
+      facts = facts;
+      accepted = ap (λ (p : Answer × List ℕ). judgeOf (p .1)) e ∙ facts .judged;
+    }
