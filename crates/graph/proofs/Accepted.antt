@@ -119,7 +119,7 @@ module _ (s : List ℕ) (b : Board) (read : Read (readBoard s) b) where
           inside = omega (arith, start, read .sound .values-sum, cells-apart (b .size) (b .nodes) d i (b .count) l fits);
         }
 
-    pub table-at : (v : ℕ) → v < 64 → TableAt (wiresOf (b .sources) (b .targets) (b .wires)) (b .count) b v
+    pub table-at : (v : ℕ) → v < 64 → TableAt b v
     table-at v l =
         let ws = wiresOf (b .sources) (b .targets) (b .wires) in
         let table = read .sound .table in

@@ -1,6 +1,6 @@
 -- What is known where a record is found: its bytes are there, it stands in order, and a refusal has a number. Assumes nothing.
 use Prim.Native.Nat.{ℕ, _+_, _-_, _≤_, _<_}
-use mathlib.Core.Path.{_≡_, refl}
+use mathlib.Core.Path.{_≡_, refl, sym, subst, _∙_}
 use mathlib.Core.List.{List}
 use mathlib.Core.Bool.{Bool, true, false, _&&_}
 use native.Mathlib.Omega.{arith}
@@ -63,6 +63,10 @@ found-room s at last =
     (λ o. let there = neither (ltb (length s - at) 4) (ltb (length s - at) z) e in
     found-of-room (length s) at last k z (omega (arith, ltb-false (length s - at) 4 (there .0), ltb-false (length s - at) z (there .1))) o)
     (λ _. omega arith))
+
+-- the same of a record that the code found
+pub room-of : (s : List ℕ) (at last : ℕ) {x f : Found} → x ≡ foundAt s at last → x ≡ f → Room (length s) at last f
+room-of s at last e q = subst (Room (length s) at last) (sym e ∙ q) (found-room s at last)
 
 -- ---- what may follow the head may follow a node, and what ends the nodes may follow a wire
 

@@ -30,6 +30,15 @@ pub mod RoundSix
 pub mod RoundRefused
 pub mod Round
 pub mod RoundWorked
+pub mod FineBoard
+pub mod CallChecks
+pub mod CallCells
+pub mod CallFresh
+pub mod CallLaws
+pub mod CallStarts
+pub mod CallRun
+pub mod CallBlock
+pub mod Ending
 pub mod Formed
 pub mod Accepted
 pub mod JudgeCases

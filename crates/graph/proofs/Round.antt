@@ -29,7 +29,7 @@ abbrev Joins : Card → ℕ → Wire → Type 0
 Joins c j w = WireObeys (length (c .nodes)) w
 
 -- where a pass stands is no place past the end
-beyond : (ds : List NodeCard) (i : ℕ) → (getD ds i noNode) .type ≡ 1 → i < length ds
+pub beyond : (ds : List NodeCard) (i : ℕ) → (getD ds i noNode) .type ≡ 1 → i < length ds
 beyond [] i e = absurd (omega arith)
 beyond (d ∷ ds) zero e = omega arith
 beyond (d ∷ ds) (suc i) e = omega (arith, beyond ds i e)

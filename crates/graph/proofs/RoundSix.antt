@@ -37,7 +37,7 @@ pass-at N (d ∷ ds) at (suc i) j h = pass-at N ds _ i (j + 1) (h .1)
 abbrev pub Free : ℕ → ℕ → Wire → Type 0
 Free k j w = w .target ≡ k → ⊥
 
-free-in : (k : ℕ) (ws : List Wire) (j : ℕ) → EachFrom (Free k) j ws → length (sources ws k) ≡ 0
+pub free-in : (k : ℕ) (ws : List Wire) (j : ℕ) → EachFrom (Free k) j ws → length (sources ws k) ≡ 0
 free-in k [] j h = refl
 free-in k (w ∷ ws) j h = rw (ne-eqb (w .target) k (h .0)) (free-in k ws (j + 1) (h .1))
 
@@ -56,7 +56,7 @@ module _ (ws : List Wire) (i : ℕ) (d : NodeCard) where
   abbrev count : ℕ
   count = length (distinctSources ws i)
 
-  sources-fit : SourcesObey ws i d → sourcesFit (kindOf d) count ≡ true
+  pub sources-fit : SourcesObey ws i d → sourcesFit (kindOf d) count ≡ true
   sources-fit h =
       let e = sources-counted ws i (h .sources) (h .once) (h .same) in
       let lo : fewest (kindOf d) ≤ count = omega (arith, h .least-sources) in

@@ -33,7 +33,7 @@ module _ (s : List ℕ) where
   run-next (suc n) r = run-next n (stepOf s r)
 
   -- a reading that is done stays as it is
-  run-done : (n : ℕ) (r : Reading) → Done r → run n s r ≡ r
+  pub run-done : (n : ℕ) (r : Reading) → Done r → run n s r ≡ r
   unfolding run stepOf
   run-done zero r d = refl
   run-done (suc n) (going at last p) d = absurd d

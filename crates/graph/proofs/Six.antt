@@ -109,7 +109,7 @@ module _ (nodes : List NodeRecord) (n : ℕ) (fits : n ≤ length nodes) where
     pub pass-here : passAt (take n nodes) i ≡ isPass ((getD nodes i d) .kind)
     pass-here = pass-getD (take n nodes) i d inside ∙ ap (λ (r : NodeRecord). isPass (r .kind)) (getD-take n nodes i d within)
 
-    node-here : drop i (take n nodes) ≡ getD nodes i d ∷ drop (suc i) (take n nodes)
+    pub node-here : drop i (take n nodes) ≡ getD nodes i d ∷ drop (suc i) (take n nodes)
     node-here = drop-cons (take n nodes) i d inside ∙ ap (λ (r : NodeRecord). r ∷ drop (suc i) (take n nodes)) (getD-take n nodes i d within)
 
     -- ---- the walk over the nodes

@@ -1,7 +1,7 @@
 -- What holds of every accepted board, for the calls that go on with it; proofs/Formed.antt proves it of `readBoard`. Definitions only.
 use Prim.Native.Nat.{ℕ, _+_, _*_, _≤_, _<_}
 use mathlib.Core.Path.{_≡_}
-use mathlib.Core.List.{List, []}
+use mathlib.Core.List.{[]}
 use mathlib.Core.Bool.{Bool, true}
 use lib.Ieee.{Float, ofBits, binary32}
 use lib.ListN.{length, getD, take}
@@ -11,6 +11,7 @@ use Rattle.nodes.specs.declared.kind.NodeKind.the-variants.{Pass, Sum, Destinat
 use Rattle.nodes.specs.declared.kind.NodeRecord.{NodeRecord}
 use Rattle.reading.specs.Order.{Wire, Each, sources}
 use Rattle.graph.specs.Sources.{distinctSources}
+use Rattle.graph.specs.Wires.{wiresOf}
 use Rattle.graph.specs.Board.{Parsed, linesOf, cellsOf, memoryLength, placed}
 use Rattle.graph.specs.declared.board.Board.{Board}
 
@@ -81,8 +82,8 @@ pub record NodeAt (b : Board) (d : NodeRecord) (i : ℕ) : Type 0 where
   pub inside : (getD (b .nodes) i d) .cell + cellSize (b .size) ((getD (b .nodes) i d) .kind) ≤ b .values
 
 -- node v of an accepted board's table: at most eight sources, all of them listed, and nodes
-pub record TableAt (ws : List Wire) (n : ℕ) (b : Board) (v : ℕ) : Type 0 where
+pub record TableAt (b : Board) (v : ℕ) : Type 0 where
   pub few : getD (b .counts) v 0 ≤ 8
-  pub count-is : getD (b .counts) v 0 ≡ length (distinctSources ws v)
-  pub source-is : (j : ℕ) → j < getD (b .counts) v 0 → getD (b .lists) (8 * v + j) 0 ≡ getD (distinctSources ws v) j 0
-  pub source-in : (j : ℕ) → j < getD (b .counts) v 0 → getD (b .lists) (8 * v + j) 0 < n
+  pub count-is : getD (b .counts) v 0 ≡ length (distinctSources (wiresOf (b .sources) (b .targets) (b .wires)) v)
+  pub source-is : (j : ℕ) → j < getD (b .counts) v 0 → getD (b .lists) (8 * v + j) 0 ≡ getD (distinctSources (wiresOf (b .sources) (b .targets) (b .wires)) v) j 0
+  pub source-in : (j : ℕ) → j < getD (b .counts) v 0 → getD (b .lists) (8 * v + j) 0 < b .count

@@ -47,6 +47,46 @@ pub struct Wires {
     pub next: usize,
 }
 
+impl Nodes {
+    fn new(
+        refused: Answer,
+        count: usize,
+        nodes: [NodeRecord; 64],
+        values: usize,
+        next: usize,
+    ) -> Self
+        ensures { λ r. ⌜ r ≡ record { refused = refused; count = count; nodes = nodes; values = values; next = next } ⌝ }
+    {
+        Nodes {
+            refused,
+            count,
+            nodes,
+            values,
+            next,
+        }
+    }
+}
+
+impl Wires {
+    fn new(
+        refused: Answer,
+        count: usize,
+        sources: [u8; 128],
+        targets: [u8; 128],
+        next: usize,
+    ) -> Self
+        ensures { λ r. ⌜ r ≡ record { refused = refused; count = count; sources = sources; targets = targets; next = next } ⌝ }
+    {
+        Wires {
+            refused,
+            count,
+            sources,
+            targets,
+            next,
+        }
+    }
+}
+
 // The board as read. Where it is refused by checks 1 to 5 there are no nodes and no wires. `values` are
 // those of all cells; counts, lists and seconds are the table of sources.
 pub struct Board {
@@ -89,6 +129,7 @@ fn no_head(number: u32) -> Head
     }
 }
 
+// The head's body: the block size is from 1 to 128.
 fn head_body(s: &[u8]) -> Head
     requires { ⌜ 8 ≤ length (now s) ⌝ }
     ensures { λ r. ⌜ HeadRead (headBy 0 (u16At (now (s .entry)) 4) (u16At (now (s .entry)) 6)) r ⌝ }
@@ -106,7 +147,8 @@ fn head_body(s: &[u8]) -> Head
     }
 }
 
-pub fn read_head(s: &[u8]) -> Head
+// The head, which alone may stand at offset 0.
+fn read_head(s: &[u8]) -> Head
     ensures { λ r. ⌜ HeadRead (stepOf (now (s .entry)) (going 0 0 (headed 0 0))) r ⌝ }
 {
     match found_at(s, 0, 0) {
@@ -129,6 +171,7 @@ fn placed(i: usize, k: NodeKind) -> bool
     }
 }
 
+// Whether it may follow i nodes with so many line values.
 fn node_fits(i: usize, lines: usize, k: NodeKind) -> bool
     requires { ⌜ lines ≤ 262144 ⌝ }
     ensures { λ r. ⌜ r ≡ nodeFits i lines k ⌝ }
@@ -170,16 +213,21 @@ fn node_at(s: &[u8], at: usize, i: usize, lines: usize) -> NodeRead
     }
 }
 
-// The nodes after a head with this block size. Each cell starts where those before it end.
-pub fn read_nodes(s: &[u8], size: usize) -> Nodes
-    requires { ⌜ (size ≤ 128) × (8 ≤ length (now s)) ⌝ }
-    ensures { λ r. ⌜ NodesRead (now (s .entry)) size r ⌝ }
-{
-    let mut nodes = [NodeRecord {
+// What fills an array of nodes before they are read.
+fn blank() -> NodeRecord {
+    NodeRecord {
         kind: NodeKind::Pass,
         channels: 0,
         cell: 0,
-    }; 64];
+    }
+}
+
+// The nodes after a head with this block size. Each cell starts where those before it end.
+fn read_nodes(s: &[u8], size: usize) -> Nodes
+    requires { ⌜ (size ≤ 128) × (8 ≤ length (now s)) ⌝ }
+    ensures { λ r. ⌜ NodesRead (now (s .entry)) size r ⌝ }
+{
+    let mut nodes = [blank(); 64];
     let mut count = 0;
     let mut lines = 0;
     let mut values = 0;
@@ -199,28 +247,15 @@ pub fn read_nodes(s: &[u8], size: usize) -> Nodes
                 values += 3 + size * channels + line;
                 next += 14;
             }
-            NodeRead::Over => {
-                return Nodes {
-                    refused: Answer::new(0, 0),
-                    count,
-                    nodes,
-                    values,
-                    next,
-                };
-            }
+            NodeRead::Over => return Nodes::new(Answer::new(0, 0), count, nodes, values, next),
             NodeRead::Refused(number) => {
-                return Nodes {
-                    refused: Answer::new(number, next),
-                    count,
-                    nodes,
-                    values,
-                    next,
-                };
+                return Nodes::new(Answer::new(number, next), count, nodes, values, next);
             }
         }
     }
 }
 
+// Whether a wire from a to t may follow w wires, on a board of i nodes.
 fn wire_fits(i: usize, w: usize, a: u16, t: u16) -> bool
     ensures { λ r. ⌜ r ≡ wireFits i w a t ⌝ }
 {
@@ -256,7 +291,7 @@ fn wire_at(s: &[u8], at: usize, i: usize, w: usize) -> WireRead
 }
 
 // The wires from the offset `start` on, on a board of i nodes.
-pub fn read_wires(s: &[u8], start: usize, i: usize) -> Wires
+fn read_wires(s: &[u8], start: usize, i: usize) -> Wires
     requires { ⌜ (i ≤ 64) × (start ≤ 904) × (start ≤ length (now s)) ⌝ }
     ensures { λ r. ⌜ WiresRead (now (s .entry)) start i r ⌝ }
 {
@@ -272,30 +307,16 @@ pub fn read_wires(s: &[u8], start: usize, i: usize) -> Wires
                 count += 1;
                 next += 8;
             }
-            WireRead::Over => {
-                return Wires {
-                    refused: Answer::new(0, 0),
-                    count,
-                    sources,
-                    targets,
-                    next,
-                };
-            }
+            WireRead::Over => return Wires::new(Answer::new(0, 0), count, sources, targets, next),
             WireRead::Refused(number) => {
-                return Wires {
-                    refused: Answer::new(number, next),
-                    count,
-                    sources,
-                    targets,
-                    next,
-                };
+                return Wires::new(Answer::new(number, next), count, sources, targets, next);
             }
         }
     }
 }
 
 // The end record at `at` is the board's last.
-pub fn read_end(s: &[u8], at: usize) -> Answer
+fn read_end(s: &[u8], at: usize) -> Answer
     requires { ⌜ at ≤ 1928 ⌝ }
     ensures { λ r. ⌜ ((p : Parsed) → endBy (now (s .entry)) at p ≡ orRefused r (whole p)) ⌝ }
 {
@@ -311,11 +332,7 @@ fn refusal(answer: Answer) -> Board
     requires { ⌜ 0 < answer .number ⌝ }
     ensures { λ r. ⌜ Read (refused (answer .number) (answer .place)) r ⌝ }
 {
-    let nodes = [NodeRecord {
-        kind: NodeKind::Pass,
-        channels: 0,
-        cell: 0,
-    }; 64];
+    let nodes = [blank(); 64];
     let wires = [0u8; 128];
     let counts = [0u8; 64];
     let lists = [0u8; 512];

@@ -8,12 +8,7 @@ ghost use Rattle.graph.specs.Board.{wire};
 ghost use Rattle.graph.specs.Wires.{wiresOf};
 ghost use Rattle.graph.specs.Visit.{visitingList, Nodes, Lists, Table, Gathered, Ready, Visited};
 ghost use Rattle.graph.specs.Late.{isLate, lateWires, Placed};
-
-pub fn wide(x: u8) -> usize
-    ensures { λ r. ⌜ r ≡ x ⌝ }
-{
-    x as usize
-}
+use crate::sources::wide;
 
 // The walk from `node`, which is not marked yet: marks it, goes to each of its sources that is not
 // marked, then lists it after the `count` nodes listed so far. Returns how many are listed then.

@@ -44,6 +44,7 @@ fn sources_judged(board: Board) -> Answer
     Answer::new(0, 0)
 }
 
+// Check 6: there is a node 0, then the input node, then the sources of each node.
 fn judged(board: Board) -> Answer
     requires { ⌜ Sound board ⌝ }
     ensures { λ r. ⌜ checkSix (parsedOf board) ≡ orRefused r (whole (parsedOf board)) ⌝ }

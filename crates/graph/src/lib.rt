@@ -7,3 +7,4 @@ pub mod record;
 pub mod sources;
 pub mod graph;
 pub mod tail;
+pub mod context;

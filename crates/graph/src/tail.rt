@@ -8,7 +8,7 @@ ghost use Rattle.graph.specs.Visit.{Nodes};
 ghost use Rattle.graph.specs.Tail.{delays, onlyDelays, listedLines, endless, tailBy, LinesFit};
 use crate::graph::late_count;
 use crate::graph::places;
-use crate::graph::wide;
+use crate::sources::wide;
 use nodes::kind::NodeKind;
 use nodes::kind::NodeRecord;
 use nodes::kind::line_of;

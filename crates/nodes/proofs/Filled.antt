@@ -2,15 +2,19 @@
 -- Assumes nothing.
 use mathlib.Core.Path.{_≡_, refl, sym, ap, _∙_}
 use mathlib.Core.Logic.{⊎-elim}
+use mathlib.Core.Bool.{Bool, true, false, cond}
 use mathlib.Core.List.{List}
 use Prim.Native.Nat.{ℕ, zero, suc, _+_, _≤_, _<_}
 use native.Mathlib.Nat.{le-of-suc-le-suc, eq-or-lt-of-le}
 use native.Mathlib.Omega.{arith}
-use lib.ListN.{length, getD, set, length-set}
-use lib.Seq.{getD-set-same, getD-set-other}
+use lib.Dec.{ltb}
+use borrow.Author.Tests.{ltb-true, ltb-false}
+use lib.ListN.{length, set, length-set}
+use lib.Seq.{getD-set-same, getD-set-other, ext-getD}
 use lib.Ieee.{Float, nan}
+use Rattle.leaves.specs.Floats.{floatAt}
 use Rattle.nodes.specs.Iter.{iter}
-use Rattle.nodes.specs.Block.{sample, fill}
+use Rattle.nodes.specs.Block.{sample, fetched, fetchedIf, fill}
 
 pub length-fill : (f : ℕ → Float) (n : ℕ) (x : List Float) → length (fill f n x) ≡ length x
 unfolding fill iter
@@ -38,3 +42,39 @@ pub fill-same : (f g : ℕ → Float) (n : ℕ) (x : List Float) → ((i : ℕ) 
 unfolding fill iter
 fill-same f g zero x h = refl
 fill-same f g (suc n) x h = ap (set (fill f n x) n) (h n (omega arith)) ∙ ap (λ (y : List Float). set y n (g n)) (fill-same f g n x (λ i b. h i (omega arith)))
+
+-- filling again what was filled
+pub fill-over : (f g : ℕ → Float) (n : ℕ) (x : List Float) → n ≤ length x → fill g n (fill f n x) ≡ fill g n x
+fill-over f g n x long =
+    ext-getD nan (fill g n (fill f n x)) (fill g n x)
+    (length-fill g n (fill f n x) ∙ length-fill f n x ∙ sym (length-fill g n x))
+    (λ i h. at i (ltb i n) refl)
+  where
+    at : (i : ℕ) (b : Bool) → ltb i n ≡ b → sample (fill g n (fill f n x)) i ≡ sample (fill g n x) i
+    at i true e =
+        fill-at g n (fill f n x) (omega (arith, length-fill f n x)) i (ltb-true i n e) ∙ sym (fill-at g n x long i (ltb-true i n e))
+    at i false e =
+        let h : n ≤ i = ltb-false i n e in fill-ahead g n (fill f n x) i h ∙ fill-ahead f n x i h ∙ sym (fill-ahead g n x i h)
+
+-- samples that are fetched where they are asked for
+module _ (asked : Bool) (ws : List ℕ) (at n : ℕ) (x y : List Float) where
+  pub fetch-asked : asked ≡ true → y ≡ fill (fetched ws at) n x → y ≡ fetchedIf asked ws at n x
+  unfolding fetchedIf
+  fetch-asked e f = f ∙ ap (λ (b : Bool). fetchedIf b ws at n x) (sym e)
+
+  pub fetch-not : asked ≡ false → y ≡ x → y ≡ fetchedIf asked ws at n x
+  unfolding fetchedIf
+  fetch-not e f = f ∙ ap (λ (b : Bool). fetchedIf b ws at n x) (sym e)
+
+  pub fetch-at : asked ≡ true → n ≤ length x → y ≡ fetchedIf asked ws at n x → (i : ℕ) → i < n → floatAt ws (at + i) ≡ sample y i
+  unfolding fetchedIf
+  fetch-at e long f i h =
+      sym (ap (λ (u : List Float). sample u i) (f ∙ ap (λ (b : Bool). fetchedIf b ws at n x) e) ∙ fill-at (fetched ws at) n x long i h)
+
+  pub fetch-long : y ≡ fetchedIf asked ws at n x → length y ≡ length x
+  unfolding fetchedIf
+  fetch-long f = ap length f ∙ go asked
+    where
+      go : (b : Bool) → length (cond b (fill (fetched ws at) n x) x) ≡ length x
+      go true = length-fill (fetched ws at) n x
+      go false = refl

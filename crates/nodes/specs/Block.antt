@@ -27,9 +27,23 @@ quiet i = zeroF
 abbrev pub added : List ℕ → ℕ → List Float → ℕ → Float
 added ws at x i = add binary32 (sample x i) (floatAt ws (at + i))
 
--- the values after the n samples of a block are stored from `at` on
-unfoldable pub putBlock : List Float → ℕ → ℕ → List ℕ → List ℕ
-putBlock x at n ws = iter (λ i vs. set vs (at + i) (toBits binary32 (sample x i))) n ws
+-- an array filled with the samples from value `at` on, where they are asked for
+unfoldable pub fetchedIf : Bool → List ℕ → ℕ → ℕ → List Float → List Float
+fetchedIf asked ws at n x = cond asked (fill (fetched ws at) n x) x
+
+-- the values after n floats are stored from `at` on, and after the n samples of a block are
+unfoldable pub stored : (ℕ → Float) → ℕ → ℕ → List ℕ → List ℕ
+stored y at n ws = iter (λ i vs. set vs (at + i) (toBits binary32 (y i))) n ws
+
+abbrev pub putBlock : List Float → ℕ → ℕ → List ℕ → List ℕ
+putBlock x at n ws = stored (sample x) at n ws
+
+-- what an operator stores: each sample with a number, or with the other block's sample
+abbrev pub opNumber : (Float → Float → Float) → List Float → Float → ℕ → Float
+opNumber op x g i = op (sample x i) g
+
+abbrev pub opSources : (Float → Float → Float) → List Float → List Float → ℕ → Float
+opSources op x m i = op (sample x i) (sample m i)
 
 -- place i of the blocks that start at the values `starts` gives for each node of a list
 abbrev pub samplesAt : List ℕ → List ℕ → List ℕ → ℕ → List Float

@@ -5,13 +5,14 @@ use mathlib.Core.Bool.{true}
 use mathlib.Core.List.{List}
 use lib.ListN.{length, getD}
 use lib.Seq.{paste}
+use lib.Ieee.{Float}
 use Rattle.leaves.specs.Words.{words}
 use Rattle.leaves.specs.Floats.{floatAt}
 use Rattle.leaves.specs.Parts.{part}
 use Rattle.nodes.specs.Kind.{cellSize, sourcesFit}
-use Rattle.nodes.specs.Rule.{Brought}
+use Rattle.nodes.specs.Rule.{Brought, first, total}
 use Rattle.nodes.specs.Cell.{cellFits, runValues}
-use Rattle.nodes.specs.Block.{samplesAt, InMemory}
+use Rattle.nodes.specs.Block.{sample, samplesAt, InMemory}
 use Rattle.nodes.specs.declared.kind.NodeKind.{NodeKind}
 use Rattle.nodes.specs.declared.kind.NodeKind.the-variants.{Pass, Sum, Destination, Balance, Mul, Add, Delay, AllPass, OnePole, Sine}
 
@@ -44,6 +45,7 @@ LineFits (Sine f) = Unit {0}
 
 -- what a block run asks: the board and the memory are judged, and every block lies within the memory m
 pub record Ready (m : List ℕ) (k : NodeKind) (N at : ℕ) (list lefts rights : List ℕ) (second : ℕ) : Type 0 where
+  pub above : 0 < N
   pub small : N ≤ 128
   pub line : LineFits k
   pub inside : 4 * (at + cellSize N k) ≤ length m
@@ -55,3 +57,36 @@ pub record Ready (m : List ℕ) (k : NodeKind) (N at : ℕ) (list lefts rights :
   pub right-in : InMemory list rights N (length m)
   pub second-below : second < 64
   pub second-in : 4 * (getD lefts second 0 + N) ≤ length m
+
+-- ---- inside a block run: what a type's loop is given
+
+-- x and m are what a type's loop is given of what the wires bring at one place: the first and the second of n sources, or the sum of
+-- the sources, of the destination one for each channel
+abbrev pub Operands : ℕ → Brought → Float → Float → Type 0
+Operands n b x m = (0 < n → first b ≡ x) × (1 < n → b .second ≡ m)
+
+abbrev pub Gives : NodeKind → ℕ → Brought → Float → Float → Type 0
+Gives Pass n b x m = Operands n b x m
+Gives Sum n b x m = total (b .left) ≡ x
+Gives Destination n b x m = (total (b .left) ≡ x) × (total (b .right) ≡ m)
+Gives Balance n b x m = Operands n b x m
+Gives (Mul f) n b x m = Operands n b x m
+Gives (Add f) n b x m = Operands n b x m
+Gives (Delay l) n b x m = Operands n b x m
+Gives (AllPass l f) n b x m = Operands n b x m
+Gives (OnePole f) n b x m = Operands n b x m
+Gives (Sine f) n b x m = Operands n b x m
+
+-- the same for each place of the blocks x and m, of n sources
+pub record Supplies (k : NodeKind) (n N : ℕ) (x m : List Float) (bs : ℕ → Brought) : Type 0 where
+  pub counted : (i : ℕ) → i < N → length (bs i .left) ≡ n
+  pub gives : (i : ℕ) → i < N → Gives k n (bs i) (sample x i) (sample m i)
+
+-- what a block run asks of the cell that it is lent, where there are n sources
+pub record CellReady (cell : List ℕ) (k : NodeKind) (N n : ℕ) : Type 0 where
+  pub above : 0 < N
+  pub small : N ≤ 128
+  pub line : LineFits k
+  pub whole : length cell ≡ 4 * cellSize N k
+  pub judged : cellFits k (words cell) ≡ true
+  pub counted : sourcesFit k n ≡ true

@@ -1,8 +1,11 @@
 // The nodes.
-pub mod cell;
-pub mod kind;
-pub mod onepole;
-pub mod sin_osc;
 pub mod apfmsgain;
+pub mod block;
+pub mod cell;
 pub mod delayn;
 pub mod kind;
+pub mod node;
+pub mod onepole;
+pub mod operator;
+pub mod sin_osc;
+pub mod sum;

@@ -1,13 +1,18 @@
 // One node's block: its sources' blocks are fetched first, then its own cell is lent to its type's
 // loop, so that nothing else can change.
 ghost use mathlib.Core.Path.{_≡_};
-ghost use Prim.Native.Nat.{_+_, _*_, _≤_, _<_};
-ghost use lib.ListN.{length};
+ghost use Prim.Native.Nat.{ℕ, _+_, _*_, _≤_, _<_};
+ghost use lib.Dec.{ltb};
+ghost use lib.ListN.{length, getD};
 ghost use Rattle.leaves.specs.Words.{words};
-ghost use Rattle.nodes.specs.Node.{broughtAt, nodeRun, Ready};
+ghost use Rattle.nodes.specs.Rule.{Brought};
+ghost use Rattle.nodes.specs.Cell.{runValues};
+ghost use Rattle.nodes.specs.Block.{fetchedIf, InMemory};
+ghost use Rattle.nodes.specs.Node.{broughtAt, nodeRun, Supplies, CellReady, Ready};
 use crate::apfmsgain::all_pass;
 use crate::block::fetch;
 use crate::block::put;
+use crate::block::wide;
 use crate::delayn::delay;
 use crate::kind::NodeKind;
 use crate::kind::NodeRecord;
@@ -18,10 +23,6 @@ use crate::operator::mul::mul;
 use crate::sin_osc::sin_osc;
 use crate::sum::total;
 
-fn wide(x: u8) -> usize {
-    x as usize
-}
-
 // The first wire's source, and the second's where there are two sources.
 fn operands(
     memory: &[u8],
@@ -31,7 +32,12 @@ fn operands(
     lefts: &[usize; 64],
     x: &mut [f32; 128],
     m: &mut [f32; 128],
-) {
+)
+    requires { ⌜ (size ≤ 128) × (length (now lefts) ≡ 64) × (InMemory (now list) (now lefts) size (length (now memory))) ⌝ }
+    requires { ⌜ (second < 64) × (4 * (getD (now lefts) second 0 + size) ≤ length (now memory)) ⌝ }
+    ensures first { λ _. ⌜ now (x .exit) ≡ fetchedIf (ltb 0 (length (now (list .entry)))) (words (now (memory .entry))) (getD (now (lefts .entry)) (getD (now (list .entry)) 0 0) 0) size (now (x .entry)) ⌝ }
+    ensures second { λ _. ⌜ now (m .exit) ≡ fetchedIf (ltb 1 (length (now (list .entry)))) (words (now (memory .entry))) (getD (now (lefts .entry)) second 0) size (now (m .entry)) ⌝ }
+{
     if 0 < list.len() {
         let first = wide(list[0]);
         fetch(memory, lefts[first], size, x);
@@ -51,7 +57,14 @@ fn bring(
     rights: &[usize; 64],
     x: &mut [f32; 128],
     m: &mut [f32; 128],
-) {
+)
+    requires { ⌜ (size ≤ 128) × (length (now lefts) ≡ 64) × (length (now rights) ≡ 64) × (length (now x) ≡ 128) × (length (now m) ≡ 128) ⌝ }
+    requires { ⌜ (InMemory (now list) (now lefts) size (length (now memory))) × (InMemory (now list) (now rights) size (length (now memory))) ⌝ }
+    requires { ⌜ (second < 64) × (4 * (getD (now lefts) second 0 + size) ≤ length (now memory)) ⌝ }
+    ensures blocks { λ _. ⌜ Supplies kind (length (now (list .entry))) size (now (x .exit)) (now (m .exit))
+        (broughtAt (words (now (memory .entry))) (now (lefts .entry)) (now (rights .entry)) (now (list .entry)) second) ⌝ }
+    ensures room { λ _. ⌜ (length (now (x .exit)) ≡ 128) × (length (now (m .exit)) ≡ 128) ⌝ }
+{
     match kind {
         NodeKind::Sum => total(memory, list, lefts, size, x),
         NodeKind::Destination => {
@@ -77,7 +90,11 @@ fn run_cell(
     count: usize,
     x: &[f32; 128],
     m: &[f32; 128],
-) {
+)
+    requires { ⌜ CellReady (now cell) kind size count ⌝ }
+    ensures { λ _. ⌜ ((bs : ℕ → Brought) → Supplies kind count size (now (x .entry)) (now (m .entry)) bs
+        → words (now (cell .exit)) ≡ runValues kind size bs (words (now (cell .entry)))) ⌝ }
+{
     match kind {
         NodeKind::Pass => {
             if 0 < count {

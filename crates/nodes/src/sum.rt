@@ -4,6 +4,7 @@ ghost use Prim.Native.Nat.{_+_, _*_, _≤_};
 ghost use lib.ListN.{length};
 ghost use Rattle.leaves.specs.Words.{words};
 ghost use Rattle.nodes.specs.Block.{fill, quiet, added, totalAt, InMemory};
+use crate::block::wide;
 use leaves::float::load;
 
 fn clear(x: &mut [f32; 128], size: usize)
@@ -27,12 +28,6 @@ fn accumulate(memory: &[u8], at: usize, size: usize, x: &mut [f32; 128])
         x[i] = x[i] + load(memory, at + i);
         i += 1;
     }
-}
-
-fn wide(x: u8) -> usize
-    ensures { λ r. ⌜ r ≡ x ⌝ }
-{
-    x as usize
 }
 
 // The sum of the blocks of the listed nodes; `starts` says where each node's block stands.

@@ -11,7 +11,7 @@ ghost use Rattle.order.specs.Text.{number, spaced, spacedAll, line, orde
 use graph::graph::is_late;
 use graph::graph::places;
 use graph::graph::visiting_list;
-use graph::graph::wide;
+use graph::sources::wide;
 
 fn put(out: &mut [u8], at: usize, byte: u8) -> usize
     requires { ⌜ at < length (now out) ⌝ }

@@ -2,18 +2,18 @@
 ghost use mathlib.Core.Path.{_≡_};
 ghost use Prim.Native.Nat.{_+_, _*_, _≤_};
 ghost use lib.ListN.{length};
-ghost use lib.Ieee.{Float};
+ghost use lib.Ieee as ieee;
+ghost use lib.Ieee.{Float, binary32};
 ghost use Rattle.leaves.specs.Words.{words};
-ghost use Rattle.leaves.specs.Floats.{floatAt};
-ghost use Rattle.nodes.specs.Block.{alone, pair, given};
+ghost use Rattle.nodes.specs.Block.{stored, opNumber, opSources, given};
 ghost use Rattle.nodes.specs.Cell.{runValues};
 use crate::kind::NodeKind;
 use leaves::float::load;
 use leaves::float::store;
 
 fn add_number(cell: &mut [u8], number: f32, size: usize, x: &[f32; 128])
-    requires { ⌜ (size ≤ 128) × (length (now cell) ≡ 4 * (3 + size)) × (number ≡ floatAt (words (now cell)) 0) ⌝ }
-    ensures { λ _. ⌜ ((f : Float) → words (now (cell .exit)) ≡ runValues (NodeKind.Add f) size (alone (now (x .entry))) (words (now (cell .entry)))) ⌝ }
+    requires { ⌜ (size ≤ 128) × (4 * (3 + size) ≤ length (now cell)) ⌝ }
+    ensures { λ _. ⌜ words (now (cell .exit)) ≡ stored (opNumber (ieee.add binary32) (now (x .entry)) number) 3 size (words (now (cell .entry))) ⌝ }
 {
     let mut i = 0;
     while i < size {
@@ -23,8 +23,8 @@ fn add_number(cell: &mut [u8], number: f32, size: usize, x: &[f32; 128])
 }
 
 fn add_sources(cell: &mut [u8], size: usize, x: &[f32; 128], m: &[f32; 128])
-    requires { ⌜ (size ≤ 128) × (length (now cell) ≡ 4 * (3 + size)) ⌝ }
-    ensures { λ _. ⌜ ((f : Float) → words (now (cell .exit)) ≡ runValues (NodeKind.Add f) size (pair (now (x .entry)) (now (m .entry))) (words (now (cell .entry)))) ⌝ }
+    requires { ⌜ (size ≤ 128) × (4 * (3 + size) ≤ length (now cell)) ⌝ }
+    ensures { λ _. ⌜ words (now (cell .exit)) ≡ stored (opSources (ieee.add binary32) (now (x .entry)) (now (m .entry))) 3 size (words (now (cell .entry))) ⌝ }
 {
     let mut i = 0;
     while i < size {

@@ -1,22 +1,17 @@
 -- `graph::board::node_at` meets its contract: each arm knows what was found. Assumes nothing.
-use mathlib.Core.Path.{_≡_, sym, ap, subst, _∙_}
-use lib.ListN.{length}
+use mathlib.Core.Path.{_≡_, sym, ap, _∙_}
 use denote.Ref.{now}
 use Rattle.graph.specs.Record.{foundAt}
 use Rattle.graph.specs.Phases.{nodeRead}
 use Rattle.graph.specs.declared.record.Found.{Found}
 use Rattle.graph.specs.declared.record.Found.the-variants.{Head, Node, Wire, End, Refused}
-use Rattle.graph.proofs.Found.{Room, found-room}
+use Rattle.graph.proofs.Found.{room-of}
 use borrow.Author.Needs.{needs}
 use Rattle.graph.proofs.board.node_at.Statement.{statement}
 use Rattle.graph.proofs.board.node_at.Tie as tie
 
-module _ (c : tie.After-found-at) (f : Found) (is : c .found-at .result ≡ f) where
-  found : foundAt (now (c .before .before .args .s)) (c .before .before .args .at) 2 ≡ f
-  found = sym (c .found-at .ensures) ∙ is
-
-  room : Room (length (now (c .before .before .args .s))) (c .before .before .args .at) 2 f
-  room = subst (Room (length (now (c .before .before .args .s))) (c .before .before .args .at) 2) found (found-room (now (c .before .before .args .s)) (c .before .before .args .at) 2)
+found : (c : tie.After-found-at) (f : Found) → c .found-at .result ≡ f → foundAt (now (c .before .before .args .s)) (c .before .before .args .at) 2 ≡ f
+found c f is = sym (c .found-at .ensures) ∙ is
 
 found-at-requires : tie.Need-found-at-requires
 found-at-requires c κs = search needs
@@ -28,7 +23,7 @@ enum-told-2 : tie.Need-enum-told-2
 enum-told-2 c = search needs
 
 node-body-requires : tie.Need-node-body-requires
-node-body-requires c κs = (room (c .before .before) Node (c .enum-told2 .given .1) .0, c .before .before .before .before .pre)
+node-body-requires c κs = (room-of _ _ _ (c .before .before .found-at .ensures) (c .enum-told2 .given .1) .0, c .before .before .before .before .pre)
 
 enum-told-3 : tie.Need-enum-told-3
 enum-told-3 c = search needs

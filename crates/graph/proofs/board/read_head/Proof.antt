@@ -1,25 +1,19 @@
 -- `graph::board::read_head` meets its contract: each arm knows what was found at offset 0, where only a head or a refusal can be.
 -- Assumes nothing.
-use mathlib.Core.Path.{_≡_, sym, subst, _∙_}
+use mathlib.Core.Path.{_≡_, sym, _∙_}
 use native.Mathlib.Omega.{arith}
-use lib.ListN.{length}
 use denote.Ref.{now}
 use Rattle.graph.specs.Board.{going, headed, takeFound, stepOf}
 use Rattle.graph.specs.declared.record.Found.{Found}
-use Rattle.graph.specs.declared.record.Found.the-variants.{Head, Node, Wire, End, Refused}
-use Rattle.graph.proofs.Found.{Room, found-room}
+use Rattle.graph.specs.declared.record.Found.the-variants.{Head, Refused}
+use Rattle.graph.proofs.Found.{room-of}
 use Rattle.graph.proofs.Parts.{head-as, step-takes}
 use borrow.Author.Needs.{needs}
 use Rattle.graph.proofs.board.read_head.Statement.{statement}
 use Rattle.graph.proofs.board.read_head.Tie as tie
 
-module _ (c : tie.After-found-at) (f : Found) (is : c .found-at .result ≡ f) where
-  -- what is known of the record that was found
-  room : Room (length (now (c .before .before .args .s))) 0 0 f
-  room = subst (Room (length (now (c .before .before .args .s))) 0 0) (sym (c .found-at .ensures) ∙ is) (found-room (now (c .before .before .args .s)) 0 0)
-
-  taken : takeFound (now (c .before .before .args .s)) 0 (headed 0 0) f ≡ stepOf (now (c .before .before .args .s)) (going 0 0 (headed 0 0))
-  taken = step-takes (now (c .before .before .args .s)) 0 0 (headed 0 0) f (sym (c .found-at .ensures) ∙ is)
+taken : (c : tie.After-found-at) (f : Found) → c .found-at .result ≡ f → takeFound (now (c .before .before .args .s)) 0 (headed 0 0) f ≡ stepOf (now (c .before .before .args .s)) (going 0 0 (headed 0 0))
+taken c f is = step-takes (now (c .before .before .args .s)) 0 0 (headed 0 0) f (sym (c .found-at .ensures) ∙ is)
 
 found-at-requires : tie.Need-found-at-requires
 found-at-requires c κs = search needs
@@ -28,7 +22,7 @@ enum-told : tie.Need-enum-told
 enum-told c = search needs
 
 head-body-requires : tie.Need-head-body-requires
-head-body-requires c κs = omega (arith, room (c .before .before) Head (c .enum-told .given .1) .0)
+head-body-requires c κs = omega (arith, room-of _ _ _ (c .before .before .found-at .ensures) (c .enum-told .given .1) .0)
 
 enum-told-2 : tie.Need-enum-told-2
 enum-told-2 c = search needs
@@ -52,20 +46,20 @@ enum-known-number : tie.Need-enum-known-number
 enum-known-number c = search needs
 
 no-head-requires-4 : tie.Need-no-head-requires-4
-no-head-requires-4 c κs = room (c .before .before .before) (Refused _) (c .before .number .given .1)
+no-head-requires-4 c κs = room-of _ _ _ (c .before .before .before .found-at .ensures) (c .before .number .given .1)
 
 returns : tie.Need-returns
 unfolding takeFound
 returns c = head-as (taken (c .before .before .before) Head (c .before .enum-told .given .1)) (c .head-body .ensures)
 
 returns-2 : tie.Need-returns-2
-returns-2 c = absurd (omega (arith, room (c .before .before .before) Node (c .before .enum-told2 .given .1) .1))
+returns-2 c = absurd (omega (arith, room-of _ _ _ (c .before .before .before .found-at .ensures) (c .before .enum-told2 .given .1) .1))
 
 returns-3 : tie.Need-returns-3
-returns-3 c = absurd (omega (arith, room (c .before .before .before) Wire (c .before .enum-told3 .given .1) .1))
+returns-3 c = absurd (omega (arith, room-of _ _ _ (c .before .before .before .found-at .ensures) (c .before .enum-told3 .given .1) .1))
 
 returns-4 : tie.Need-returns-4
-returns-4 c = absurd (omega (arith, room (c .before .before .before) End (c .before .enum-told4 .given .1) .1))
+returns-4 c = absurd (omega (arith, room-of _ _ _ (c .before .before .before .found-at .ensures) (c .before .enum-told4 .given .1) .1))
 
 returns-5 : tie.Need-returns-5
 unfolding takeFound

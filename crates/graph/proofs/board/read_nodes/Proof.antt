@@ -19,8 +19,11 @@ Inv-loop s size nodes₀ count₀ lines₀ values₀ next₀ nodes count lines v
 abbrev μ-loop : tie.MeasureT-loop
 μ-loop s size nodes₀ count₀ lines₀ values₀ next₀ nodes count lines values next = length s - next
 
+blank-requires : tie.Need-blank-requires Inv-loop μ-loop
+blank-requires c κs = search needs
+
 loop-holds : tie.Need-loop-holds Inv-loop μ-loop
-loop-holds c = nodes-start _ _ _ refl (c .before .pre .1)
+loop-holds c = nodes-start _ _ _ refl (c .before .before .pre .1)
 
 node-at-requires : tie.Need-node-at-requires Inv-loop μ-loop
 node-at-requires c κs = c .loop .inv .few-lines
@@ -37,13 +40,13 @@ line-of-requires c κs = search needs
 -- what the node's record says
 here : (c : tie.After-kind Inv-loop μ-loop) →
     let at = c .before .before .before in
-    NodeStep (now (at .before .before .args .s)) (at .loop .next) (at .loop .count) (at .loop .lines) (node.Is (c .kind .given .0 .0))
+    NodeStep (now (at .before .before .before .args .s)) (at .loop .next) (at .loop .count) (at .loop .lines) (node.Is (c .kind .given .0 .0))
 here c = node-here _ _ _ _ _ _ _ (c .before .before .before .loop .inv) (c .before .before .node-at .ensures) (c .kind .given .1)
 
 -- the sums stay small
-samples : (c : tie.After-line-of Inv-loop μ-loop) → c .before .before .before .before .before .before .before .before .args .size * c .before .channels-of .result ≤ 256
+samples : (c : tie.After-line-of Inv-loop μ-loop) → c .before .before .before .before .before .before .before .before .before .args .size * c .before .channels-of .result ≤ 256
 samples c =
-    let start = c .before .before .before .before .before .before .before .before in
+    let start = c .before .before .before .before .before .before .before .before .before in
     rw (c .before .channels-of .ensures) (samples-few (start .args .size) (c .before .before .before .kind .given .0 .0) (start .pre .0))
 
 few : (c : tie.After-line-of Inv-loop μ-loop) → c .before .before .before .before .before .before .loop .lines + c .line-of .result ≤ 262144
@@ -80,7 +83,7 @@ loop-less : tie.Need-loop-less Inv-loop μ-loop
 loop-less c = omega (arith, here (c .before .before .before) .2)
 
 loop-again : tie.Need-loop-again Inv-loop μ-loop
-loop-again c = let start = c .before .before .before .before .before .before .before .before in
+loop-again c = let start = c .before .before .before .before .before .before .before .before .before in
     rw (c .before .channels-of .ensures, c .line-of .ensures .0) (nodes-more _ _ _ _ _ _ _ (c .before .before .before .before .before .before .loop .inv) (c .before .before .before .kind .given .0 .0) (here (c .before .before .before)) (start .pre .0))
 
 enum-told : tie.Need-enum-told Inv-loop μ-loop
@@ -89,21 +92,29 @@ enum-told c = search needs
 new-requires : tie.Need-new-requires Inv-loop μ-loop
 new-requires c κs = omega arith
 
+new-requires-2 : tie.Need-new-requires-2 Inv-loop μ-loop
+new-requires-2 c κs = search needs
+
 returns : tie.Need-returns Inv-loop μ-loop
 returns c =
-    let at = c .before .before .before .before in
-    nodes-over _ _ _ _ _ _ _ (at .loop .inv) (c .new .ensures) (node-here _ _ _ _ _ _ _ (at .loop .inv) (c .before .before .before .node-at .ensures) (c .before .enum-told .given .1))
+    let at = c .before .before .before .before .before in
+    rw (c .new2 .ensures)
+    (nodes-over _ _ _ _ _ _ _ (at .loop .inv) (c .before .new .ensures) (node-here _ _ _ _ _ _ _ (at .loop .inv) (c .before .before .before .before .node-at .ensures) (c .before .before .enum-told .given .1)))
 
 enum-known-number : tie.Need-enum-known-number Inv-loop μ-loop
 enum-known-number c = search needs
 
-new-requires-2 : tie.Need-new-requires-2 Inv-loop μ-loop
-new-requires-2 c κs = let h = c .before .before .before .before .loop .inv in omega (arith, h .next-is, h .few)
+new-requires-3 : tie.Need-new-requires-3 Inv-loop μ-loop
+new-requires-3 c κs = let h = c .before .before .before .before .loop .inv in omega (arith, h .next-is, h .few)
+
+new-requires-4 : tie.Need-new-requires-4 Inv-loop μ-loop
+new-requires-4 c κs = search needs
 
 returns-2 : tie.Need-returns-2 Inv-loop μ-loop
 returns-2 c =
-    let at = c .before .before .before .before .before in
-    nodes-refused _ _ _ _ _ _ _ (at .loop .inv) _ (c .new2 .ensures) (node-here _ _ _ _ _ _ _ (at .loop .inv) (c .before .before .before .before .node-at .ensures) (c .before .before .number .given .1))
+    let at = c .before .before .before .before .before .before in
+    rw (c .new4 .ensures)
+    (nodes-refused _ _ _ _ _ _ _ (at .loop .inv) _ (c .before .new3 .ensures) (node-here _ _ _ _ _ _ _ (at .loop .inv) (c .before .before .before .before .before .node-at .ensures) (c .before .before .before .number .given .1)))
 
 pub read-nodes-spec : {M : Type 1} → statement M
 read-nodes-spec =
@@ -111,6 +122,7 @@ read-nodes-spec =
     (tie.spec
     Inv-loop
     μ-loop
+    blank-requires
     loop-holds
     node-at-requires
     enum-known-kind
@@ -129,7 +141,9 @@ read-nodes-spec =
     loop-again
     enum-told
     new-requires
+    new-requires-2
     returns
     enum-known-number
-    new-requires-2
+    new-requires-3
+    new-requires-4
     returns-2)

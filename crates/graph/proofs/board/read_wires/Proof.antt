@@ -57,21 +57,29 @@ enum-told c = search needs
 new-requires : tie.Need-new-requires Inv-loop μ-loop
 new-requires c κs = omega arith
 
+new-requires-2 : tie.Need-new-requires-2 Inv-loop μ-loop
+new-requires-2 c κs = search needs
+
 returns : tie.Need-returns Inv-loop μ-loop
 returns c =
-    let at = c .before .before .before .before in
-    wires-over _ _ _ _ _ _ _ (at .loop .inv) (c .new .ensures) (wire-here _ _ _ _ _ _ _ (at .loop .inv) (c .before .before .before .wire-at .ensures) (c .before .enum-told .given .1))
+    let at = c .before .before .before .before .before in
+    rw (c .new2 .ensures)
+    (wires-over _ _ _ _ _ _ _ (at .loop .inv) (c .before .new .ensures) (wire-here _ _ _ _ _ _ _ (at .loop .inv) (c .before .before .before .before .wire-at .ensures) (c .before .before .enum-told .given .1)))
 
 enum-known-number : tie.Need-enum-known-number Inv-loop μ-loop
 enum-known-number c = search needs
 
-new-requires-2 : tie.Need-new-requires-2 Inv-loop μ-loop
-new-requires-2 c κs = let h = c .before .before .before .before .loop .inv in omega (arith, h .next-is, h .few)
+new-requires-3 : tie.Need-new-requires-3 Inv-loop μ-loop
+new-requires-3 c κs = let h = c .before .before .before .before .loop .inv in omega (arith, h .next-is, h .few)
+
+new-requires-4 : tie.Need-new-requires-4 Inv-loop μ-loop
+new-requires-4 c κs = search needs
 
 returns-2 : tie.Need-returns-2 Inv-loop μ-loop
 returns-2 c =
-    let at = c .before .before .before .before .before in
-    wires-refused _ _ _ _ _ _ _ (at .loop .inv) _ (c .new2 .ensures) (wire-here _ _ _ _ _ _ _ (at .loop .inv) (c .before .before .before .before .wire-at .ensures) (c .before .before .number .given .1))
+    let at = c .before .before .before .before .before .before in
+    rw (c .new4 .ensures)
+    (wires-refused _ _ _ _ _ _ _ (at .loop .inv) _ (c .before .new3 .ensures) (wire-here _ _ _ _ _ _ _ (at .loop .inv) (c .before .before .before .before .before .wire-at .ensures) (c .before .before .before .number .given .1)))
 
 pub read-wires-spec : {M : Type 1} → statement M
 read-wires-spec =
@@ -90,7 +98,9 @@ read-wires-spec =
     loop-again
     enum-told
     new-requires
+    new-requires-2
     returns
     enum-known-number
-    new-requires-2
+    new-requires-3
+    new-requires-4
     returns-2)

@@ -1,22 +1,17 @@
 -- `graph::board::wire_at` meets its contract: each arm knows what was found. Assumes nothing.
-use mathlib.Core.Path.{_≡_, sym, ap, subst, _∙_}
-use lib.ListN.{length}
+use mathlib.Core.Path.{_≡_, sym, ap, _∙_}
 use denote.Ref.{now}
 use Rattle.graph.specs.Record.{foundAt}
 use Rattle.graph.specs.Phases.{wireRead}
 use Rattle.graph.specs.declared.record.Found.{Found}
 use Rattle.graph.specs.declared.record.Found.the-variants.{Head, Node, Wire, End, Refused}
-use Rattle.graph.proofs.Found.{Room, found-room}
+use Rattle.graph.proofs.Found.{room-of}
 use borrow.Author.Needs.{needs}
 use Rattle.graph.proofs.board.wire_at.Statement.{statement}
 use Rattle.graph.proofs.board.wire_at.Tie as tie
 
-module _ (c : tie.After-found-at) (f : Found) (is : c .found-at .result ≡ f) where
-  found : foundAt (now (c .before .before .args .s)) (c .before .before .args .at) 3 ≡ f
-  found = sym (c .found-at .ensures) ∙ is
-
-  room : Room (length (now (c .before .before .args .s))) (c .before .before .args .at) 3 f
-  room = subst (Room (length (now (c .before .before .args .s))) (c .before .before .args .at) 3) found (found-room (now (c .before .before .args .s)) (c .before .before .args .at) 3)
+found : (c : tie.After-found-at) (f : Found) → c .found-at .result ≡ f → foundAt (now (c .before .before .args .s)) (c .before .before .args .at) 3 ≡ f
+found c f is = sym (c .found-at .ensures) ∙ is
 
 found-at-requires : tie.Need-found-at-requires
 found-at-requires c κs = search needs
@@ -31,7 +26,7 @@ enum-told-3 : tie.Need-enum-told-3
 enum-told-3 c = search needs
 
 wire-body-requires : tie.Need-wire-body-requires
-wire-body-requires c κs = (room (c .before .before) Wire (c .enum-told3 .given .1) .0, c .before .before .before .before .pre)
+wire-body-requires c κs = (room-of _ _ _ (c .before .before .found-at .ensures) (c .enum-told3 .given .1) .0, c .before .before .before .before .pre)
 
 enum-told-4 : tie.Need-enum-told-4
 enum-told-4 c = search needs
