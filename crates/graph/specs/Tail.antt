@@ -11,8 +11,10 @@ use Rattle.nodes.specs.declared.kind.NodeKind.the-variants.{Pass, Sum, Destinat
 use Rattle.nodes.specs.declared.kind.NodeRecord.{NodeRecord}
 use Rattle.reading.specs.Order.{Wire}
 use Rattle.graph.specs.Board.{Parsed}
+use Rattle.graph.specs.Judge.{readBoard, answerBy}
 use Rattle.graph.specs.Visit.{visitingList}
 use Rattle.graph.specs.Late.{lateWires}
+use Rattle.graph.specs.declared.answer.Answer.{Answer}
 
 -- types 1 to 5 and 7: silence in is silence out, at the latest after the line's length. An add writes its number, an all-pass and a one-pole
 -- ring on, and a sine sounds by itself
@@ -57,3 +59,8 @@ tailOf p = tailBy (p .nodes) (p .wires) (visitingList (p .wires))
 
 abbrev pub LinesFit : List NodeRecord → List ℕ → ℕ → Type 0
 LinesFit ns l n = (i : ℕ) → i < n → lineOf (kindAt ns (getD l i 0)) ≤ 262144
+
+-- ---- the tail call's answer: the refusal, or the tail
+
+unfoldable pub tailAnswer : List ℕ → Answer
+tailAnswer s = answerBy tailOf (readBoard s)

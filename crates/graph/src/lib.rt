@@ -3,6 +3,7 @@
 pub mod answer;
 pub mod board;
 pub mod judge;
+pub mod message;
 pub mod record;
 pub mod sources;
 pub mod graph;

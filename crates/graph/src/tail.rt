@@ -5,9 +5,12 @@ ghost use Prim.Native.Nat.{_<_, _≤_};
 ghost use lib.ListN.{length, take};
 ghost use Rattle.graph.specs.Wires.{wiresOf};
 ghost use Rattle.graph.specs.Visit.{Nodes};
-ghost use Rattle.graph.specs.Tail.{delays, onlyDelays, listedLines, endless, tailBy, LinesFit};
+ghost use Rattle.graph.specs.Tail.{delays, onlyDelays, listedLines, endless, tailBy, tailAnswer, LinesFit};
+use crate::answer::Answer;
 use crate::graph::late_count;
 use crate::graph::places;
+use crate::graph::visiting_list;
+use crate::judge::read_board;
 use crate::sources::wide;
 use nodes::kind::NodeKind;
 use nodes::kind::NodeRecord;
@@ -74,5 +77,27 @@ pub fn tail(
         listed_lines(nodes, list, count) as u32
     } else {
         ENDLESS as u32
+    }
+}
+
+// The tail call: a refusal, or 0 and the tail.
+pub fn tail_of(s: &[u8]) -> Answer
+    ensures { λ r. ⌜ r ≡ tailAnswer (now (s .entry)) ⌝ }
+{
+    let board = read_board(s);
+    let refused = board.refused;
+    if refused.number != 0 {
+        return refused;
+    }
+    let counts = board.counts;
+    let lists = board.lists;
+    let order = visiting_list(&counts, &lists);
+    let nodes = board.nodes;
+    let sources = board.sources;
+    let targets = board.targets;
+    let listed = order.nodes;
+    Answer {
+        number: 0,
+        place: tail(nodes, &sources, &targets, board.wires, &listed, order.count),
     }
 }
