@@ -2,15 +2,15 @@
 --     cells-next, cells-wrong, cells-end        check 8, node by node
 --     samples-next, samples-wrong, samples-end  check 10, sample by sample
 --     needed-long, sizes-passed, sizes-wrong    checks 7 and 9
---     then-passed, then-refused, then-assoc     one check after another
+--     then-passed, then-refused, then-both, then-assoc    one check after another
 -- Assumes nothing.
 use Prim.Native.Nat.{ℕ, _+_, _*_, _≤_, _<_}
 use mathlib.Core.Path.{_≡_, refl, sym, ap, _∙_}
 use mathlib.Core.Bool.{Bool, true, false, cond, _&&_}
-use mathlib.Core.List.{List, [], _∷_}
+use mathlib.Core.List.{List, []}
 use native.Mathlib.Numerals.{add-one}
 use native.Mathlib.Omega.{arith}
-use borrow.Author.Tests.{eqb-true, ne-eqb}
+use borrow.Author.Tests.{eqb-true, eqb-false, ne-eqb}
 use lib.Dec.{eqb}
 use lib.ListN.{length, getD, take, drop}
 use lib.Seq.{drop-cons, drop-length}
@@ -81,6 +81,13 @@ module _ (N x l r : ℕ) where
       let first = both (eqb x (4 * N)) (eqb l (4 * N)) (front .0) in
       (eqb-true x (4 * N) (first .0), eqb-true l (4 * N) (first .1), eqb-true r (4 * N) (front .1))
 
+  pub sizes-accepted : checkSizes N x l r .number ≡ 0 → (x ≡ 4 * N) × (l ≡ 4 * N) × (r ≡ 4 * N)
+  sizes-accepted = go sizes refl
+    where
+      go : (q : Bool) → sizes ≡ q → (cond q passed (answer 9 N)) .number ≡ 0 → (x ≡ 4 * N) × (l ≡ 4 * N) × (r ≡ 4 * N)
+      go true e h = sizes-long e
+      go false e h = absurd (omega arith)
+
   pub sizes-passed : sizes ≡ true → checkSizes N x l r ≡ passed
   sizes-passed e = rw e
 
@@ -99,6 +106,13 @@ pub then-passed : (a b r s : Answer) → r ≡ a → r .number ≡ 0 → s ≡ b
 then-passed a b r s e h f =
     let zero-there : a .number ≡ 0 = ap (λ (x : Answer). x .number) (sym e) ∙ h in
     rw zero-there f
+
+pub then-both : (a b : Answer) → andThen a b .number ≡ 0 → (a .number ≡ 0) × (b .number ≡ 0)
+then-both a b = go (eqb (a .number) 0) refl
+  where
+    go : (q : Bool) → eqb (a .number) 0 ≡ q → (cond q b a) .number ≡ 0 → (a .number ≡ 0) × (b .number ≡ 0)
+    go true e h = (eqb-true (a .number) 0 e, h)
+    go false e h = absurd (eqb-false (a .number) 0 e h)
 
 pub then-assoc : (a b c : Answer) → andThen (andThen a b) c ≡ andThen a (andThen b c)
 then-assoc a b c = go (eqb (a .number) 0) refl

@@ -6,14 +6,13 @@
 -- Assumes nothing.
 use Prim.Native.Nat.{ℕ, zero, suc, _+_, _*_, _≤_, _<_}
 use mathlib.Core.Path.{_≡_, refl, sym, ap, _∙_}
-use mathlib.Core.List.{List, [], _∷_, _++_, append-assoc, append-nil}
+use mathlib.Core.List.{List, [], _∷_, _++_, append-assoc}
 use native.Mathlib.Numerals.{add-one}
 use mathlib.Core.Bool.{Bool, cond}
 use native.Mathlib.Omega.{arith}
 use borrow.Author.Tests.{eq-eqb, ne-eqb}
 use lib.Dec.{eqb}
-use lib.ListN.{length, getD, set, take, drop, replicate, length-append, replicate-append-replicate}
-use lib.Seq.{set-append-seam}
+use lib.ListN.{length, set, take, drop, replicate, length-append, replicate-append-replicate}
 use lib.Ieee.{binary32, toBits}
 use Rattle.leaves.specs.Words.{words, unwords, Bytes, unwords-words}
 use Rattle.leaves.specs.Floats.{setFloat}

@@ -6,7 +6,7 @@
 --     nodes-long, nodes-other, nodes-judged          after the nodes of an order
 --     block-long, block-other, block-judged          after a block run, so that check 8 passes again
 -- Assumes nothing.
-use Prim.Native.Nat.{ℕ, zero, suc, _+_, _*_, _≤_, _<_}
+use Prim.Native.Nat.{ℕ, zero, suc, _+_, _≤_, _<_}
 use mathlib.Core.Path.{_≡_, refl, sym, ap, _∙_}
 use mathlib.Core.Logic.{_≢_}
 use mathlib.Core.Bool.{Bool, true, false, cond}

@@ -28,7 +28,7 @@ use Rattle.reading.specs.Order.{sources}
 use Rattle.reading.proofs.Table.{mem-head, or-right, map-agree}
 use Rattle.graph.specs.Board.{Parsed, cellsOf}
 use Rattle.graph.specs.Sources.{distinctSources, secondSource}
-use Rattle.graph.specs.Memory.{nodeAt, kindAt, leftStart, rightStart, lefts, rights, broughtBy, runNode, runNodes}
+use Rattle.graph.specs.Memory.{nodeAt, kindAt, leftStart, rightStart, broughtBy, runNode, runNodes}
 use Rattle.graph.specs.Calls.{listed}
 use Rattle.graph.specs.Read.{parsedOf, Sound}
 use Rattle.graph.specs.Listed.{SourcesBelow}

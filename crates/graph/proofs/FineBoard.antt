@@ -2,62 +2,24 @@
 use Prim.Native.Nat.{ℕ, zero, suc, _+_, _<_}
 use mathlib.Core.Path.{_≡_, refl, sym, ap, subst, _∙_}
 use mathlib.Core.List.{List, [], _∷_}
-use mathlib.Core.Bool.{Bool, true, false, cond, and-eq-true-iff}
 use native.Mathlib.Omega.{arith}
-use borrow.Author.Tests.{lt-ltb}
-use lib.Dec.{eqb}
 use lib.ListN.{length, getD, take}
-use lib.Ieee.{Float, binary32, ofBits, toBits}
-use lib.Ieee.Bits.{ofBits-toBits, ofBits-fits}
 use Rattle.leaves.specs.Words.{Bytes}
-use Rattle.leaves.proofs.Patterns.{finite-pattern, finite-float}
-use Rattle.nodes.specs.Kind.{channelsOf, finite, inBand, cellSize}
-use Rattle.nodes.specs.Cell.{numberOf, numberFits}
+use Rattle.nodes.specs.Kind.{channelsOf, cellSize}
 use Rattle.nodes.specs.Node.{LineFits}
-use Rattle.nodes.specs.declared.kind.NodeKind.{NodeKind}
-use Rattle.nodes.specs.declared.kind.NodeKind.the-variants.{Pass, Sum, Destination, Balance, Mul, Add, Delay, AllPass, OnePole, Sine}
+use Rattle.nodes.specs.declared.kind.NodeKind.the-variants.{Pass, Destination}
 use Rattle.nodes.specs.declared.kind.NodeRecord.{NodeRecord}
+use Rattle.nodes.proofs.Fresh.{rule-sound}
 use Rattle.reading.specs.Order as order
 use Rattle.graph.specs.Board.{Parsed, whole, cellsOf}
 use Rattle.graph.specs.Judge.{readBoard}
 use Rattle.graph.specs.Memory.{nodeAt}
-use Rattle.graph.specs.Write.{NodeCard, Card, kindOf, recordsFrom, parsedOf, Finite, InBand, FieldsObey, WireObeys, Obeys, noNode, noWire}
+use Rattle.graph.specs.Write.{NodeCard, Card, kindOf, recordsFrom, parsedOf, WireObeys, Obeys, noNode, noWire}
 use Rattle.graph.specs.Fine.{NodeFine, Fine}
+use Rattle.graph.proofs.RoundRule.{kind-kept}
 use Rattle.graph.proofs.RoundObeys.{EachFrom, each-from}
 use Rattle.graph.proofs.RoundSix.{Free, records-length, free-in, sources-fit}
 use Rattle.graph.proofs.Round.{beyond, read-write}
-
--- ---- a kind's line and first number, from its fields
-
--- a pattern that is read and stored is finite, or in a sine's band, where the pattern is
-finite-stored : (f : ℕ) → Finite f → finite (toBits binary32 (ofBits binary32 f)) ≡ true
-finite-stored f h = sym (finite-float (ofBits binary32 f) (ofBits-fits binary32 f)) ∙ finite-pattern f ∙ lt-ltb _ _ h
-
-band-stored : (f : ℕ) → InBand f → inBand (toBits binary32 (ofBits binary32 f)) ≡ true
-band-stored f h = rw (ofBits-toBits binary32 (ofBits binary32 f) (ofBits-fits binary32 f)) (and-eq-true-iff _ _ .1 h)
-
-record Starts (n f : ℕ) (k : NodeKind) : Type 0 where
-  line : FieldsObey k n f → LineFits k
-  number : FieldsObey k n f → numberFits k (toBits binary32 (numberOf k)) ≡ true
-
-module _ (n f : ℕ) where
-  either : (b : Bool) (k j : NodeKind) → Starts n f k → Starts n f j → Starts n f (cond b k j)
-  either true k j g h = g
-  either false k j g h = h
-
-  starts : (t : ℕ) → Starts n f (kindOf (record { type = t; n = n; f = f }))
-  unfolding kindOf FieldsObey numberOf numberFits toBits
-  starts t =
-      either (eqb t 1) _ _ (record { line = λ h. tt; number = λ h. refl })
-      (either (eqb t 2) _ _ (record { line = λ h. tt; number = λ h. refl })
-      (either (eqb t 3) _ _ (record { line = λ h. tt; number = λ h. refl })
-      (either (eqb t 4) _ _ (record { line = λ h. tt; number = λ h. refl })
-      (either (eqb t 5) _ _ (record { line = λ h. tt; number = λ h. finite-stored f (h .1) })
-      (either (eqb t 6) _ _ (record { line = λ h. tt; number = λ h. finite-stored f (h .1) })
-      (either (eqb t 7) _ _ (record { line = λ h. h .0; number = λ h. refl })
-      (either (eqb t 8) _ _ (record { line = λ h. h .0; number = λ h. finite-stored f (h .1) })
-      (either (eqb t 9) _ _ (record { line = λ h. tt; number = λ h. refl })
-      (record { line = λ h. tt; number = λ h. band-stored f (h .1) })))))))))
 
 -- ---- the records of a card
 
@@ -109,14 +71,14 @@ module _ (c : Card) (h : Obeys c) where
       let m : k < length (c .nodes) = omega (arith, count) in
       let d : NodeCard = getD (c .nodes) k noNode in
       let e : nodeAt p k ≡ recordOf (c .size) (cellsOf (c .size) (take k (p .nodes))) d = kind-at k m in
-      let o = starts (d .n) (d .f) (d .type) in
-      let fields = h .nodes k m .fields in
+      let o = h .nodes k m in
+      let sound = rule-sound (d .type) (d .n) (d .f) (kindOf d) (kind-kept d (o .least-type) (o .most-type) (o .fields)) in
       let kind : nodeAt p k .kind ≡ kindOf d = ap (λ (r : NodeRecord). r .kind) e in
       record {
         channels = ap (λ (r : NodeRecord). r .channels) e ∙ ap channelsOf (sym kind);
         cell = ap (λ (r : NodeRecord). r .cell) e;
-        line = subst LineFits (sym kind) (o .line fields);
-        number = rw kind (o .number fields);
+        line = subst LineFits (sym kind) (sound .line);
+        number = rw kind (sound .number);
         sources = rw kind (sources-fit (c .wires) k d (h .sources k m));
       }
 

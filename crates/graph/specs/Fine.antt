@@ -2,7 +2,7 @@
 use Prim.Native.Nat.{ℕ, _≤_, _<_}
 use mathlib.Core.Path.{_≡_}
 use mathlib.Core.Bool.{true}
-use mathlib.Core.List.{List, []}
+use mathlib.Core.List.{[]}
 use lib.ListN.{length, take}
 use lib.Ieee.{binary32, toBits}
 use Rattle.nodes.specs.Kind.{channelsOf, lineOf, sourcesFit}
@@ -10,7 +10,7 @@ use Rattle.nodes.specs.Rule.{State}
 use Rattle.nodes.specs.Cell.{numberOf, numberFits, carryFits, placeFits}
 use Rattle.nodes.specs.Node.{LineFits}
 use Rattle.nodes.specs.declared.kind.NodeKind.the-variants.{Pass, Destination}
-use Rattle.reading.specs.Order.{Wire, Each, sources}
+use Rattle.reading.specs.Order.{Each, sources}
 use Rattle.graph.specs.Sources.{distinctSources}
 use Rattle.graph.specs.Board.{Parsed, cellsOf}
 use Rattle.graph.specs.Write.{WireObeys}

@@ -1,12 +1,10 @@
 // The calls on a board's bytes and its memory: fresh memory and the block run. Each call judges
 // everything first and then works, so a refusal leaves every byte as found.
 ghost use mathlib.Core.Path.{_≡_};
-ghost use mathlib.Core.Bool.{true};
-ghost use Prim.Native.Nat.{ℕ, _+_, _*_, _-_, _≤_, _<_};
-ghost use lib.ListN.{length, getD, take, drop, replicate};
+ghost use Prim.Native.Nat.{ℕ, _+_, _*_, _≤_};
+ghost use lib.ListN.{length, take, drop, replicate};
 ghost use lib.Seq.{paste};
 ghost use Rattle.leaves.specs.Words.{words};
-ghost use Rattle.graph.specs.Answer.{answer};
 ghost use Rattle.graph.specs.Memory.{leftStart, rightStart, checkCells, runNodes};
 ghost use Rattle.graph.specs.Calls.{andThen, checkNeeded, checkLength, checkMemory, checkSizes, checkSamples, asFound, listed, freshOf, blockOf};
 ghost use Rattle.graph.specs.Read.{parsedOf, Sound};

@@ -1,5 +1,4 @@
 -- `graph::context::blocks_judged` meets its contract. The lengths decide, and then the samples. Assumes nothing.
-use Prim.Native.Nat.{ℕ}
 use mathlib.Core.Path.{_≡_, refl, sym, ap, _∙_}
 use native.Mathlib.Omega.{arith}
 use lib.ListN.{length}

@@ -2,7 +2,7 @@
 use Prim.Native.Nat.{_≤_, _-_}
 use mathlib.Core.Path.{_≡_, refl, sym, _∙_}
 use native.Mathlib.Omega.{arith}
-use lib.ListN.{length, take, drop}
+use lib.ListN.{take, drop}
 use Rattle.leaves.specs.Words.{words}
 use Rattle.graph.specs.Memory.{checkCells}
 use Rattle.graph.proofs.CallChecks.{cells-next, cells-wrong, cells-end}

@@ -2,10 +2,11 @@
 -- Assumes nothing.
 use Prim.Native.Nat.{ℕ, _+_, _-_, _*_, _≤_, _<_}
 use mathlib.Core.Path.{_≡_, refl, sym, ap, subst, _∙_}
+use mathlib.Core.List.{List}
 use native.Mathlib.Omega.{arith}
 use lib.ListN.{length, getD, take, drop}
 use Rattle.leaves.specs.Words.{words}
-use Rattle.nodes.specs.Node.{Ready}
+use Rattle.nodes.specs.Node.{broughtAt, nodeRun, Ready}
 use Rattle.graph.specs.Board.{memoryLength}
 use Rattle.graph.specs.Memory.{runNode}
 use Rattle.graph.specs.Read.{parsedOf}
@@ -120,6 +121,19 @@ module _ (c : tie.After-wide3 Inv-loop μ-loop) where
       (at .before .before .left-starts .result) (at .before .right-starts .result) (at .before .before .left-starts .ensures (board .size)) (at .before .right-starts .ensures)
       (c .wide3 .result) (c .wide3 .ensures) (at .loop .memory) long (at .loop .inv .0 .judged)
 
+  -- the node's block is the definition's
+  ran : (m : List ℕ)
+      → words m ≡ nodeRun (nodeIn (board .nodes) k .kind) (board .size) (nodeIn (board .nodes) k .cell)
+      (broughtAt (words (at .loop .memory)) (at .before .before .left-starts .result) (at .before .right-starts .result) (take (8 * k + n - 8 * k) (drop (8 * k) (board .lists))) (c .wide3 .result))
+      (words (at .loop .memory))
+      → words m ≡ runNode (parsedOf board) (getD (start .args .order .nodes) (at .loop .i) 0) (words (at .loop .memory))
+  ran m e =
+      e
+      ∙ turn-run board (start .pre .sound) (start .pre .fine) (start .pre .table) k (node-here (c .before .before)) (8 * k + n - 8 * k) sized
+      (at .before .before .left-starts .result) (at .before .right-starts .result) (at .before .before .left-starts .ensures (board .size)) (at .before .right-starts .ensures)
+      (c .wide3 .result) (c .wide3 .ensures) (at .loop .memory)
+      ∙ ap (λ (j : ℕ). runNode (parsedOf board) j (words (at .loop .memory))) (c .before .before .wide .ensures)
+
 step-requires : tie.Need-step-requires Inv-loop μ-loop
 step-requires c κs = (ready (c .before .before .before .before .before .before .before .before), (c .before .before .before .before .before .before .before .before .before .before .before .before .before .loop .inv .1, c .before .before .before .before .before .before .before .before .before .before .before .before .before .loop .inv .2))
 
@@ -135,15 +149,9 @@ loop-again c =
     let b = board t in
     let args = (start t) .args in
     let m = (at t) .loop .memory in
-    let stepped = c .before .before .step in
-    let ran =
-    stepped .ensures .0
-    ∙ turn-run b (start t .pre .sound) (start t .pre .fine) (start t .pre .table) (k t) (node-here (t .before .before)) (8 * k t + n t - 8 * k t) (sized t)
-    (at t .before .before .left-starts .result) (at t .before .right-starts .result) (at t .before .before .left-starts .ensures (b .size)) (at t .before .right-starts .ensures)
-    (t .wide3 .result) (t .wide3 .ensures) m
-    ∙ ap (λ (j : ℕ). runNode (parsedOf b) j (words m)) (t .before .before .wide .ensures) in (
+    let stepped = c .before .before .step in (
       running-more b (args .order) (args .memory .now) (start t .pre) (at t .loop .i) (t .before .before .before .if1 .taken) m (stepped .last .0) (at t .loop .inv .0)
-          (stepped .kept .0) ran,
+          (stepped .kept .0) (ran t (stepped .last .0) (stepped .ensures .0)),
       stepped .ensures .1 .0,
       stepped .ensures .1 .1,
     )

@@ -3,7 +3,7 @@ use Prim.Native.Nat.{_≤_, _-_}
 use mathlib.Core.Path.{_≡_, refl, sym, _∙_}
 use native.Mathlib.Omega.{arith}
 use borrow.Author.Tests.{lt-ltb, le-ltb}
-use lib.ListN.{length, drop}
+use lib.ListN.{drop}
 use Rattle.leaves.specs.Words.{words, length-words}
 use Rattle.graph.specs.Calls.{checkSamples}
 use Rattle.graph.proofs.CallChecks.{samples-next, samples-wrong, samples-end}
