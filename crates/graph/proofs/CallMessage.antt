@@ -1,6 +1,6 @@
 -- The number message.
 --     number-missing, number-other, number-wrong, number-right    checks 11 and 12 on the code's arrays
---     then-zero, number-told, message-told    what holds where they pass
+--     number-told, message-told    what holds where they pass
 --     told-lacking, told-set                  a call that changes the memory's words, or refuses
 --     message-refused, message-lacking, message-set    the call, case by case
 --     set-long, set-other, set-judged         what a number that is set leaves
@@ -14,7 +14,7 @@ use native.Mathlib.Nat.{add-zero}
 use native.Mathlib.Decide.{ℕ-discrete}
 use native.Mathlib.Numerals.{add-one}
 use native.Mathlib.Omega.{arith}
-use borrow.Author.Tests.{ltb-true, lt-ltb, le-ltb, eqb-true, eqb-false, ne-eqb}
+use borrow.Author.Tests.{ltb-true, lt-ltb, le-ltb, ne-eqb}
 use lib.Dec.{T, eqb, ltb}
 use lib.Ieee.{Float, binary32, toBits, fits}
 use lib.ListN.{length, getD, set, take, drop, length-set}
@@ -38,7 +38,7 @@ use Rattle.graph.specs.declared.answer.Answer.{Answer}
 use Rattle.graph.specs.declared.board.Board.{Board}
 use Rattle.graph.proofs.Accepted.{refused-board, accepted-board}
 use Rattle.graph.proofs.CallCells.{node-in, count-nodes, cell-in}
-use Rattle.graph.proofs.CallChecks.{needed-long}
+use Rattle.graph.proofs.CallChecks.{needed-long, then-both}
 use Rattle.graph.proofs.CallFresh.{as-pair}
 use Rattle.graph.proofs.CallLaws.{cellAt, Whole, Judged, paste-other}
 use Rattle.graph.proofs.Choice.{both}
@@ -77,13 +77,6 @@ module _ (b : Board) (sound : Sound b) (k : ℕ) (x : Float) where
 
 -- ---- where the checks pass
 
-pub then-zero : (a b : Answer) → andThen a b .number ≡ 0 → (a .number ≡ 0) × (b .number ≡ 0)
-then-zero a b = go (eqb (a .number) 0) refl
-  where
-    go : (q : Bool) → eqb (a .number) 0 ≡ q → (cond q b a) .number ≡ 0 → (a .number ≡ 0) × (b .number ≡ 0)
-    go true e z = (eqb-true (a .number) 0 e, z)
-    go false e z = absurd (eqb-false (a .number) 0 e z)
-
 module _ (p : Parsed) (k : ℕ) (x : Float) where
   pub number-told : checkNumber p k x .number ≡ 0 → (k < length (p .nodes)) × (valueFits (kindAt p k) x ≡ true)
   number-told = go (ltb k (length (p .nodes)) && takesNumber (kindAt p k)) refl (valueFits (kindAt p k) x) refl
@@ -97,8 +90,8 @@ module _ (p : Parsed) (k : ℕ) (x : Float) where
   pub message-told : (m : List ℕ) → checkMessage p m k x .number ≡ 0
       → (length m ≡ memoryLength p) × (checkMemory p m .number ≡ 0) × (checkNumber p k x .number ≡ 0)
   message-told m z =
-      let one = then-zero (checkLength p m) (andThen (checkMemory p m) (checkNumber p k x)) z in
-      let two = then-zero (checkMemory p m) (checkNumber p k x) (one .1) in
+      let one = then-both (checkLength p m) (andThen (checkMemory p m) (checkNumber p k x)) z in
+      let two = then-both (checkMemory p m) (checkNumber p k x) (one .1) in
       (needed-long (memoryLength p) (length m) (one .0), two .0, two .1)
 
 -- ---- a call that answers `check`, and where that passes leaves the words ws

@@ -38,6 +38,7 @@ pub mod CallMessage
 pub mod CallLaws
 pub mod CallStarts
 pub mod CallRun
+pub mod CallTail
 pub mod CallAccepted
 pub mod CallBlock
 pub mod Ending

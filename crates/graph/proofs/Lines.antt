@@ -87,7 +87,7 @@ line-within (r ∷ ns) zero = omega arith
 line-within (r ∷ ns) (suc k) = let ih = line-within ns k in omega arith
 
 module _ (p : Parsed) (ns : List NodeRecord) (n : ℕ) (front : take n ns ≡ p .nodes) (pos : 0 < n) (few : n ≤ 64) (below : SourcesBelow (p .wires) n) where
-  listed-below : (k : ℕ) → mem k (visitingList (p .wires)) ≡ true → k < n
+  pub listed-below : (k : ℕ) → mem k (visitingList (p .wires)) ≡ true → k < n
   listed-below k e = lists-reached (p .wires) (λ j s m. le-trans (below j s m) few) .below n pos below k e
 
   -- the tail over the array is the board's

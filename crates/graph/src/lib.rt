@@ -2,10 +2,10 @@
 // are known here only by the promises of the crate `nodes`.
 pub mod answer;
 pub mod board;
+pub mod context;
+pub mod graph;
 pub mod judge;
 pub mod message;
 pub mod record;
 pub mod sources;
-pub mod graph;
 pub mod tail;
-pub mod context;

@@ -56,7 +56,7 @@ shifted m k digits room = go (leb k 104) refl
     go false e =
         let j = k - 105 in
         let parts : m * 2 ^ k ≡ m * 2 ^ j * 2 ^ 105 =
-            ap (λ (i : ℕ). m * 2 ^ i) (omega (arith, leb-false k 104 e)) ∙ ap (λ (u : ℕ). m * u) (pow-add 2 j 105) ∙ sym (mul-assoc m (2 ^ j) (2 ^ 105)) in
+        ap (λ (i : ℕ). m * 2 ^ i) (omega (arith, leb-false k 104 e)) ∙ ap (λ (u : ℕ). m * u) (pow-add 2 j 105) ∙ sym (mul-assoc m (2 ^ j) (2 ^ 105)) in
         let few : m * 2 ^ j < 2 ^ 23 = lt-of-mul-lt-mul-right (2 ^ 105) (subst (λ (n : ℕ). n < 2 ^ 23 * 2 ^ 105) parts room) in
         let most : m * 2 ^ j ≤ 2 ^ 23 - 1 = below-next (m * 2 ^ j) few in
         le-trans (le-of-eq parts) (le-trans (mul-le-mul-right (2 ^ 105) most) (lit≤ tt))

@@ -188,8 +188,8 @@ plate-written N mix b least most mix-fits number long =
     let e = written N mix b (size-in N least most) number long in
     let dry-fits = sub-fits binary32 f1 mix in
     let facts =
-        plate-facts N (toBits binary32 mix) (toBits binary32 (dryOf mix)) (pattern-lt mix mix-fits) (finite-bits mix mix-fits number)
-        (pattern-lt (dryOf mix) dry-fits) (finite-bits (dryOf mix) dry-fits (dry-finite mix mix-fits number)) least most in
+    plate-facts N (toBits binary32 mix) (toBits binary32 (dryOf mix)) (pattern-lt mix mix-fits) (finite-bits mix mix-fits number)
+    (pattern-lt (dryOf mix) dry-fits) (finite-bits (dryOf mix) dry-fits (dry-finite mix mix-fits number)) least most in
     record {
       answered = ap (λ (p : Answer × List ℕ). p .0) e;
       bytes = ap (λ (p : Answer × List ℕ). p .1) e;

@@ -79,8 +79,7 @@ loop-again c =
     let m = c .before .before .before .before .before .loop .board in
     let put = c .before .before .put-node in
     let at = 8 + 14 * i in
-    let room : i < length nodes = omega arith in
-    (
+    let room : i < length nodes = omega arith in (
       omega arith,
       put .kept .0 ∙ inv .1,
       one-more nodesBytes nodeBytes 14 refl (λ x xs. refl) (λ x. refl) l 8 i nodes noNode room (inv .2)

@@ -35,7 +35,7 @@ same-length c = search needs
 returns : tie.Need-returns
 unfolding writeBoard
 returns c =
-    let start = c .before .before .before .before .before .before .before .before .before .before .before .before .before .before .before .before .before .before .before .before .before  in
+    let start = c .before .before .before .before .before .before .before .before .before .before .before .before .before .before .before .before .before .before .before .before .before in
     let l = now (start .args .board) in
     let head = headBytes (start .args .size) 2 in
     let nodes = nodesBytes (plateNodes (start .args .mix) (start .args .dry)) in

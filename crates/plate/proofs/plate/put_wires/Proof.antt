@@ -59,8 +59,7 @@ loop-again c =
     let m = c .before .before .before .before .before .loop .board in
     let put = c .before .before .put-four in
     let at = 722 + 8 * i in
-    let room : i < length plateWires = omega arith in
-    (
+    let room : i < length plateWires = omega arith in (
       omega arith,
       put .kept .0 ∙ inv .1,
       one-more wiresBytes wireBytes 8 refl (λ x xs. refl) (λ x. refl) l 722 i plateWires noWire room (inv .2)

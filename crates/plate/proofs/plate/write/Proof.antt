@@ -81,8 +81,7 @@ returns-4 c =
     let b = now (start .board) in
     let size = size-in (start .n) (omega arith) (omega (arith, ltb-false)) in
     let e = written (start .n) (start .mix) b size (sym (c .before .before .before .before .before .before .before .before .before .finite .ensures) ∙ not-false _ (c .before .before .before .before .before .before .before .before .if3 .left)) (omega arith) in
-    let bits : (mix dry : ℕ) → List ℕ = λ mix dry. writeBoard (plateCard (start .n) mix dry) in
-    (
+    let bits : (mix dry : ℕ) → List ℕ = λ mix dry. writeBoard (plateCard (start .n) mix dry) in (
       c .new4 .ensures ∙ sym (ap answer-of e),
       c .before .before .before .put-plate .ensures ∙ (λ i. bits (c .before .before .before .before .before .to-bits .ensures i) (c .before .before .before .before .to-bits2 .ensures i)) ∙ sym (ap bytes-of e),
     )
