@@ -102,7 +102,7 @@ words-zeros (suc n) = rw (four-more n) (ap (λ (l : List ℕ). 0 ∷ l) (words-z
 abbrev pub IsFresh : List ℕ → List ℕ → Answer → List ℕ → Type 0
 IsFresh s m a n = (a ≡ (freshOf s m) .0) × (n ≡ (freshOf s m) .1)
 
-as-pair : (a : Answer) (n : List ℕ) (r : Answer × List ℕ) → r ≡ (a, n) → (a ≡ r .0) × (n ≡ r .1)
+pub as-pair : (a : Answer) (n : List ℕ) (r : Answer × List ℕ) → r ≡ (a, n) → (a ≡ r .0) × (n ≡ r .1)
 as-pair a n r e = (ap (λ (x : Answer × List ℕ). x .0) (sym e), ap (λ (x : Answer × List ℕ). x .1) (sym e))
 
 module _ (s m : List ℕ) (b : Board) (read : Read (readBoard s) b) where

@@ -93,7 +93,7 @@ module _ (p : Parsed) (fine : Fine p) (ws : List ℕ) (long : Whole p ws) where
     paste-long : length (paste ws at vs n) ≡ length ws
     paste-long = length-paste ws at vs n inside enough
 
-    paste-other : (j : ℕ) → j < length (p .nodes) → j ≢ k → cellAt p (paste ws at vs n) j ≡ cellAt p ws j
+    pub paste-other : (j : ℕ) → j < length (p .nodes) → j ≢ k → cellAt p (paste ws at vs n) j ≡ cellAt p ws j
     paste-other j l other = go (decLt j k)
       where
         go : Dec (j < k) → cellAt p (paste ws at vs n) j ≡ cellAt p ws j

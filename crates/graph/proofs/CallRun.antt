@@ -78,7 +78,7 @@ mapped-at f [] k h = absurd (omega arith)
 mapped-at f (r ∷ l) zero h = refl
 mapped-at f (r ∷ l) (suc k) h = mapped-at f l k (omega arith)
 
-at-mem : (l : List ℕ) (j : ℕ) → j < length l → mem (getD l j 0) l ≡ true
+pub at-mem : (l : List ℕ) (j : ℕ) → j < length l → mem (getD l j 0) l ≡ true
 at-mem [] j h = absurd (omega arith)
 at-mem (x ∷ l) zero h = mem-head x l
 at-mem (x ∷ l) (suc j) h = or-right (eqb (getD l j 0) x) (at-mem l j (omega arith))

@@ -35,6 +35,7 @@ pub mod FineBoard
 pub mod CallChecks
 pub mod CallCells
 pub mod CallFresh
+pub mod CallMessage
 pub mod CallLaws
 pub mod CallStarts
 pub mod CallRun

@@ -5,6 +5,7 @@ pub mod board;
 pub mod context;
 pub mod graph;
 pub mod judge;
+pub mod message;
 pub mod record;
 pub mod sources;
 pub mod tail;

@@ -1,0 +1,124 @@
+-- `plate::plate::put_nodes` meets its contract: behind the first i nodes, the next one's record. Assumes nothing.
+use mathlib.Core.Path.{_≡_, refl, ap, _∙_}
+use Prim.Native.Nat.{_+_, _*_, _-_, _≤_, _<_}
+use native.Mathlib.Omega.{arith}
+use lib.Dec.{lit<}
+use lib.ListN.{length, take}
+use lib.Seq.{sets}
+use denote.Ref.{now}
+use Rattle.graph.specs.Write.{NodeCard, noNode, nodeBytes, nodesBytes}
+use Rattle.plate.specs.Plate.{plateNodes}
+use Rattle.plate.proofs.Stores.{one-more, all-written}
+use Rattle.plate.proofs.Tables.{node-at}
+use borrow.Author.Needs.{needs}
+use Rattle.plate.proofs.plate.put_nodes.Statement.{statement}
+use Rattle.plate.proofs.plate.put_nodes.Tie as tie
+
+abbrev Inv-loop : tie.InvT-loop
+Inv-loop board₀ mix dry floats i₀ board i = (i ≤ 51) × (length board ≡ length board₀) × (board ≡ sets board₀ 8 (nodesBytes (take i (plateNodes mix dry))))
+
+abbrev μ-loop : tie.MeasureT-loop
+μ-loop board₀ mix dry floats i₀ board i = 51 - i
+
+array-write-floats : tie.Need-array-write-floats Inv-loop μ-loop
+array-write-floats c = lit< tt
+
+array-write-floats-2 : tie.Need-array-write-floats-2 Inv-loop μ-loop
+array-write-floats-2 c = lit< tt
+
+array-write-floats-3 : tie.Need-array-write-floats-3 Inv-loop μ-loop
+array-write-floats-3 c = lit< tt
+
+array-write-floats-4 : tie.Need-array-write-floats-4 Inv-loop μ-loop
+array-write-floats-4 c = lit< tt
+
+loop-holds : tie.Need-loop-holds Inv-loop μ-loop
+loop-holds c = (omega arith, refl, refl)
+
+mul-put-node : tie.Need-mul-put-node Inv-loop μ-loop
+mul-put-node c = search needs
+
+add-put-node : tie.Need-add-put-node Inv-loop μ-loop
+add-put-node c = search needs
+
+mul-put-node-2 : tie.Need-mul-put-node-2 Inv-loop μ-loop
+mul-put-node-2 c = search needs
+
+array-read-put-node : tie.Need-array-read-put-node Inv-loop μ-loop
+array-read-put-node c = search needs
+
+mul-put-node-3 : tie.Need-mul-put-node-3 Inv-loop μ-loop
+mul-put-node-3 c = search needs
+
+array-read-put-node-2 : tie.Need-array-read-put-node-2 Inv-loop μ-loop
+array-read-put-node-2 c = search needs
+
+mul-put-node-4 : tie.Need-mul-put-node-4 Inv-loop μ-loop
+mul-put-node-4 c = search needs
+
+array-read-put-node-3 : tie.Need-array-read-put-node-3 Inv-loop μ-loop
+array-read-put-node-3 c = search needs
+
+put-node-requires : tie.Need-put-node-requires Inv-loop μ-loop
+put-node-requires c κs = omega arith
+
+add-i : tie.Need-add-i Inv-loop μ-loop
+add-i c = search needs
+
+loop-less : tie.Need-loop-less Inv-loop μ-loop
+loop-less c = search needs
+
+loop-again : tie.Need-loop-again Inv-loop μ-loop
+unfolding plateNodes
+loop-again c =
+    let start = c .before .before .before .before .before .before .before .args in
+    let l = now (start .board) in
+    let nodes = plateNodes (start .mix) (start .dry) in
+    let i = c .before .before .before .before .before .loop .i in
+    let inv = c .before .before .before .before .before .loop .inv in
+    let m = c .before .before .before .before .before .loop .board in
+    let put = c .before .before .put-node in
+    let at = 8 + 14 * i in
+    let room : i < length nodes = omega arith in (
+      omega arith,
+      put .kept .0 ∙ inv .1,
+      one-more nodesBytes nodeBytes 14 refl (λ x xs. refl) (λ x. refl) l 8 i nodes noNode room (inv .2)
+          (put .ensures ∙ ap (λ (d : NodeCard). sets m at (nodeBytes d)) (node-at nodes i)),
+    )
+
+same-length : tie.Need-same-length Inv-loop μ-loop
+same-length c = search needs
+
+returns : tie.Need-returns Inv-loop μ-loop
+unfolding plateNodes
+returns c =
+    let start = c .before .before .before .args in
+    let nodes = plateNodes (start .mix) (start .dry) in
+    let past : length nodes ≤ c .before .loop .i = omega arith in
+    all-written nodesBytes nodeBytes 14 refl (λ x xs. refl) (λ x. refl) (now (start .board)) 8 (c .before .loop .i) nodes past (c .before .loop .inv .2)
+
+pub put-nodes-spec : {M : Type 1} → statement M
+put-nodes-spec =
+    tie.close
+    (tie.spec
+    Inv-loop
+    μ-loop
+    array-write-floats
+    array-write-floats-2
+    array-write-floats-3
+    array-write-floats-4
+    loop-holds
+    mul-put-node
+    add-put-node
+    mul-put-node-2
+    array-read-put-node
+    mul-put-node-3
+    array-read-put-node-2
+    mul-put-node-4
+    array-read-put-node-3
+    put-node-requires
+    add-i
+    loop-less
+    loop-again
+    same-length
+    returns)

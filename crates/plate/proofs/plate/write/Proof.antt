@@ -1,0 +1,106 @@
+-- `plate::plate::write` meets its contract, check by check. Assumes nothing.
+use mathlib.Core.Path.{_≡_, sym, ap, _∙_}
+use mathlib.Core.Logic.{⊎-elim}
+use mathlib.Core.List.{List}
+use Prim.Native.Nat.{ℕ}
+use native.Mathlib.Omega.{arith}
+use borrow.Author.Tests.{ltb-true, ltb-false, not-true, not-false}
+use lib.Ieee.{ofBits}
+use denote.Ref.{now}
+use Rattle.graph.specs.Write.{writeBoard}
+use Rattle.graph.specs.declared.answer.Answer.{Answer}
+use Rattle.plate.specs.Plate.{plateCard}
+use Rattle.plate.proofs.Written.{size-in, size-out, wrong-size, wrong-mix, wrong-length, written}
+use borrow.Author.Needs.{needs}
+use Rattle.plate.proofs.plate.write.Statement.{statement}
+use Rattle.plate.proofs.plate.write.Tie as tie
+
+abbrev answer-of : Answer × List ℕ → Answer
+answer-of p = p .0
+
+abbrev bytes-of : Answer × List ℕ → List ℕ
+bytes-of p = p .1
+
+new-requires : tie.Need-new-requires
+new-requires c κs = search needs
+
+returns : tie.Need-returns
+returns c =
+    let start = c .before .before .before .args in
+    let b = now (start .board) in
+    let out = size-out (start .n) (λ l m. ⊎-elim (λ w. omega arith) (λ w. omega (arith, ltb-true)) (c .before .if1 .came)) in
+    let e = wrong-size (start .n) (start .mix) b out in
+    (c .new .ensures ∙ sym (ap answer-of e), sym (ap bytes-of e))
+
+finite-requires : tie.Need-finite-requires
+finite-requires c κs = search needs
+
+new-requires-2 : tie.Need-new-requires-2
+new-requires-2 c κs = search needs
+
+returns-2 : tie.Need-returns-2
+returns-2 c =
+    let start = c .before .before .before .before .before .before .args in
+    let b = now (start .board) in
+    let e = wrong-mix (start .n) (start .mix) b (size-in (start .n) (omega arith) (omega (arith, ltb-false))) (sym (c .before .before .finite .ensures) ∙ not-true _ (c .before .if3 .taken)) in
+    (c .new2 .ensures ∙ sym (ap answer-of e), sym (ap bytes-of e))
+
+new-requires-3 : tie.Need-new-requires-3
+new-requires-3 c κs = search needs
+
+returns-3 : tie.Need-returns-3
+returns-3 c =
+    let start = c .before .before .before .before .before .before .before .args in
+    let b = now (start .board) in
+    let size = size-in (start .n) (omega arith) (omega (arith, ltb-false)) in
+    let e = wrong-length (start .n) (start .mix) b size (sym (c .before .before .before .finite .ensures) ∙ not-false _ (c .before .before .if3 .left)) (c .before .if4 .taken) in
+    (c .new3 .ensures ∙ sym (ap answer-of e), sym (ap bytes-of e))
+
+cast-put-plate : tie.Need-cast-put-plate
+cast-put-plate c = search needs
+
+to-bits-requires : tie.Need-to-bits-requires
+to-bits-requires c κs = search needs
+
+to-bits-requires-2 : tie.Need-to-bits-requires-2
+to-bits-requires-2 c κs = search needs
+
+put-plate-requires : tie.Need-put-plate-requires
+put-plate-requires c κs = search needs
+
+new-requires-4 : tie.Need-new-requires-4
+new-requires-4 c κs = search needs
+
+same-length : tie.Need-same-length
+same-length c = search needs
+
+returns-4 : tie.Need-returns-4
+unfolding ofBits
+returns-4 c =
+    let start = c .before .before .before .before .before .before .before .before .before .before .before .before .before .args in
+    let b = now (start .board) in
+    let size = size-in (start .n) (omega arith) (omega (arith, ltb-false)) in
+    let e = written (start .n) (start .mix) b size (sym (c .before .before .before .before .before .before .before .before .before .finite .ensures) ∙ not-false _ (c .before .before .before .before .before .before .before .before .if3 .left)) (omega arith) in
+    let bits : (mix dry : ℕ) → List ℕ = λ mix dry. writeBoard (plateCard (start .n) mix dry) in (
+      c .new4 .ensures ∙ sym (ap answer-of e),
+      c .before .before .before .put-plate .ensures ∙ (λ i. bits (c .before .before .before .before .before .to-bits .ensures i) (c .before .before .before .before .to-bits2 .ensures i)) ∙ sym (ap bytes-of e),
+    )
+
+pub write-spec : {M : Type 1} → statement M
+write-spec =
+    tie.close
+    (tie.spec
+    new-requires
+    returns
+    finite-requires
+    new-requires-2
+    returns-2
+    new-requires-3
+    returns-3
+    cast-put-plate
+    to-bits-requires
+    to-bits-requires-2
+    put-plate-requires
+    new-requires-4
+    same-length
+    returns-4)
