@@ -4,6 +4,7 @@ pub mod answer;
 pub mod board;
 pub mod graph;
 pub mod judge;
+pub mod reader;
 pub mod record;
 pub mod sources;
 pub mod tail;
