@@ -9,8 +9,8 @@ ghost use Rattle.graph.specs.Board.{Parsed, going, refused, whole, heade
 ghost use Rattle.graph.specs.Phases.{orRefused, nodeRead, wireRead, madeOf, HeadRead, NodesRead, WiresRead};
 ghost use Rattle.graph.specs.Read.{Read};
 use crate::answer::Answer;
+use crate::reader::read_record;
 use crate::record::Found;
-use crate::record::found_at;
 use crate::sources::table_of;
 use leaves::bytes::u16_at;
 use leaves::bytes::u32_at;
@@ -151,7 +151,7 @@ fn head_body(s: &[u8]) -> Head
 fn read_head(s: &[u8]) -> Head
     ensures { λ r. ⌜ HeadRead (stepOf (now (s .entry)) (going 0 0 (headed 0 0))) r ⌝ }
 {
-    match found_at(s, 0, 0) {
+    match read_record(s, 0, 0) {
         Found::Head => head_body(s),
         Found::Node => no_head(2),
         Found::Wire => no_head(2),
@@ -204,7 +204,7 @@ fn node_at(s: &[u8], at: usize, i: usize, lines: usize) -> NodeRead
     requires { ⌜ lines ≤ 262144 ⌝ }
     ensures { λ r. ⌜ r ≡ nodeRead (now (s .entry)) at i lines (foundAt (now (s .entry)) at 2) ⌝ }
 {
-    match found_at(s, at, 2) {
+    match read_record(s, at, 2) {
         Found::Head => NodeRead::Over,
         Found::Node => node_body(s, at, i, lines),
         Found::Wire => NodeRead::Over,
@@ -281,7 +281,7 @@ fn wire_at(s: &[u8], at: usize, i: usize, w: usize) -> WireRead
     requires { ⌜ i ≤ 64 ⌝ }
     ensures { λ r. ⌜ r ≡ wireRead (now (s .entry)) at i w (foundAt (now (s .entry)) at 3) ⌝ }
 {
-    match found_at(s, at, 3) {
+    match read_record(s, at, 3) {
         Found::Head => WireRead::Over,
         Found::Node => WireRead::Over,
         Found::Wire => wire_body(s, at, i, w),

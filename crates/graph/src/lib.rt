@@ -6,6 +6,7 @@ pub mod context;
 pub mod graph;
 pub mod judge;
 pub mod message;
+pub mod reader;
 pub mod record;
 pub mod sources;
 pub mod tail;

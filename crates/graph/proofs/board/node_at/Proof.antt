@@ -10,11 +10,11 @@ use borrow.Author.Needs.{needs}
 use Rattle.graph.proofs.board.node_at.Statement.{statement}
 use Rattle.graph.proofs.board.node_at.Tie as tie
 
-found : (c : tie.After-found-at) (f : Found) → c .found-at .result ≡ f → foundAt (now (c .before .before .args .s)) (c .before .before .args .at) 2 ≡ f
-found c f is = sym (c .found-at .ensures) ∙ is
+found : (c : tie.After-read-record) (f : Found) → c .read-record .result ≡ f → foundAt (now (c .before .before .args .s)) (c .before .before .args .at) 2 ≡ f
+found c f is = sym (c .read-record .ensures) ∙ is
 
-found-at-requires : tie.Need-found-at-requires
-found-at-requires c κs = search needs
+read-record-requires : tie.Need-read-record-requires
+read-record-requires c κs = search needs
 
 enum-told : tie.Need-enum-told
 enum-told c = search needs
@@ -23,7 +23,7 @@ enum-told-2 : tie.Need-enum-told-2
 enum-told-2 c = search needs
 
 node-body-requires : tie.Need-node-body-requires
-node-body-requires c κs = (room-of _ _ _ (c .before .before .found-at .ensures) (c .enum-told2 .given .1) .0, c .before .before .before .before .pre)
+node-body-requires c κs = (room-of _ _ _ (c .before .before .read-record .ensures) (c .enum-told2 .given .1) .0, c .before .before .before .before .pre)
 
 enum-told-3 : tie.Need-enum-told-3
 enum-told-3 c = search needs
@@ -58,7 +58,7 @@ pub node-at-spec : {M : Type 1} → statement M
 node-at-spec =
     tie.close
     (tie.spec
-    found-at-requires
+    read-record-requires
     enum-told
     enum-told-2
     node-body-requires

@@ -12,17 +12,17 @@ use borrow.Author.Needs.{needs}
 use Rattle.graph.proofs.board.read_head.Statement.{statement}
 use Rattle.graph.proofs.board.read_head.Tie as tie
 
-taken : (c : tie.After-found-at) (f : Found) → c .found-at .result ≡ f → takeFound (now (c .before .before .args .s)) 0 (headed 0 0) f ≡ stepOf (now (c .before .before .args .s)) (going 0 0 (headed 0 0))
-taken c f is = step-takes (now (c .before .before .args .s)) 0 0 (headed 0 0) f (sym (c .found-at .ensures) ∙ is)
+taken : (c : tie.After-read-record) (f : Found) → c .read-record .result ≡ f → takeFound (now (c .before .before .args .s)) 0 (headed 0 0) f ≡ stepOf (now (c .before .before .args .s)) (going 0 0 (headed 0 0))
+taken c f is = step-takes (now (c .before .before .args .s)) 0 0 (headed 0 0) f (sym (c .read-record .ensures) ∙ is)
 
-found-at-requires : tie.Need-found-at-requires
-found-at-requires c κs = search needs
+read-record-requires : tie.Need-read-record-requires
+read-record-requires c κs = search needs
 
 enum-told : tie.Need-enum-told
 enum-told c = search needs
 
 head-body-requires : tie.Need-head-body-requires
-head-body-requires c κs = omega (arith, room-of _ _ _ (c .before .before .found-at .ensures) (c .enum-told .given .1) .0)
+head-body-requires c κs = omega (arith, room-of _ _ _ (c .before .before .read-record .ensures) (c .enum-told .given .1) .0)
 
 enum-told-2 : tie.Need-enum-told-2
 enum-told-2 c = search needs
@@ -46,20 +46,20 @@ enum-known-number : tie.Need-enum-known-number
 enum-known-number c = search needs
 
 no-head-requires-4 : tie.Need-no-head-requires-4
-no-head-requires-4 c κs = room-of _ _ _ (c .before .before .before .found-at .ensures) (c .before .number .given .1)
+no-head-requires-4 c κs = room-of _ _ _ (c .before .before .before .read-record .ensures) (c .before .number .given .1)
 
 returns : tie.Need-returns
 unfolding takeFound
 returns c = head-as (taken (c .before .before .before) Head (c .before .enum-told .given .1)) (c .head-body .ensures)
 
 returns-2 : tie.Need-returns-2
-returns-2 c = absurd (omega (arith, room-of _ _ _ (c .before .before .before .found-at .ensures) (c .before .enum-told2 .given .1) .1))
+returns-2 c = absurd (omega (arith, room-of _ _ _ (c .before .before .before .read-record .ensures) (c .before .enum-told2 .given .1) .1))
 
 returns-3 : tie.Need-returns-3
-returns-3 c = absurd (omega (arith, room-of _ _ _ (c .before .before .before .found-at .ensures) (c .before .enum-told3 .given .1) .1))
+returns-3 c = absurd (omega (arith, room-of _ _ _ (c .before .before .before .read-record .ensures) (c .before .enum-told3 .given .1) .1))
 
 returns-4 : tie.Need-returns-4
-returns-4 c = absurd (omega (arith, room-of _ _ _ (c .before .before .before .found-at .ensures) (c .before .enum-told4 .given .1) .1))
+returns-4 c = absurd (omega (arith, room-of _ _ _ (c .before .before .before .read-record .ensures) (c .before .enum-told4 .given .1) .1))
 
 returns-5 : tie.Need-returns-5
 unfolding takeFound
@@ -69,7 +69,7 @@ pub read-head-spec : {M : Type 1} → statement M
 read-head-spec =
     tie.close
     (tie.spec
-    found-at-requires
+    read-record-requires
     enum-told
     head-body-requires
     enum-told-2

@@ -10,11 +10,11 @@ use borrow.Author.Needs.{needs}
 use Rattle.graph.proofs.board.wire_at.Statement.{statement}
 use Rattle.graph.proofs.board.wire_at.Tie as tie
 
-found : (c : tie.After-found-at) (f : Found) → c .found-at .result ≡ f → foundAt (now (c .before .before .args .s)) (c .before .before .args .at) 3 ≡ f
-found c f is = sym (c .found-at .ensures) ∙ is
+found : (c : tie.After-read-record) (f : Found) → c .read-record .result ≡ f → foundAt (now (c .before .before .args .s)) (c .before .before .args .at) 3 ≡ f
+found c f is = sym (c .read-record .ensures) ∙ is
 
-found-at-requires : tie.Need-found-at-requires
-found-at-requires c κs = search needs
+read-record-requires : tie.Need-read-record-requires
+read-record-requires c κs = search needs
 
 enum-told : tie.Need-enum-told
 enum-told c = search needs
@@ -26,7 +26,7 @@ enum-told-3 : tie.Need-enum-told-3
 enum-told-3 c = search needs
 
 wire-body-requires : tie.Need-wire-body-requires
-wire-body-requires c κs = (room-of _ _ _ (c .before .before .found-at .ensures) (c .enum-told3 .given .1) .0, c .before .before .before .before .pre)
+wire-body-requires c κs = (room-of _ _ _ (c .before .before .read-record .ensures) (c .enum-told3 .given .1) .0, c .before .before .before .before .pre)
 
 enum-told-4 : tie.Need-enum-told-4
 enum-told-4 c = search needs
@@ -58,7 +58,7 @@ pub wire-at-spec : {M : Type 1} → statement M
 wire-at-spec =
     tie.close
     (tie.spec
-    found-at-requires
+    read-record-requires
     enum-told
     enum-told-2
     enum-told-3
