@@ -1,9 +1,12 @@
 -- `graph::context::block` meets its contract. The checks decide; then the input block is put, the listed nodes run, and node 0's two channels
 -- are copied out. Assumes nothing.
-use mathlib.Core.Path.{sym, ap, _∙_}
+use Prim.Native.Nat.{_≤_}
+use mathlib.Core.Path.{_≡_, sym, ap, _∙_}
 use native.Mathlib.Omega.{arith}
+use lib.ListN.{length}
 use borrow.Author.Needs.{needs}
-use Rattle.graph.specs.Memory.{runNodes}
+use Rattle.leaves.specs.Words.{words}
+use Rattle.graph.specs.Memory.{runNodes, runBlock}
 use Rattle.graph.specs.Calls.{asFound, listed}
 use Rattle.graph.specs.Read.{parsedOf}
 use Rattle.graph.specs.Fine.{Fine}
@@ -68,6 +71,31 @@ module _ (c : tie.Else2) where
     passes = ap (λ (a : Answer). a .number) (sym (c .before .before .block-judged .ensures)) ∙ c .if2 .left;
   }
 
+-- the call as it was accepted, from where the input block is copied in, and from where the nodes have run
+abbrev before-copy : tie.After-copy → tie.Else2
+before-copy c = c .before .before .before .before
+
+abbrev before-run : tie.After-run → tie.After-copy
+before-run c = c .before .before .before .before .before .before .before .before .before
+
+module _ (c : tie.After-run) where
+  abbrev chosen : tie.Else2
+  chosen = before-copy (before-run c)
+
+  kept : length (c .run .last .1 .1 .0) ≡ length (start (else chosen) .args .memory .now)
+  kept = c .run .kept .1 .1 .0 ∙ before-run c .copy .kept .1 .1 .0
+
+  size-small : reading (else chosen) .read-board .result .size ≤ 128
+  size-small = accepted chosen .fine .most-size
+
+  ran : words (c .run .last .1 .1 .0)
+      ≡ runBlock (parsedOf (reading (else chosen) .read-board .result)) (listed (parsedOf (reading (else chosen) .read-board .result))) (words (start (else chosen) .args .input .now))
+      (words (start (else chosen) .args .memory .now))
+  ran =
+      let p = parsedOf (reading (else chosen) .read-board .result) in
+      let copied = before-run c .copy in
+      c .run .ensures ∙ ap (runNodes p (listed p)) (input-put (accepted chosen) (copied .last .1 .1 .0) (copied .ensures))
+
 mul-node : tie.Need-mul-node
 mul-node c = search needs
 
@@ -89,36 +117,40 @@ copy-requires : tie.Need-copy-requires
 copy-requires c κs = let run = accepted (c .before .before .before) in (omega (arith, checked run .input-long), input-room run)
 
 visiting-list-requires : tie.Need-visiting-list-requires
-visiting-list-requires c κs = let run = accepted (c .before .before .before .before .before .before .before .before .before .before) in board-table _ _ (run .read) (run .accepted)
+visiting-list-requires c κs =
+    let run = accepted (before-copy (c .before .before .before .before .before .before)) in
+    board-table _ _ (run .read) (run .accepted)
 
 run-requires : tie.Need-run-requires
 run-requires c κs =
-    let run = accepted (c .before .before .before .before .before .before .before .before .before .before .before .before) in
-    let copied = c .before .before .before .before .before .before .before .before .copy in
+    let put = c .before .before .before .before .before .before .before .before in
+    let run = accepted (before-copy put) in
     let order = c .before .visiting-list in
-    input-runs run (copied .last .1 .1 .0) (copied .ensures) (order .result) (order .ensures _ (board-gathered _ _ (run .read) (run .accepted)))
+    input-runs run (put .copy .last .1 .1 .0) (put .copy .ensures) (order .result) (order .ensures _ (board-gathered _ _ (run .read) (run .accepted)))
 
 mul-copy-3 : tie.Need-mul-copy-3
-mul-copy-3 c = omega (arith, accepted (c .before .before .before .before .before .before .before .before .before .before .before .before .before .before .before .before .before) .fine .most-size)
+mul-copy-3 c = omega (arith, size-small (c .before .before .before .before))
 
 copy-requires-2 : tie.Need-copy-requires-2
 copy-requires-2 c κs =
-    let run = accepted (c .before .before .before .before .before .before .before .before .before .before .before .before .before .before .before .before .before) in
-    (omega (arith, output-room run, c .before .before .before .before .run .kept .1 .1 .0, c .before .before .before .before .before .before .before .before .before .before .before .before .before .copy .kept .1 .1 .0), omega (arith, checked run .left-long))
+    let after = c .before .before .before .before in
+    let run = accepted (chosen after) in
+    (omega (arith, output-room run, kept after), omega (arith, checked run .left-long))
 
 mul-copy-4 : tie.Need-mul-copy-4
-mul-copy-4 c = omega (arith, accepted (c .before .before .before .before .before .before .before .before .before .before .before .before .before .before .before .before .before .before .before .before .before) .fine .most-size)
+mul-copy-4 c = omega (arith, size-small (c .before .before .before .before .before .before .before .before))
 
 add-copy-2 : tie.Need-add-copy-2
-add-copy-2 c = omega (arith, accepted (c .before .before .before .before .before .before .before .before .before .before .before .before .before .before .before .before .before .before .before .before .before) .fine .most-size)
+add-copy-2 c = omega (arith, size-small (c .before .before .before .before .before .before .before .before))
 
 mul-copy-5 : tie.Need-mul-copy-5
-mul-copy-5 c = omega (arith, accepted (c .before .before .before .before .before .before .before .before .before .before .before .before .before .before .before .before .before .before .before .before .before .before) .fine .most-size)
+mul-copy-5 c = omega (arith, size-small (c .before .before .before .before .before .before .before .before .before))
 
 copy-requires-3 : tie.Need-copy-requires-3
 copy-requires-3 c κs =
-    let run = accepted (c .before .before .before .before .before .before .before .before .before .before .before .before .before .before .before .before .before .before .before .before .before .before) in
-    (omega (arith, output-room run, c .before .before .before .before .before .before .before .before .before .run .kept .1 .1 .0, c .before .before .before .before .before .before .before .before .before .before .before .before .before .before .before .before .before .before .copy .kept .1 .1 .0), omega (arith, checked run .right-long))
+    let after = c .before .before .before .before .before .before .before .before .before in
+    let run = accepted (chosen after) in
+    (omega (arith, output-room run, kept after), omega (arith, checked run .right-long))
 
 new-requires : tie.Need-new-requires
 new-requires c κs = search needs
@@ -134,16 +166,15 @@ same-length-4 c = search needs
 
 returns-3 : tie.Need-returns-3
 returns-3 c =
-    let run = accepted (c .before .before .before .before .before .before .before .before .before .before .before .before .before .before .before .before .before .before .before .before .before .before .before .before .before .before) in
-    let p = parsedOf (reading (else (c .before .before .before .before .before .before .before .before .before .before .before .before .before .before .before .before .before .before .before .before .before .before .before .before .before .before)) .read-board .result) in
-    let copied = c .before .before .before .before .before .before .before .before .before .before .before .before .before .before .before .before .before .before .before .before .before .before .copy in
-    let ran = c .before .before .before .before .before .before .before .before .before .before .before .before .before .run in
+    let after = c .before .before .before .before .before .before .before .before .before .before .before .before .before in
+    let memory = after .run .last .1 .1 .0 in
     let left = c .before .before .before .before .before .before .before .before .copy2 in
     let right = c .before .before .before .copy3 in
-    ap (λ (a : Answer). asFound a (ran .last .1 .1 .0) (left .last .1 .1 .0) (right .last .1 .1 .0)) (c .new .ensures)
-    ∙ block-ran run (ran .last .1 .1 .0) (λ i. omega (arith, c .before .before .before .before .before .before .before .before .before .before .before .slice-known5 .given i)) (ran .kept .1 .1 .0 ∙ copied .kept .1 .1 .0)
-    (ran .ensures ∙ ap (runNodes p (listed p)) (input-put run (copied .last .1 .1 .0) (copied .ensures)))
-    (left .last .1 .1 .0) (right .last .1 .1 .0) (λ i. omega (arith, c .before .before .before .before .before .before .slice-known6 .given i)) (λ i. omega (arith, c .before .slice-known7 .given i))
+    ap (λ (a : Answer). asFound a memory (left .last .1 .1 .0) (right .last .1 .1 .0)) (c .new .ensures)
+    ∙ block-ran (accepted (chosen after)) memory (λ i. omega (arith, c .before .before .before .before .before .before .before .before .before .before .before .slice-known5 .given i)) (kept after) (ran after)
+    (left .last .1 .1 .0) (right .last .1 .1 .0)
+    (λ i. omega (arith, c .before .before .before .before .before .before .slice-known6 .given i))
+    (λ i. omega (arith, c .before .slice-known7 .given i))
     (left .ensures) (right .ensures)
 
 pub block-spec : {M : Type 1} → statement M

@@ -76,10 +76,14 @@ same-length c = search needs
 returns-3 : tie.Need-returns-3
 returns-3 c =
     let cleared = c .before .before .before .before .before .before .before .before in
+    let args = (start cleared) .args in
     let board = (reading cleared) .read-board in
     let stored = c .before .before .before .put-numbers in
-    fresh-written (start cleared .args .s .now) (start cleared .args .memory .now) (board .result) (board .ensures) (accepted cleared) (board-bytes cleared) (long cleared)
-    (stored .last .1 .1 .0) (stored .kept .1 .1 .0 ∙ cleared .clear .kept .0) (λ i. omega (arith, c .before .slice-known3 .given i)) (stored .ensures ∙ ap (λ (m : List ℕ). putNumbers (take (board .result .count) (board .result .nodes)) (words m)) (cleared .clear .ensures)) (c .new .result) (c .new .ensures)
+    let numbers =
+    stored .ensures ∙ ap (λ (m : List ℕ). putNumbers (take (board .result .count) (board .result .nodes)) (words m)) (cleared .clear .ensures) in
+    fresh-written (args .s .now) (args .memory .now) (board .result) (board .ensures) (accepted cleared) (board-bytes cleared) (long cleared)
+    (stored .last .1 .1 .0) (stored .kept .1 .1 .0 ∙ cleared .clear .kept .0) (λ i. omega (arith, c .before .slice-known3 .given i)) numbers
+    (c .new .result) (c .new .ensures)
 
 pub fresh-spec : {M : Type 1} → statement M
 fresh-spec =

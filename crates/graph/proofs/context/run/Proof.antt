@@ -56,7 +56,8 @@ node-small c = omega (arith, node-here c, c .before .before .before .before .bef
 
 count-small : (c : tie.After-wide2 Inv-loop μ-loop) → c .wide2 .result ≤ 8
 count-small c =
-    subst (λ (n : ℕ). n ≤ 8) (sym (c .wide2 .ensures)) (c .before .before .before .before .before .before .before .before .before .before .before .before .before .pre .table (c .before .wide .result) (node-small (c .before)) .few)
+    let start = c .before .before .before .before .before .before .before .before .before .before .before .before .before in
+    subst (λ (n : ℕ). n ≤ 8) (sym (c .wide2 .ensures)) (start .pre .table (c .before .wide .result) (node-small (c .before)) .few)
 
 mul-from : tie.Need-mul-from Inv-loop μ-loop
 mul-from c = omega (arith, node-small c)
@@ -135,7 +136,9 @@ module _ (c : tie.After-wide3 Inv-loop μ-loop) where
       ∙ ap (λ (j : ℕ). runNode (parsedOf board) j (words (at .loop .memory))) (c .before .before .wide .ensures)
 
 step-requires : tie.Need-step-requires Inv-loop μ-loop
-step-requires c κs = (ready (c .before .before .before .before .before .before .before .before), (c .before .before .before .before .before .before .before .before .before .before .before .before .before .loop .inv .1, c .before .before .before .before .before .before .before .before .before .before .before .before .before .loop .inv .2))
+step-requires c κs =
+    let t = c .before .before .before .before .before .before .before .before in
+    (ready t, (at t .loop .inv .1, at t .loop .inv .2))
 
 add-i : tie.Need-add-i Inv-loop μ-loop
 add-i c = omega (arith, c .before .before .before .before .before .before .before .before .before .before .before .before .before .before .before .before .before .before .before .before .before .before .before .before .before .pre .lists .fits)
