@@ -176,8 +176,8 @@ module _ (p : Parsed) (s : Timed Frame) (g : Reply → List ℕ) (w : ℕ → �
 -- ---- the theorem
 
 -- of a board that is read as p
-pub falls-silent : (bytes : List ℕ) → Bytes bytes → (p : Parsed) → readBoard bytes ≡ whole p → tailOf p ≢ endless → (cs : List Call)
-    → (since : ℕ) → QuietInput p (accepted p cs) since → Silent bytes p cs since (tailOf p)
+pub falls-silent : (bytes : List ℕ) → Bytes bytes → (p : Parsed) → readBoard bytes ≡ whole p → tailOf p ≢ endless
+    → (cs : List Call) (since : ℕ) → QuietInput p (accepted p cs) since → Silent bytes p cs since (tailOf p)
 falls-silent bytes b p e other cs since input = record {
   samples = quiet;
   outputs = λ order fit t l m.

@@ -118,13 +118,13 @@ module _ (p : Parsed) (fine : Fine p) (es : List Call) (fit : All (Fits p) es) (
   inside = listed-order p fine k there
 
   -- the number is in range all along
-  at-time : (t : ℕ) → numberFits kind (numberAt p es t k) ≡ true
-  at-time t = number-in-fits p es fit (t / p .size) k (toBits binary32 (numberOf kind)) (fine .nodes k inside .number)
+  number-at-fits : (t : ℕ) → numberFits kind (numberAt p es t k) ≡ true
+  number-at-fits t = number-in-fits p es fit (t / p .size) k (toBits binary32 (numberOf kind)) (fine .nodes k inside .number)
 
   number-fits : (t : ℕ) → t ≤ end p es → numberFits kind (u t k .number) ≡ true
   unfolding setNumber
-  number-fits zero h = rw (reads .first k there) (at-time 0)
-  number-fits (suc t) h = rw (reads .next t k h there) (at-time (suc t))
+  number-fits zero h = rw (reads .first k there) (number-at-fits 0)
+  number-fits (suc t) h = rw (reads .next t k h there) (number-at-fits (suc t))
 
   -- what the node took
   xs-first : xs (u 0 k) ≡ []
@@ -238,7 +238,8 @@ module _ (p : Parsed) (fine : Fine p) (es : List Call) (fit : All (Fits p) es) (
   pub node-lags : delays kind ≡ true → ((a : ℕ) → mem a (sources (p .wires) k) ≡ true → late (listed p) a k ≡ false)
       → Lags (boardOf p) (map sent es) s ZeroFrame (lineOf kind) k
   node-lags only in-time since input zeros t l h =
-      node-zero in-time since (λ r m e. rw input-sent at (input r m (in-theory r e) .0)) (λ a w r m e. zeros a w r m (in-theory r e)) only t l (subst (λ (n : ℕ). t < n) (end-sent p es) h)
+      node-zero in-time since (λ r m e. rw input-sent at (input r m (in-theory r e) .0)) (λ a w r m e. zeros a w r m (in-theory r e)) only t l
+      (subst (λ (n : ℕ). t < n) (end-sent p es) h)
     where
       in-theory : (r : ℕ) → r < end p es → r < flat.end (boardOf p) (map sent es)
       in-theory r e = subst (λ (n : ℕ). r < n) (sym (end-sent p es)) e

@@ -21,9 +21,10 @@ use Rattle.graph.specs.Late.{isLate, lateWires}
 use Rattle.graph.specs.Tail.{tailBy, tailOf, tailAnswer}
 use Rattle.graph.specs.Memory.{freshValues, checkCells, runNode, runNodes, putInput}
 use Rattle.graph.specs.Calls.{checkSamples, blockIn, listed}
-use Rattle.graph.specs.Reading.{Call, block, Reply}
+use Rattle.graph.specs.Reading.{Reply}
 use Rattle.graph.specs.Claim.{callIn, freshMemory}
 use Rattle.graph.specs.Write.{NodeCard, Card, kindOf, parsedOf, writeBoard}
+use Rattle.graph.proofs.DemandWorked.{three}
 
 abbrev node : ℕ → ℕ → ℕ → NodeCard
 node t n f = record { type = t; n = n; f = f }
@@ -39,18 +40,12 @@ echo = record {
 abbrev p : Parsed
 p = parsedOf echo
 
--- two samples as bytes: (1, 0), (0, −0.5) and (0, 0)
-abbrev one : List ℕ
-one = 0 ∷ 0 ∷ 128 ∷ 63 ∷ 0 ∷ 0 ∷ 0 ∷ 0 ∷ []
-
+-- two samples as bytes: (0, −0.5) and (0, 0)
 abbrev half : List ℕ
 half = 0 ∷ 0 ∷ 0 ∷ 0 ∷ 0 ∷ 0 ∷ 0 ∷ 191 ∷ []
 
 abbrev quiet : List ℕ
 quiet = 0 ∷ 0 ∷ 0 ∷ 0 ∷ 0 ∷ 0 ∷ 0 ∷ 0 ∷ []
-
-abbrev three : List Call
-three = block one quiet quiet ∷ block quiet quiet quiet ∷ block quiet quiet quiet ∷ []
 
 abbrev said : List ℕ → Reply
 said x = record { answer = answer 0 0; left = x; right = x }

@@ -59,4 +59,4 @@ pub record Silent (board : List ℕ) (p : Parsed) (cs : List Call) (since tail :
 pub record Tailed (board : List ℕ) (n : ℕ) : Type 0 where
   pub parsed : Parsed
   pub reads : readBoard board ≡ whole parsed
-  pub silent : (cs : List Call) → (since : ℕ) → QuietInput parsed (accepted parsed cs) since → Silent board parsed cs since n
+  pub silent : (cs : List Call) (since : ℕ) → QuietInput parsed (accepted parsed cs) since → Silent board parsed cs since n
