@@ -58,3 +58,8 @@ pub mod DemandReading
 pub mod DemandAfter
 pub mod Demand
 pub mod DemandWorked
+pub mod SilenceFloats
+pub mod SilenceNodes
+pub mod SilenceLags
+pub mod Silence
+pub mod SilenceWorked

@@ -20,6 +20,7 @@ pub mod Parts
 pub mod Calls
 pub mod Reading
 pub mod Claim
+pub mod Silence
 pub mod Instance
 pub mod Formed
 pub mod Walking
