@@ -4,3 +4,4 @@ pub mod Tables
 pub mod Written
 pub mod Dry
 pub mod PlateFacts
+pub mod Mixing

@@ -1,3 +1,110 @@
 // The library's calls for C: numbers and byte slices in, a number and a place out. None asks anything of
-// its caller.
+// its caller, and a refusal leaves every byte as found. include/plate.h declares them.
+ghost use mathlib.Core.Path.{_≡_};
+ghost use Rattle.leaves.specs.Lengths.{delayOf, allPassOf};
+ghost use Rattle.graph.specs.Judge.{judgeOf};
+ghost use Rattle.graph.specs.Tail.{tailAnswer};
+ghost use Rattle.graph.specs.Calls.{asFound, freshOf, blockOf, messageOf};
+ghost use Rattle.plate.specs.Plate.{writeOf};
+ghost use Rattle.plate.specs.Mix.{mixOf};
+ghost use Rattle.plate.specs.Lengths.{lengthAnswer};
+use graph::answer::Answer;
+use leaves::lengths::Length;
+
+pub mod mix;
 pub mod plate;
+
+// The board judge: 0 and the memory's length.
+#[no_mangle]
+pub extern "C" fn plate_judge(board: &[u8]) -> Answer
+    ensures { λ r. ⌜ r ≡ judgeOf (now (board .entry)) ⌝ }
+{
+    graph::judge::judge(board)
+}
+
+// 0 and the tail, 4,294,967,295 for an endless one.
+#[no_mangle]
+pub extern "C" fn plate_tail(board: &[u8]) -> Answer
+    ensures { λ r. ⌜ r ≡ tailAnswer (now (board .entry)) ⌝ }
+{
+    graph::tail::tail_of(board)
+}
+
+// Fresh memory.
+#[no_mangle]
+pub extern "C" fn plate_fresh(board: &[u8], memory: &mut [u8]) -> Answer
+    ensures answered { λ r. ⌜ r ≡ (freshOf (now (board .entry)) (now (memory .entry))) .0 ⌝ }
+    ensures bytes { λ _. ⌜ now (memory .exit) ≡ (freshOf (now (board .entry)) (now (memory .entry))) .1 ⌝ }
+{
+    graph::context::fresh(board, memory)
+}
+
+// A block run.
+#[no_mangle]
+pub extern "C" fn plate_block(
+    board: &[u8],
+    memory: &mut [u8],
+    input: &[u8],
+    out0: &mut [u8],
+    out1: &mut [u8],
+) -> Answer
+    ensures { λ r. ⌜ asFound r (now (memory .exit)) (now (out0 .exit)) (now (out1 .exit))
+        ≡ blockOf (now (board .entry)) (now (memory .entry)) (now (input .entry)) (now (out0 .entry)) (now (out1 .entry)) ⌝ }
+{
+    graph::context::block(board, memory, input, out0, out1)
+}
+
+// A number message.
+#[no_mangle]
+pub extern "C" fn plate_message(board: &[u8], memory: &mut [u8], node: u32, value: f32) -> Answer
+    ensures answered { λ r. ⌜ r ≡ (messageOf (now (board .entry)) (now (memory .entry)) node value) .0 ⌝ }
+    ensures bytes { λ _. ⌜ now (memory .exit) ≡ (messageOf (now (board .entry)) (now (memory .entry)) node value) .1 ⌝ }
+{
+    graph::message::message(board, memory, node, value)
+}
+
+// The mix message.
+#[no_mangle]
+pub extern "C" fn plate_mix(board: &[u8], memory: &mut [u8], mix: f32) -> Answer
+    ensures answered { λ r. ⌜ r ≡ (mixOf (now (board .entry)) (now (memory .entry)) mix) .0 ⌝ }
+    ensures bytes { λ _. ⌜ now (memory .exit) ≡ (mixOf (now (board .entry)) (now (memory .entry)) mix) .1 ⌝ }
+{
+    crate::mix::set_mix(board, memory, mix)
+}
+
+// The plate writer.
+#[no_mangle]
+pub extern "C" fn plate_write(n: u32, mix: f32, board: &mut [u8]) -> Answer
+    ensures answered { λ r. ⌜ r ≡ (writeOf n mix (now (board .entry))) .0 ⌝ }
+    ensures bytes { λ _. ⌜ now (board .exit) ≡ (writeOf n mix (now (board .entry))) .1 ⌝ }
+{
+    crate::plate::write(n, mix, board)
+}
+
+fn length_answer(length: Length) -> Answer
+    ensures { λ r. ⌜ r ≡ lengthAnswer length ⌝ }
+{
+    match length {
+        Length::Samples(n) => Answer { number: 0, place: n },
+        Length::OutOfRange => Answer {
+            number: 12,
+            place: 0,
+        },
+    }
+}
+
+// 0 and the length of a delay of so many milliseconds.
+#[no_mangle]
+pub extern "C" fn plate_delay_length(ms: f32) -> Answer
+    ensures { λ r. ⌜ r ≡ lengthAnswer (delayOf ms) ⌝ }
+{
+    length_answer(leaves::lengths::delay_length(ms))
+}
+
+// 0 and the length of an all-pass of so many milliseconds.
+#[no_mangle]
+pub extern "C" fn plate_allpass_length(ms: f32) -> Answer
+    ensures { λ r. ⌜ r ≡ lengthAnswer (allPassOf ms) ⌝ }
+{
+    length_answer(leaves::lengths::all_pass_length(ms))
+}

@@ -1,0 +1,83 @@
+-- The mix message (document 01, "Plate" and "Answers by number"): it sets 41, 47 to mix, then 43, 49 to 1 − mix, and all four must be muls.
+-- Its answer, and every byte of the memory afterwards. Definitions only.
+use Prim.Native.Nat.{ℕ}
+use mathlib.Core.Path.{_≡_}
+use mathlib.Core.Bool.{Bool, true, false, cond, _&&_}
+use mathlib.Core.List.{List}
+use lib.ListN.{length, getD}
+use lib.Dec.{eqb, ltb}
+use lib.Ieee.{Float, binary32, toBits}
+use Rattle.leaves.specs.Floors.{finiteF}
+use Rattle.leaves.specs.Words.{words, unwords}
+use Rattle.nodes.specs.declared.kind.NodeKind.{NodeKind}
+use Rattle.nodes.specs.declared.kind.NodeKind.the-variants.{Pass, Sum, Destination, Balance, Mul, Add, Delay, AllPass, OnePole, Sine}
+use Rattle.graph.specs.Answer.{answer}
+use Rattle.graph.specs.Board.{Parsed, Reading, going, refused, whole}
+use Rattle.graph.specs.Judge.{readBoard}
+use Rattle.graph.specs.Memory.{passed, nodeAt, kindAt}
+use Rattle.graph.specs.Calls.{andThen, checkLength, checkMemory, setNumber, messageOf}
+use Rattle.graph.specs.declared.answer.Answer.{Answer}
+use Rattle.plate.specs.Plate.{dryOf}
+
+-- ---- the checks behind 6
+
+abbrev pub isMul : NodeKind → Bool
+isMul Pass = false
+isMul Sum = false
+isMul Destination = false
+isMul Balance = false
+isMul (Mul f) = true
+isMul (Add f) = false
+isMul (Delay n) = false
+isMul (AllPass n f) = false
+isMul (OnePole f) = false
+isMul (Sine f) = false
+
+-- 11: node k is there and is a mul
+abbrev pub checkMul : Parsed → ℕ → Answer
+checkMul p k = cond (ltb k (length (p .nodes)) && isMul (kindAt p k)) passed (answer 11 k)
+
+-- 12: mix is finite
+abbrev pub checkFinite : Float → Answer
+checkFinite mix = cond (finiteF mix) passed (answer 12 41)
+
+-- the first of 41, 47, 43, 49 that is no mul; then mix itself
+abbrev pub checkMix : Parsed → Float → Answer
+checkMix p mix = andThen (checkMul p 41) (andThen (checkMul p 47) (andThen (checkMul p 43) (andThen (checkMul p 49) (checkFinite mix))))
+
+abbrev pub checkMixed : Parsed → List ℕ → Float → Answer
+checkMixed p m mix = andThen (checkLength p m) (andThen (checkMemory p m) (checkMix p mix))
+
+-- ---- the call
+
+-- 41, 47 to mix, then 43, 49 to 1 − mix
+abbrev pub setMix : Parsed → Float → List ℕ → List ℕ
+setMix p mix ws = setNumber p 49 (dryOf mix) (setNumber p 43 (dryOf mix) (setNumber p 47 mix (setNumber p 41 mix ws)))
+
+abbrev pub mixBy : Reading → List ℕ → Float → Answer × List ℕ
+mixBy (going at last p) m mix = (answer 1 at, m)
+mixBy (refused n w) m mix = (answer n w, m)
+mixBy (whole p) m mix = (checkMixed p m mix, cond (eqb (checkMixed p m mix .number) 0) (unwords (setMix p mix (words m))) m)
+
+unfoldable pub mixOf : List ℕ → List ℕ → Float → Answer × List ℕ
+mixOf board m mix = mixBy (readBoard board) m mix
+
+-- ---- what is shown of it: an accepted mix is its four number messages, one after the other
+
+-- the memory after a number message
+abbrev pub after : List ℕ → List ℕ → ℕ → Float → List ℕ
+after board m k x = (messageOf board m k x) .1
+
+-- each of the four is accepted, and the last leaves what the mix message leaves
+pub record IsFour (board m : List ℕ) (mix : Float) : Type 0 where
+  pub first : (messageOf board m 41 mix) .0 ≡ passed
+  pub second : (messageOf board (after board m 41 mix) 47 mix) .0 ≡ passed
+  pub third : (messageOf board (after board (after board m 41 mix) 47 mix) 43 (dryOf mix)) .0 ≡ passed
+  pub fourth : messageOf board (after board (after board (after board m 41 mix) 47 mix) 43 (dryOf mix)) 49 (dryOf mix) ≡ mixOf board m mix
+
+-- and the four cells hold mix and 1 − mix
+pub record HoldsMix (p : Parsed) (mix : Float) (ws : List ℕ) : Type 0 where
+  pub left-wet : getD ws (nodeAt p 41 .cell) 0 ≡ toBits binary32 mix
+  pub right-wet : getD ws (nodeAt p 47 .cell) 0 ≡ toBits binary32 mix
+  pub left-dry : getD ws (nodeAt p 43 .cell) 0 ≡ toBits binary32 (dryOf mix)
+  pub right-dry : getD ws (nodeAt p 49 .cell) 0 ≡ toBits binary32 (dryOf mix)
