@@ -14,13 +14,5 @@ pub mod Late
 pub mod Tail
 pub mod Walks
 pub mod Write
-pub mod Memory
-pub mod Fine
-pub mod Parts
-pub mod Calls
-pub mod Reading
-pub mod Claim
-pub mod Silence
-pub mod Instance
 pub mod Formed
 pub mod Walking

@@ -18,17 +18,17 @@ use Rattle.nodes.specs.declared.kind.NodeRecord.{NodeRecord}
 use Rattle.graph.specs.Answer.{answer}
 use Rattle.graph.specs.Board.{Parsed, Reading, memoryLength}
 use Rattle.graph.specs.Judge.{readBoard}
-use Rattle.graph.specs.Memory.{passed, kindAt}
-use Rattle.graph.specs.Calls.{andThen, checkLength, checkMemory}
+use Rattle.context.specs.Memory.{passed, kindAt}
+use Rattle.context.specs.Calls.{andThen, checkLength, checkMemory}
 use Rattle.graph.specs.Read.{parsedOf, Sound, Read}
-use Rattle.graph.specs.Parts.{nodeIn}
+use Rattle.context.specs.Parts.{nodeIn}
 use Rattle.graph.specs.declared.answer.Answer.{Answer}
 use Rattle.graph.specs.declared.board.Board.{Board}
 use Rattle.graph.proofs.Accepted.{refused-board, accepted-board}
-use Rattle.graph.proofs.CallCells.{node-in, count-nodes}
-use Rattle.graph.proofs.CallChecks.{needed-long, then-both}
-use Rattle.graph.proofs.CallFresh.{as-pair}
-use Rattle.graph.proofs.CallMessage.{told, told-lacking, told-set}
+use Rattle.context.proofs.CallCells.{node-in, count-nodes}
+use Rattle.context.proofs.CallChecks.{needed-long, then-both}
+use Rattle.context.proofs.CallFresh.{as-pair}
+use Rattle.context.proofs.CallMessage.{told, told-lacking, told-set}
 use Rattle.plate.specs.Mix.{isMul, checkMul, checkFinite, checkMix, checkMixed, setMix, mixBy, mixOf}
 
 -- ---- check 11 on the code's arrays

@@ -14,8 +14,8 @@ use Rattle.nodes.specs.declared.kind.NodeKind.the-variants.{Pass, Sum, Destinat
 use Rattle.graph.specs.Answer.{answer}
 use Rattle.graph.specs.Board.{Parsed, Reading, going, refused, whole}
 use Rattle.graph.specs.Judge.{readBoard}
-use Rattle.graph.specs.Memory.{passed, nodeAt, kindAt}
-use Rattle.graph.specs.Calls.{andThen, checkLength, checkMemory, setNumber, messageOf}
+use Rattle.context.specs.Memory.{passed, nodeAt, kindAt}
+use Rattle.context.specs.Calls.{andThen, checkLength, checkMemory, setNumber, messageOf}
 use Rattle.graph.specs.declared.answer.Answer.{Answer}
 use Rattle.plate.specs.Plate.{dryOf}
 

@@ -4,7 +4,7 @@ ghost use mathlib.Core.Path.{_≡_};
 ghost use Rattle.leaves.specs.Lengths.{delayOf, allPassOf};
 ghost use Rattle.graph.specs.Judge.{judgeOf};
 ghost use Rattle.graph.specs.Tail.{tailAnswer};
-ghost use Rattle.graph.specs.Calls.{asFound, freshOf, blockOf, messageOf};
+ghost use Rattle.context.specs.Calls.{asFound, freshOf, blockOf, messageOf};
 ghost use Rattle.plate.specs.Plate.{writeOf};
 ghost use Rattle.plate.specs.Mix.{mixOf};
 ghost use Rattle.plate.specs.Lengths.{lengthAnswer};
@@ -36,7 +36,7 @@ pub extern "C" fn plate_fresh(board: &[u8], memory: &mut [u8]) -> Answer
     ensures answered { λ r. ⌜ r ≡ (freshOf (now (board .entry)) (now (memory .entry))) .0 ⌝ }
     ensures bytes { λ _. ⌜ now (memory .exit) ≡ (freshOf (now (board .entry)) (now (memory .entry))) .1 ⌝ }
 {
-    graph::context::fresh(board, memory)
+    context::calls::fresh(board, memory)
 }
 
 // A block run.
@@ -51,7 +51,7 @@ pub extern "C" fn plate_block(
     ensures { λ r. ⌜ asFound r (now (memory .exit)) (now (out0 .exit)) (now (out1 .exit))
         ≡ blockOf (now (board .entry)) (now (memory .entry)) (now (input .entry)) (now (out0 .entry)) (now (out1 .entry)) ⌝ }
 {
-    graph::context::block(board, memory, input, out0, out1)
+    context::calls::block(board, memory, input, out0, out1)
 }
 
 // A number message.
@@ -60,7 +60,7 @@ pub extern "C" fn plate_message(board: &[u8], memory: &mut [u8], node: u32, valu
     ensures answered { λ r. ⌜ r ≡ (messageOf (now (board .entry)) (now (memory .entry)) node value) .0 ⌝ }
     ensures bytes { λ _. ⌜ now (memory .exit) ≡ (messageOf (now (board .entry)) (now (memory .entry)) node value) .1 ⌝ }
 {
-    graph::message::message(board, memory, node, value)
+    context::message::message(board, memory, node, value)
 }
 
 // The mix message.

@@ -4,13 +4,13 @@ ghost use Prim.Native.Nat.{_*_, _<_};
 ghost use lib.ListN.{length};
 ghost use Rattle.leaves.specs.Words.{words};
 ghost use Rattle.graph.specs.Read.{parsedOf, Sound};
-ghost use Rattle.graph.specs.Fine.{Fine};
+ghost use Rattle.context.specs.Fine.{Fine};
 ghost use Rattle.plate.specs.Mix.{isMul, checkMul, checkMix, checkMixed, setMix, mixOf};
 use graph::answer::Answer;
 use graph::board::Board;
-use graph::context::memory_judged;
+use context::calls::memory_judged;
 use graph::judge::read_board;
-use graph::message::put_number;
+use context::message::put_number;
 use leaves::float::finite;
 use nodes::kind::NodeKind;
 

@@ -1,9 +1,9 @@
 -- `plate::mix::mixed_judged` meets its contract. The memory is judged first, then the mix. Assumes nothing.
 use mathlib.Core.Path.{_∙_}
-use Rattle.graph.specs.Calls.{andThen, checkLength, checkMemory}
+use Rattle.context.specs.Calls.{andThen, checkLength, checkMemory}
 use Rattle.graph.specs.Read.{parsedOf}
 use Rattle.graph.specs.declared.answer.Answer.{Answer}
-use Rattle.graph.proofs.CallChecks.{then-passed, then-refused, then-assoc}
+use Rattle.context.proofs.CallChecks.{then-passed, then-refused, then-assoc}
 use Rattle.plate.specs.Mix.{checkMix}
 use borrow.Author.Needs.{needs}
 use Rattle.plate.proofs.mix.mixed_judged.Statement.{statement}

@@ -2,7 +2,7 @@
 use mathlib.Core.Path.{ap, _∙_}
 use native.Mathlib.Omega.{arith}
 use lib.Ieee.{ofBits}
-use Rattle.graph.specs.Calls.{setNumber}
+use Rattle.context.specs.Calls.{setNumber}
 use Rattle.graph.specs.Read.{parsedOf}
 use Rattle.plate.specs.Plate.{dryOf}
 use borrow.Author.Needs.{needs}

@@ -6,12 +6,12 @@ use lib.ListN.{length}
 use Rattle.leaves.specs.Words.{Bytes}
 use Rattle.graph.specs.Judge.{readBoard}
 use Rattle.graph.specs.Read.{parsedOf, Read}
-use Rattle.graph.specs.Fine.{Fine}
+use Rattle.context.specs.Fine.{Fine}
 use Rattle.graph.specs.declared.answer.Answer.{Answer}
 use Rattle.graph.specs.declared.board.Board.{Board}
 use Rattle.graph.proofs.Accepted.{accepted-board}
-use Rattle.graph.proofs.FineBoard.{fine-board}
-use Rattle.graph.proofs.CallCells.{count-nodes}
+use Rattle.context.proofs.FineBoard.{fine-board}
+use Rattle.context.proofs.CallCells.{count-nodes}
 use Rattle.plate.proofs.Mixing.{mix-told, mix-refused, mix-lacking, mix-set}
 use borrow.Author.Needs.{needs}
 use Rattle.plate.proofs.mix.set_mix.Statement.{statement}

@@ -1,0 +1,122 @@
+-- The checks of the calls, in the steps that the code takes.
+--     cells-next, cells-wrong, cells-end        check 8, node by node
+--     samples-next, samples-wrong, samples-end  check 10, sample by sample
+--     needed-long, sizes-passed, sizes-wrong    checks 7 and 9
+--     then-passed, then-refused, then-both, then-assoc    one check after another
+-- Assumes nothing.
+use Prim.Native.Nat.{ℕ, _+_, _*_, _≤_, _<_}
+use mathlib.Core.Path.{_≡_, refl, sym, ap, _∙_}
+use mathlib.Core.Bool.{Bool, true, false, cond, _&&_}
+use mathlib.Core.List.{List, []}
+use native.Mathlib.Numerals.{add-one}
+use native.Mathlib.Omega.{arith}
+use borrow.Author.Tests.{eqb-true, eqb-false, ne-eqb}
+use lib.Dec.{eqb}
+use lib.ListN.{length, getD, take, drop}
+use lib.Seq.{drop-cons, drop-length}
+use Rattle.nodes.specs.Kind.{finite}
+use Rattle.nodes.specs.Cell.{cellFits}
+use Rattle.nodes.specs.declared.kind.NodeRecord.{NodeRecord}
+use Rattle.graph.specs.Answer.{answer}
+use Rattle.context.specs.Memory.{passed, checkCells}
+use Rattle.context.specs.Calls.{andThen, checkNeeded, checkSizes, checkSamples}
+use Rattle.context.specs.Parts.{nodeIn}
+use Rattle.graph.specs.declared.answer.Answer.{Answer}
+use Rattle.graph.proofs.Choice.{both}
+use Rattle.graph.proofs.Six.{blank, counted, node-here}
+
+-- ---- check 8
+
+pub none-left : (nodes : List NodeRecord) (n : ℕ) → n ≤ length nodes → drop n (take n nodes) ≡ []
+none-left nodes n fits = ap (λ (k : ℕ). drop k (take n nodes)) (sym (counted nodes n fits)) ∙ drop-length (take n nodes)
+
+module _ (ws : List ℕ) (nodes : List NodeRecord) (n : ℕ) (fits : n ≤ length nodes) where
+  module _ (i : ℕ) (within : i < n) where
+    pub cells-next : cellFits (nodeIn nodes i .kind) (drop (nodeIn nodes i .cell) ws) ≡ true
+        → checkCells ws (i + 1) (drop (i + 1) (take n nodes)) ≡ checkCells ws i (drop i (take n nodes))
+    unfolding checkCells
+    cells-next e = rw (add-one, node-here nodes n fits i within blank, e)
+
+    pub cells-wrong : cellFits (nodeIn nodes i .kind) (drop (nodeIn nodes i .cell) ws) ≡ false
+        → checkCells ws i (drop i (take n nodes)) ≡ answer 8 i
+    unfolding checkCells
+    cells-wrong e = rw (node-here nodes n fits i within blank, e)
+
+  pub cells-end : checkCells ws n (drop n (take n nodes)) ≡ passed
+  unfolding checkCells
+  cells-end = rw (none-left nodes n fits)
+
+-- ---- check 10
+
+module _ (ws : List ℕ) where
+  module _ (i : ℕ) (within : i < length ws) where
+    pub samples-next : finite (getD ws i 0) ≡ true → checkSamples (i + 1) (drop (i + 1) ws) ≡ checkSamples i (drop i ws)
+    unfolding checkSamples
+    samples-next e = rw (add-one, drop-cons ws i 0 within, e)
+
+    pub samples-wrong : finite (getD ws i 0) ≡ false → checkSamples i (drop i ws) ≡ answer 10 i
+    unfolding checkSamples
+    samples-wrong e = rw (drop-cons ws i 0 within, e)
+
+  pub samples-end : (n : ℕ) → n ≡ length ws → checkSamples n (drop n ws) ≡ passed
+  unfolding checkSamples
+  samples-end n e = rw (e, drop-length ws)
+
+-- ---- checks 7 and 9
+
+pub needed-long : (needed lent : ℕ) → checkNeeded needed lent .number ≡ 0 → lent ≡ needed
+needed-long needed lent = go (eqb lent needed) refl
+  where
+    go : (q : Bool) → eqb lent needed ≡ q → (cond q passed (answer 7 needed)) .number ≡ 0 → lent ≡ needed
+    go true e h = eqb-true lent needed e
+    go false e h = absurd (omega arith)
+
+module _ (N x l r : ℕ) where
+  abbrev sizes : Bool
+  sizes = eqb x (4 * N) && eqb l (4 * N) && eqb r (4 * N)
+
+  pub sizes-long : sizes ≡ true → (x ≡ 4 * N) × (l ≡ 4 * N) × (r ≡ 4 * N)
+  sizes-long e =
+      let front = both (eqb x (4 * N) && eqb l (4 * N)) (eqb r (4 * N)) e in
+      let first = both (eqb x (4 * N)) (eqb l (4 * N)) (front .0) in
+      (eqb-true x (4 * N) (first .0), eqb-true l (4 * N) (first .1), eqb-true r (4 * N) (front .1))
+
+  pub sizes-accepted : checkSizes N x l r .number ≡ 0 → (x ≡ 4 * N) × (l ≡ 4 * N) × (r ≡ 4 * N)
+  sizes-accepted = go sizes refl
+    where
+      go : (q : Bool) → sizes ≡ q → (cond q passed (answer 9 N)) .number ≡ 0 → (x ≡ 4 * N) × (l ≡ 4 * N) × (r ≡ 4 * N)
+      go true e h = sizes-long e
+      go false e h = absurd (omega arith)
+
+  pub sizes-passed : sizes ≡ true → checkSizes N x l r ≡ passed
+  sizes-passed e = rw e
+
+  pub sizes-wrong : sizes ≡ false → checkSizes N x l r ≡ answer 9 N
+  sizes-wrong e = rw e
+
+-- ---- one check after another
+
+-- an answer r to the check a; where it refuses it is the answer, else the answer is that to b
+pub then-refused : (a b r : Answer) → r ≡ a → (r .number ≡ 0 → ⊥) → r ≡ andThen a b
+then-refused a b r e h =
+    let other : a .number ≡ 0 → ⊥ = λ z. h (ap (λ (x : Answer). x .number) e ∙ z) in
+    rw (ne-eqb (a .number) 0 other) e
+
+pub then-passed : (a b r s : Answer) → r ≡ a → r .number ≡ 0 → s ≡ b → s ≡ andThen a b
+then-passed a b r s e h f =
+    let zero-there : a .number ≡ 0 = ap (λ (x : Answer). x .number) (sym e) ∙ h in
+    rw zero-there f
+
+pub then-both : (a b : Answer) → andThen a b .number ≡ 0 → (a .number ≡ 0) × (b .number ≡ 0)
+then-both a b = go (eqb (a .number) 0) refl
+  where
+    go : (q : Bool) → eqb (a .number) 0 ≡ q → (cond q b a) .number ≡ 0 → (a .number ≡ 0) × (b .number ≡ 0)
+    go true e h = (eqb-true (a .number) 0 e, h)
+    go false e h = absurd (eqb-false (a .number) 0 e h)
+
+pub then-assoc : (a b c : Answer) → andThen (andThen a b) c ≡ andThen a (andThen b c)
+then-assoc a b c = go (eqb (a .number) 0) refl
+  where
+    go : (q : Bool) → eqb (a .number) 0 ≡ q → andThen (cond q b a) c ≡ cond q (andThen b c) a
+    go true e = refl
+    go false e = rw e

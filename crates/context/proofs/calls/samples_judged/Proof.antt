@@ -1,0 +1,74 @@
+-- `context::calls::samples_judged` meets its contract. The samples passed are finite, so what is left decides. Assumes nothing.
+use Prim.Native.Nat.{_≤_, _-_}
+use mathlib.Core.Path.{_≡_, refl, sym, _∙_}
+use native.Mathlib.Omega.{arith}
+use borrow.Author.Tests.{lt-ltb, le-ltb}
+use lib.ListN.{drop}
+use Rattle.leaves.specs.Words.{words, length-words}
+use Rattle.context.specs.Calls.{checkSamples}
+use Rattle.context.proofs.CallChecks.{samples-next, samples-wrong, samples-end}
+use Rattle.context.proofs.calls.samples_judged.Statement.{statement}
+use Rattle.context.proofs.calls.samples_judged.Tie as tie
+
+abbrev Inv-loop : tie.InvT-loop
+Inv-loop input size i₀ i = (i ≤ size) × (checkSamples i (drop i (words input)) ≡ checkSamples 0 (words input))
+
+abbrev μ-loop : tie.MeasureT-loop
+μ-loop input size i₀ i = size - i
+
+loop-holds : tie.Need-loop-holds Inv-loop μ-loop
+loop-holds c = (omega arith, refl)
+
+word-at-requires : tie.Need-word-at-requires Inv-loop μ-loop
+word-at-requires c κs = omega arith
+
+add-i : tie.Need-add-i Inv-loop μ-loop
+add-i c = omega arith
+
+loop-less : tie.Need-loop-less Inv-loop μ-loop
+loop-less c = omega arith
+
+loop-again : tie.Need-loop-again Inv-loop μ-loop
+loop-again c =
+    let start = c .before .before .before .before .before in
+    let i = c .before .before .before .loop .i in
+    let ws = words (start .args .input .now) in
+    let fits = lt-ltb _ _ (c .if1 .taken) in
+    (omega arith, samples-next ws i (omega (arith, length-words (start .args .input .now))) (rw (← c .before .word-at .ensures) fits) ∙ c .before .before .before .loop .inv .1)
+
+new-requires : tie.Need-new-requires Inv-loop μ-loop
+new-requires c κs = omega arith
+
+returns : tie.Need-returns Inv-loop μ-loop
+returns c =
+    let start = c .before .before .before .before .before .before in
+    let i = c .before .before .before .before .loop .i in
+    let ws = words (start .args .input .now) in
+    let wrong = le-ltb _ _ (c .before .if1 .left) in
+    c .new .ensures ∙ sym (samples-wrong ws i (omega (arith, length-words (start .args .input .now))) (rw (← c .before .before .word-at .ensures) wrong))
+    ∙ c .before .before .before .before .loop .inv .1
+
+new-requires-2 : tie.Need-new-requires-2 Inv-loop μ-loop
+new-requires-2 c κs = omega arith
+
+returns-2 : tie.Need-returns-2 Inv-loop μ-loop
+returns-2 c =
+    let start = c .before .before .before .before in
+    let all = samples-end (words (start .args .input .now)) (c .before .before .loop .i) (omega (arith, length-words (start .args .input .now))) in
+    c .new2 .ensures ∙ sym all ∙ c .before .before .loop .inv .1
+
+pub samples-judged-spec : {M : Type 1} → statement M
+samples-judged-spec =
+    tie.close
+    (tie.spec
+    Inv-loop
+    μ-loop
+    loop-holds
+    word-at-requires
+    add-i
+    loop-less
+    loop-again
+    new-requires
+    returns
+    new-requires-2
+    returns-2)

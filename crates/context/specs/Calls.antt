@@ -1,0 +1,125 @@
+-- The calls on a board's bytes and its memory (document 01, "Memory" and "Answers by number"): the answer, and every byte afterwards.
+-- A refused call leaves every byte as found. Definitions only.
+use Prim.Native.Nat.{ℕ, zero, suc, _+_, _*_}
+use mathlib.Core.Bool.{Bool, cond, _&&_}
+use mathlib.Core.List.{List, [], _∷_}
+use lib.ListN.{length, set}
+use lib.Dec.{eqb, ltb}
+use lib.Ieee.{Float, binary32, toBits}
+use Rattle.leaves.specs.Words.{words, unwords}
+use Rattle.leaves.specs.Parts.{part}
+use Rattle.nodes.specs.Kind.{finite}
+use Rattle.graph.specs.Answer.{answer}
+use Rattle.graph.specs.Board.{Parsed, Reading, going, refused, whole, memoryLength}
+use Rattle.graph.specs.Judge.{readBoard}
+use Rattle.graph.specs.Visit.{visitingList}
+use Rattle.nodes.specs.Cell.{takesNumber, valueFits}
+use Rattle.context.specs.Memory.{passed, nodeAt, kindAt, freshValues, checkCells, runBlock}
+use Rattle.graph.specs.declared.answer.Answer.{Answer}
+
+-- the answer, and the bytes of the memory and of the two output blocks as a call left them
+pub record Left : Type 0 where
+  pub answer : Answer
+  pub memory : List ℕ
+  pub left : List ℕ
+  pub right : List ℕ
+
+-- ---- checks, one after the other: the first that refuses answers
+
+abbrev pub andThen : Answer → Answer → Answer
+andThen a b = cond (eqb (a .number) 0) b a
+
+-- 7: so many bytes are lent, and so many needed
+abbrev pub checkNeeded : ℕ → ℕ → Answer
+checkNeeded needed lent = cond (eqb lent needed) passed (answer 7 needed)
+
+abbrev pub checkLength : Parsed → List ℕ → Answer
+checkLength p m = checkNeeded (memoryLength p) (length m)
+
+-- 8: the judged values
+abbrev pub checkMemory : Parsed → List ℕ → Answer
+checkMemory p m = checkCells (words m) 0 (p .nodes)
+
+-- 9: the three blocks' lengths
+abbrev pub checkSizes : ℕ → ℕ → ℕ → ℕ → Answer
+checkSizes N x l r = cond (eqb x (4 * N) && eqb l (4 * N) && eqb r (4 * N)) passed (answer 9 N)
+
+abbrev pub checkBlocks : Parsed → List ℕ → List ℕ → List ℕ → Answer
+checkBlocks p x l r = checkSizes (p .size) (length x) (length l) (length r)
+
+-- 10: the first infinite or NaN sample
+unfoldable pub checkSamples : ℕ → List ℕ → Answer
+checkSamples i [] = passed
+checkSamples i (w ∷ ws) = cond (finite w) (checkSamples (suc i) ws) (answer 10 i)
+
+-- ---- the calls
+
+abbrev pub asFound : Answer → List ℕ → List ℕ → List ℕ → Left
+asFound a m l r = record { answer = a; memory = m; left = l; right = r }
+
+-- the fresh call writes the whole memory
+abbrev pub freshBy : Reading → List ℕ → Answer × List ℕ
+freshBy (going at last p) m = (answer 1 at, m)
+freshBy (refused n w) m = (answer n w, m)
+freshBy (whole p) m = (checkLength p m, cond (eqb (checkLength p m .number) 0) (unwords (freshValues p)) m)
+
+unfoldable pub freshOf : List ℕ → List ℕ → Answer × List ℕ
+freshOf board m = freshBy (readBoard board) m
+
+-- the checks of a block run behind 6
+abbrev pub checkBlock : Parsed → List ℕ → List ℕ → List ℕ → List ℕ → Answer
+checkBlock p m x l r = andThen (checkLength p m) (andThen (checkMemory p m) (andThen (checkBlocks p x l r) (checkSamples 0 (words x))))
+
+-- an accepted block run with the nodes taken in the order o: the outputs are node 0's two channels
+abbrev pub ranBlock : Parsed → List ℕ → List ℕ → List ℕ → Left
+ranBlock p o x m =
+    let ws = runBlock p o (words x) (words m) in
+    record {
+      answer = passed;
+      memory = unwords ws;
+      left = unwords (part ws 3 (p .size));
+      right = unwords (part ws (3 + p .size) (p .size));
+    }
+
+abbrev pub blockBy : (Parsed → List ℕ) → Reading → List ℕ → List ℕ → List ℕ → List ℕ → Left
+blockBy order (going at last p) m x l r = asFound (answer 1 at) m l r
+blockBy order (refused n w) m x l r = asFound (answer n w) m l r
+blockBy order (whole p) m x l r =
+    cond (eqb (checkBlock p m x l r .number) 0) (ranBlock p (order p) x m) (asFound (checkBlock p m x l r) m l r)
+
+-- a block run in the order that `order` gives for a board
+unfoldable pub blockIn : (Parsed → List ℕ) → List ℕ → List ℕ → List ℕ → List ℕ → List ℕ → Left
+blockIn order board m x l r = blockBy order (readBoard board) m x l r
+
+-- the block run takes the visiting list
+abbrev pub listed : Parsed → List ℕ
+listed p = visitingList (p .wires)
+
+abbrev pub blockOf : List ℕ → List ℕ → List ℕ → List ℕ → List ℕ → Left
+blockOf board m x l r = blockIn listed board m x l r
+
+-- ---- the number message
+
+-- 11: the node is there and takes a number; 12: the value is in its range
+abbrev pub checkNumber : Parsed → ℕ → Float → Answer
+checkNumber p k x =
+    cond (ltb k (length (p .nodes)) && takesNumber (kindAt p k))
+    (cond (valueFits (kindAt p k) x) passed (answer 12 k))
+    (answer 11 k)
+
+-- the checks of a message behind 6
+abbrev pub checkMessage : Parsed → List ℕ → ℕ → Float → Answer
+checkMessage p m k x = andThen (checkLength p m) (andThen (checkMemory p m) (checkNumber p k x))
+
+-- the number is the first value of the node's cell
+abbrev pub setNumber : Parsed → ℕ → Float → List ℕ → List ℕ
+setNumber p k x ws = set ws (nodeAt p k .cell) (toBits binary32 x)
+
+abbrev pub messageBy : Reading → List ℕ → ℕ → Float → Answer × List ℕ
+messageBy (going at last p) m k x = (answer 1 at, m)
+messageBy (refused n w) m k x = (answer n w, m)
+messageBy (whole p) m k x =
+    (checkMessage p m k x, cond (eqb (checkMessage p m k x .number) 0) (unwords (setNumber p k x (words m))) m)
+
+unfoldable pub messageOf : List ℕ → List ℕ → ℕ → Float → Answer × List ℕ
+messageOf board m k x = messageBy (readBoard board) m k x

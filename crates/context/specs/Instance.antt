@@ -1,0 +1,103 @@
+-- A board's nodes as the general theory (crate reading) takes them: its `Board`, and its `Rules` twice, on what memory holds and on what the
+-- reading knows. `shown` is the memory that cells stand for. Definitions only.
+use Prim.Native.Nat.{ℕ, zero, suc}
+use mathlib.Core.Bool.{cond}
+use mathlib.Core.Option.{Option, none, some}
+use mathlib.Core.List.{List, [], _∷_, _++_, map}
+use lib.ListN.{length}
+use lib.Dec.{eqb, ltb}
+use lib.Ieee.{nan, binary32, ofBits, toBits}
+use Rattle.leaves.specs.Words.{words, unwords}
+use Rattle.nodes.specs.Kind.{channelsOf}
+use Rattle.nodes.specs.Rule.{Brought, Frame, State, sampleBy, stateBy}
+use Rattle.nodes.specs.Cell.{Cell, valuesOf, freshCell}
+use Rattle.nodes.specs.History.{Heard, freshHeard, setNumber, sampleHeard, heardAfter}
+use Rattle.reading.specs.Order.{sources}
+use Rattle.reading.specs.Board as theory
+use Rattle.reading.specs.Blocks as blocks
+use Rattle.graph.specs.Sources.{distinctSources, secondSource}
+use Rattle.graph.specs.Board.{Parsed}
+use Rattle.context.specs.Memory.{kindAt}
+use Rattle.context.specs.Calls.{listed}
+use Rattle.context.specs.Reading.{Call, block, message, valueOf, accepts, silence, rightSample, samplesOf}
+
+-- ---- the board
+
+-- the sample x of a node of one channel
+abbrev pub mono : ℕ → Frame
+mono x = record { left = x; right = 0 }
+
+-- what an accepted call asks
+abbrev pub sent : Call → theory.Call Frame ℕ
+sent (block x l r) = theory.block (map mono (words x))
+sent (message k w) = theory.message k (toBits binary32 (valueOf w))
+
+-- what a call asks, if it is accepted
+abbrev pub asks : Parsed → Call → Option (theory.Call Frame ℕ)
+asks p c = cond (accepts p c) (some (sent c)) none
+
+abbrev pub boardOf : Parsed → theory.Board Call Frame ℕ
+boardOf p = record {
+  size = p .size;
+  wires = p .wires;
+  input = p .input;
+  visit = listed p;
+  sink = 0;
+  silence = silence;
+  accepts = asks p;
+}
+
+-- ---- the rules
+
+-- of frames in wire order, the one that node a brings
+abbrev pub frameOf : List ℕ → List Frame → ℕ → Frame
+frameOf [] fs a = silence
+frameOf (s ∷ ss) [] a = silence
+frameOf (s ∷ ss) (f ∷ fs) a = cond (eqb a s) f (frameOf ss fs a)
+
+-- what node k's wires bring, where source a brings get a; the second source counts only where there are two
+abbrev pub broughtWith : Parsed → ℕ → (ℕ → Frame) → Brought
+broughtWith p k get = record {
+  left = map (λ a. ofBits binary32 (get a .left)) (distinctSources (p .wires) k);
+  right = map (λ a. ofBits binary32 (rightSample p a (get a))) (distinctSources (p .wires) k);
+  second = cond (ltb 1 (length (distinctSources (p .wires) k))) (ofBits binary32 (get (secondSource (p .wires) k) .left)) nan;
+}
+
+abbrev pub broughtFrom : Parsed → ℕ → List Frame → Brought
+broughtFrom p k fs = broughtWith p k (frameOf (sources (p .wires) k) fs)
+
+-- on what memory holds
+unfoldable pub memoryRules : Parsed → theory.Rules Frame State ℕ
+memoryRules p = record {
+  fresh = λ k. freshCell (p .size) (kindAt p k) .state;
+  step = λ k i s h fs. (sampleBy (kindAt p k) s h (broughtFrom p k fs), stateBy (kindAt p k) s (broughtFrom p k fs));
+  set = λ k v s. record { number = v; carry = s .carry; place = s .place; line = s .line };
+}
+
+-- on what the reading knows
+unfoldable pub readingRules : Parsed → theory.Rules Frame Heard ℕ
+readingRules p = record {
+  fresh = λ k. freshHeard (kindAt p k);
+  step = λ k i h f fs. (sampleHeard (kindAt p k) h f (broughtFrom p k fs), heardAfter (kindAt p k) h (broughtFrom p k fs));
+  set = λ k v h. setNumber v h;
+}
+
+-- ---- the memory that cells stand for
+
+abbrev pub Cells : Type 0
+Cells = blocks.Cells Frame State
+
+abbrev pub cellIn : Parsed → Cells → ℕ → Cell
+cellIn p c k = record { state = c k .state; samples = samplesOf (channelsOf (kindAt p k)) (c k .samples) }
+
+-- the first n cells, in node order
+unfoldable pub shownTo : Parsed → Cells → ℕ → List ℕ
+shownTo p c zero = []
+shownTo p c (suc k) = shownTo p c k ++ valuesOf (cellIn p c k)
+
+-- the values of the memory, and its bytes
+abbrev pub shown : Parsed → Cells → List ℕ
+shown p c = shownTo p c (length (p .nodes))
+
+abbrev pub memoryOf : Parsed → Cells → List ℕ
+memoryOf p c = unwords (shown p c)

@@ -1,0 +1,84 @@
+-- A board's memory (document 01, "Memory"), as its list of 4-byte values: cells in node order. Definitions only.
+use Prim.Native.Nat.{ℕ, zero, suc, _+_, _-_, _*_}
+use mathlib.Core.Bool.{Bool, cond}
+use mathlib.Core.List.{List, [], _∷_, _++_, map}
+use lib.ListN.{length, getD, drop}
+use lib.Dec.{eqb}
+use lib.Seq.{paste}
+use Rattle.leaves.specs.Words.{words}
+use Rattle.nodes.specs.Kind.{finite}
+use Rattle.nodes.specs.Rule.{Brought}
+use Rattle.nodes.specs.Cell.{valuesOf, freshCell, cellFits}
+use Rattle.nodes.specs.Node.{broughtAt, nodeRun}
+use Rattle.nodes.specs.declared.kind.NodeKind.{NodeKind}
+use Rattle.nodes.specs.declared.kind.NodeKind.the-variants.{Pass}
+use Rattle.nodes.specs.declared.kind.NodeRecord.{NodeRecord}
+use Rattle.graph.specs.Answer.{answer}
+use Rattle.graph.specs.Sources.{distinctSources, secondSource}
+use Rattle.graph.specs.Board.{Parsed}
+use Rattle.graph.specs.declared.answer.Answer.{Answer}
+
+-- ---- nodes by number
+
+-- node k; past the end a pass at 0, which is never used
+abbrev pub nodeAt : Parsed → ℕ → NodeRecord
+nodeAt p k = getD (p .nodes) k (record { kind = Pass; channels = 0; cell = 0 })
+
+abbrev pub kindAt : Parsed → ℕ → NodeKind
+kindAt p k = nodeAt p k .kind
+
+-- the value at which node k's samples start, and at which what the destination's channel 1 reads of it: a stereo node's channel 1, else
+-- channel 0
+abbrev pub leftStart : ℕ → NodeRecord → ℕ
+leftStart N r = r .cell + 3
+
+abbrev pub rightStart : ℕ → NodeRecord → ℕ
+rightStart N r = r .cell + 3 + N * (r .channels - 1)
+
+abbrev pub lefts : Parsed → List ℕ
+lefts p = map (leftStart (p .size)) (p .nodes)
+
+abbrev pub rights : Parsed → List ℕ
+rights p = map (rightStart (p .size)) (p .nodes)
+
+-- ---- fresh
+
+abbrev pub freshFrom : ℕ → List NodeRecord → List ℕ
+freshFrom N [] = []
+freshFrom N (r ∷ rs) = valuesOf (freshCell N (r .kind)) ++ freshFrom N rs
+
+-- the values of fresh memory
+unfoldable pub freshValues : Parsed → List ℕ
+freshValues p = freshFrom (p .size) (p .nodes)
+
+-- ---- check 8: the lowest node with a judged value that is not as it must be
+
+abbrev pub passed : Answer
+passed = answer 0 0
+
+unfoldable pub checkCells : List ℕ → ℕ → List NodeRecord → Answer
+checkCells ws i [] = passed
+checkCells ws i (r ∷ rs) = cond (cellFits (r .kind) (drop (r .cell) ws)) (checkCells ws (suc i) rs) (answer 8 i)
+
+-- ---- a block run
+
+-- what node k's wires bring: at place i of each source's samples, as they then stand
+abbrev pub broughtBy : Parsed → List ℕ → ℕ → ℕ → Brought
+broughtBy p ws k = broughtAt ws (lefts p) (rights p) (distinctSources (p .wires) k) (secondSource (p .wires) k)
+
+-- node k's block
+unfoldable pub runNode : Parsed → ℕ → List ℕ → List ℕ
+runNode p k ws = nodeRun (kindAt p k) (p .size) (nodeAt p k .cell) (broughtBy p ws k) ws
+
+-- the nodes of an order, one after the other
+unfoldable pub runNodes : Parsed → List ℕ → List ℕ → List ℕ
+runNodes p [] ws = ws
+runNodes p (k ∷ o) ws = runNodes p o (runNode p k ws)
+
+-- the input block goes into the input node's samples, listed or not
+unfoldable pub putInput : Parsed → List ℕ → List ℕ → List ℕ
+putInput p xs ws = paste ws (nodeAt p (p .input) .cell + 3) xs (p .size)
+
+-- a block run with the nodes taken in the order o
+abbrev pub runBlock : Parsed → List ℕ → List ℕ → List ℕ → List ℕ
+runBlock p o xs ws = runNodes p o (putInput p xs ws)
