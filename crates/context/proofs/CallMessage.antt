@@ -5,7 +5,7 @@
 --     message-refused, message-lacking, message-set    the call, case by case
 --     set-long, set-other, set-judged         what a number that is set leaves
 -- Assumes nothing.
-use Prim.Native.Nat.{ℕ, zero, suc, _+_, _*_, _≤_, _<_}
+use Prim.Native.Nat.{ℕ, _+_, _*_, _≤_, _<_}
 use mathlib.Core.Path.{_≡_, refl, sym, ap, _∙_}
 use mathlib.Core.Logic.{_≢_}
 use mathlib.Core.Bool.{Bool, true, false, cond, _&&_}
@@ -17,7 +17,7 @@ use native.Mathlib.Omega.{arith}
 use borrow.Author.Tests.{ltb-true, lt-ltb, le-ltb, ne-eqb}
 use lib.Dec.{T, eqb, ltb}
 use lib.Ieee.{Float, binary32, toBits, fits}
-use lib.ListN.{length, getD, set, take, drop, length-set}
+use lib.ListN.{length, set, take, drop, length-set}
 use lib.Seq.{drop-set-add, take-set-lt, set-split, append-snoc, paste}
 use Rattle.leaves.specs.Words.{words, unwords, Bytes, unwords-words}
 use Rattle.leaves.specs.Parts.{part}
@@ -27,7 +27,7 @@ use Rattle.nodes.specs.declared.kind.NodeKind.{NodeKind}
 use Rattle.nodes.specs.declared.kind.NodeRecord.{NodeRecord}
 use Rattle.nodes.proofs.Kept.{message-fits}
 use Rattle.graph.specs.Answer.{answer}
-use Rattle.graph.specs.Board.{Parsed, Reading, cellsOf, memoryLength}
+use Rattle.graph.specs.Board.{Parsed, Reading, memoryLength}
 use Rattle.graph.specs.Judge.{readBoard}
 use Rattle.context.specs.Memory.{passed, nodeAt, kindAt}
 use Rattle.context.specs.Calls.{andThen, checkLength, checkMemory, checkNumber, checkMessage, setNumber, messageBy, messageOf}

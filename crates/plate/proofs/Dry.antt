@@ -2,17 +2,17 @@
 use mathlib.Core.Path.{_≡_, refl, sym, ap, _∙_, subst}
 use mathlib.Core.Bool.{Bool, Bool·beq, true, false, cond, not, _&&_, false≢true}
 use Prim.Native.Nat.{ℕ, zero, suc, _+_, _-_, _*_, _%_, _^_, _≤_, _<_}
-use native.Mathlib.Nat.{le-trans, le-of-eq, mul-one, one-mul, mul-assoc, mul-comm, mul-le-mul, mul-le-mul-right, lt-of-mul-lt-mul-right, suc-mul}
+use native.Mathlib.Nat.{le-trans, le-of-eq, mul-one, one-mul, mul-assoc, mul-le-mul, mul-le-mul-right, lt-of-mul-lt-mul-right, suc-mul}
 use native.Mathlib.Numerals.{add-one}
 use native.Mathlib.Omega.{arith}
 use borrow.Author.Tests.{leb-true, leb-false}
 use lib.IntN.{ℤ, pos, negsuc}
 use lib.Dec.{T, leb, ltb, eqb, ltb→lt, lit<, lit≤}
 use lib.Pow.{pow-add, pow-pos, pow-mono}
-use lib.Ieee.{Float, nan, inf, fin, Format, binary32, prec, emax, low, up, down, odd, units, round, sum, add, neg, sub, le, fits, size}
-use lib.Ieee.Fits.{down-pos, and-l, and-r, round-is, core}
+use lib.Ieee.{Float, nan, inf, fin, binary32, prec, emax, low, up, down, odd, units, round, sum, add, neg, sub, le, fits}
+use lib.Ieee.Fits.{down-pos, and-l, and-r, round-is}
 use lib.Ieee.Order.{round-mono}
-use Rattle.leaves.specs.Floors.{f1, finiteF}
+use Rattle.leaves.specs.Floors.{finiteF}
 use Rattle.leaves.proofs.Floors.{nothing-le}
 use Rattle.plate.specs.Plate.{dryOf}
 

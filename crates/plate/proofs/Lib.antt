@@ -5,3 +5,4 @@ pub mod Written
 pub mod Dry
 pub mod PlateFacts
 pub mod Mixing
+pub mod MixLaws

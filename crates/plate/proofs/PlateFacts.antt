@@ -8,7 +8,7 @@ use native.Mathlib.Omega.{arith}
 use borrow.Author.Tests.{ltb-true, lt-ltb}
 use lib.ListN.{length}
 use lib.Dec.{T, ltb}
-use lib.Ieee.{Float, binary32, ofBits, toBits, fits, round, add, sub, mul, div, eq, lt, le}
+use lib.Ieee.{Float, binary32, ofBits, toBits, fits, round, mul, div, eq, lt, le}
 use lib.Ieee.Fits.{sub-fits}
 use Rattle.leaves.specs.Floors.{f1, finiteF, within, floorOf}
 use Rattle.leaves.specs.Lengths.{samplesOf, delayOf, allPassOf, placeOf}
@@ -25,16 +25,15 @@ use Rattle.graph.specs.Late.{isLate, lateWires}
 use Rattle.graph.specs.Sources.{distinct}
 use Rattle.graph.specs.Tail.{endless, tailBy, tailOf}
 use Rattle.graph.specs.Visit.{visitingList}
-use Rattle.graph.specs.Write.{NodeCard, Card, kindOf, parsedOf, writeBoard, NodeObeys, WireObeys, SourcesObey, Obeys, noNode, noWire}
-use Rattle.graph.specs.declared.answer.Answer.{Answer}
+use Rattle.graph.specs.Write.{NodeCard, Card, kindOf, parsedOf, NodeObeys, WireObeys, SourcesObey, Obeys, noNode, noWire}
 use Rattle.graph.proofs.RoundObeys.{from-each, nodes-told, wires-told}
 use Rattle.graph.proofs.RoundRule.{kind-told}
 use Rattle.graph.proofs.RoundRun.{NodeFits, NodesFit, WireFits, WiresFit}
 use Rattle.graph.proofs.RoundSix.{Free, six-told}
 use Rattle.graph.proofs.Round.{judge-written}
-use Rattle.plate.specs.Plate.{plateNodes, plateWires, plateCard, dryOf, writeOf}
+use Rattle.plate.specs.Plate.{plateNodes, plateWires, plateCard, dryOf}
 use Rattle.plate.specs.Facts.{allPassLines, milliseconds, PlateFacts, WrittenPlate}
-use Rattle.plate.proofs.Written.{plate-long, size-in, written}
+use Rattle.plate.proofs.Written.{answer-of, bytes-of, plate-long, size-in, written}
 use Rattle.plate.proofs.Dry.{dry-finite}
 
 -- ---- what a card must obey, as tests that antt computes
@@ -191,8 +190,8 @@ plate-written N mix b least most mix-fits number long =
     plate-facts N (toBits binary32 mix) (toBits binary32 (dryOf mix)) (pattern-lt mix mix-fits) (finite-bits mix mix-fits number)
     (pattern-lt (dryOf mix) dry-fits) (finite-bits (dryOf mix) dry-fits (dry-finite mix mix-fits number)) least most in
     record {
-      answered = ap (λ (p : Answer × List ℕ). p .0) e;
-      bytes = ap (λ (p : Answer × List ℕ). p .1) e;
+      answered = ap answer-of e;
+      bytes = ap bytes-of e;
       facts = facts;
-      accepted = ap (λ (p : Answer × List ℕ). judgeOf (p .1)) e ∙ facts .judged;
+      accepted = ap judgeOf (ap bytes-of e) ∙ facts .judged;
     }

@@ -14,6 +14,13 @@ use Rattle.graph.specs.Write.{nodesBytes, wiresBytes, writeBoard}
 use Rattle.graph.specs.declared.answer.Answer.{Answer}
 use Rattle.plate.specs.Plate.{plateNodes, plateWires, plateCard, plateBytes, checkWrite, writeOf}
 
+-- a call's answer, and the bytes that it leaves
+abbrev pub answer-of : Answer × List ℕ → Answer
+answer-of r = r .0
+
+abbrev pub bytes-of : Answer × List ℕ → List ℕ
+bytes-of r = r .1
+
 -- ---- lengths, by computation
 
 pub nodes-long : (mix dry : ℕ) → length (nodesBytes (plateNodes mix dry)) ≡ 714

@@ -55,9 +55,6 @@ sinOsc f = node 10 0 f
 
 -- ---- floats, as bits
 
-abbrev pub zero : ℕ
-zero = 0
-
 abbrev pub tenth : ℕ
 tenth = 0x3dcc_cccd
 
@@ -98,7 +95,7 @@ plateNodes mix dry =
     ∷ allPass 158 threeQuarters  -- 6 wet4, 3.595 ms
     ∷ allPass 560 fiveEighths  -- 7 wet5, 12.72 ms
     ∷ allPass 410 fiveEighths  -- 8 wet6, 9.307 ms
-    ∷ add zero  -- 9 wet7, the feedback comes in here
+    ∷ add 0  -- 9 wet7, the feedback comes in here
     ∷ allPass 4410 sevenTenths  -- 10 wet8, 100 ms, modulated
     ∷ sinOsc tenth ∷ mul swing ∷ add middle  -- 11 mod1, 12 mod2, 13 mod3
     ∷ delayN 394 ∷ delayN 2800 ∷ delayN 1204  -- 14 aa, 15 ab, 16 ac

@@ -85,7 +85,10 @@ fn length_answer(length: Length) -> Answer
     ensures { λ r. ⌜ r ≡ lengthAnswer length ⌝ }
 {
     match length {
-        Length::Samples(n) => Answer { number: 0, place: n },
+        Length::Samples(n) => Answer {
+            number: 0,
+            place: n,
+        },
         Length::OutOfRange => Answer {
             number: 12,
             place: 0,

@@ -1,5 +1,5 @@
 -- `plate::plate::write` meets its contract, check by check. Assumes nothing.
-use mathlib.Core.Path.{_≡_, sym, ap, _∙_}
+use mathlib.Core.Path.{sym, ap, _∙_}
 use mathlib.Core.Logic.{⊎-elim}
 use mathlib.Core.List.{List}
 use Prim.Native.Nat.{ℕ}
@@ -8,18 +8,11 @@ use borrow.Author.Tests.{ltb-true, ltb-false, not-true, not-false}
 use lib.Ieee.{ofBits}
 use denote.Ref.{now}
 use Rattle.graph.specs.Write.{writeBoard}
-use Rattle.graph.specs.declared.answer.Answer.{Answer}
 use Rattle.plate.specs.Plate.{plateCard}
-use Rattle.plate.proofs.Written.{size-in, size-out, wrong-size, wrong-mix, wrong-length, written}
+use Rattle.plate.proofs.Written.{answer-of, bytes-of, size-in, size-out, wrong-size, wrong-mix, wrong-length, written}
 use borrow.Author.Needs.{needs}
 use Rattle.plate.proofs.plate.write.Statement.{statement}
 use Rattle.plate.proofs.plate.write.Tie as tie
-
-abbrev answer-of : Answer × List ℕ → Answer
-answer-of p = p .0
-
-abbrev bytes-of : Answer × List ℕ → List ℕ
-bytes-of p = p .1
 
 new-requires : tie.Need-new-requires
 new-requires c κs = search needs

@@ -1,0 +1,231 @@
+-- Laws of the mix message: an accepted one is its four number messages, one after the other (`mix-four`), and after it the four cells hold
+-- mix and 1 − mix (`mix-holds`). Assumes nothing.
+use Prim.Native.Nat.{ℕ, _*_, _/_, _%_, _<_}
+use mathlib.Core.Path.{_≡_, refl, sym, ap, _∙_, subst}
+use mathlib.Core.Bool.{true, cond, _&&_, false≢true}
+use mathlib.Core.List.{List, [], _∷_}
+use native.Mathlib.Omega.{arith}
+use borrow.Author.Tests.{lt-ltb, eq-eqb}
+use lib.Dec.{T, eqb}
+use lib.Ieee.{Float, binary32, toBits, fits}
+use lib.Ieee.Fits.{sub-fits}
+use lib.ListN.{length, getD, length-set}
+use lib.Seq.{getD-set-same, getD-set-other}
+use Rattle.leaves.specs.Floors.{f1, finiteF}
+use Rattle.leaves.specs.Words.{word, words, unwords, length-words, Bytes}
+use Rattle.nodes.specs.Cell.{takesNumber, valueFits}
+use Rattle.nodes.specs.declared.kind.NodeKind.{NodeKind}
+use Rattle.nodes.specs.declared.kind.NodeKind.the-variants.{Pass, Sum, Destination, Balance, Mul, Add, Delay, AllPass, OnePole, Sine}
+use Rattle.graph.specs.Answer.{answer}
+use Rattle.graph.specs.Board.{Parsed, Reading, going, refused, whole, memoryLength}
+use Rattle.graph.specs.Judge.{readBoard}
+use Rattle.context.specs.Memory.{passed, nodeAt, kindAt}
+use Rattle.context.specs.Calls.{andThen, checkLength, checkMemory, checkNumber, checkMessage, setNumber, messageBy, messageOf}
+use Rattle.context.specs.Fine.{Fine}
+use Rattle.context.proofs.CallCells.{cell-in, cell-apart}
+use Rattle.context.proofs.CallLaws.{Whole, Judged, judged-passed, passed-judged}
+use Rattle.context.proofs.CallMessage.{set-long, set-judged}
+use Rattle.context.proofs.FineBoard.{fine-board}
+use Rattle.graph.proofs.RoundRefused.{Numbered, read-numbered}
+use Rattle.plate.specs.Plate.{dryOf}
+use Rattle.plate.specs.Mix.{isMul, checkMul, checkFinite, checkMixed, after, setMix, mixBy, mixOf, IsFour, HoldsMix}
+use Rattle.plate.proofs.Written.{answer-of, bytes-of}
+use Rattle.plate.proofs.Dry.{dry-finite}
+use Rattle.plate.proofs.Mixing.{MulAt, MixTold, mix-told}
+
+-- ---- words of bytes that words make
+
+words-unwords : (ws : List ℕ) → words (unwords ws) ≡ ws
+unfolding words unwords
+words-unwords [] = refl
+words-unwords (w ∷ ws) = let e : word (w % 256) (w / 256 % 256) (w / 65536 % 256) (w / 16777216) ≡ w = omega arith in λ i. e i ∷ words-unwords ws i
+
+length-unwords : (ws : List ℕ) → length (unwords ws) ≡ 4 * length ws
+unfolding unwords
+length-unwords [] = refl
+length-unwords (w ∷ ws) = omega (arith, length-unwords ws)
+
+-- ---- a mul takes every finite number
+
+mul-takes : (k : NodeKind) → isMul k ≡ true → takesNumber k ≡ true
+unfolding takesNumber
+mul-takes Pass e = e
+mul-takes Sum e = e
+mul-takes Destination e = e
+mul-takes Balance e = e
+mul-takes (Mul f) e = refl
+mul-takes (Add f) e = refl
+mul-takes (Delay n) e = e
+mul-takes (AllPass n f) e = refl
+mul-takes (OnePole f) e = e
+mul-takes (Sine f) e = refl
+
+mul-fits : (k : NodeKind) (x : Float) → isMul k ≡ true → finiteF x ≡ true → valueFits k x ≡ true
+unfolding valueFits
+mul-fits Pass x e n = e
+mul-fits Sum x e n = e
+mul-fits Destination x e n = e
+mul-fits Balance x e n = e
+mul-fits (Mul f) x e n = n
+mul-fits (Add f) x e n = n
+mul-fits (Delay n) x e f = e
+mul-fits (AllPass n f) x e q = q
+mul-fits (OnePole f) x e n = e
+mul-fits (Sine f) x e n = absurd (false≢true e)
+
+-- ---- one number message to a mul
+
+module _ (s : List ℕ) (p : Parsed) (reads : readBoard s ≡ whole p) (fine : Fine p) where
+  -- memory that every check up to 8 passes, and its words
+  record Ready (m ws : List ℕ) : Type 0 where
+    is : words m ≡ ws
+    size : length m ≡ memoryLength p
+    judged : Judged p ws
+
+  length-passed : (m : List ℕ) → length m ≡ memoryLength p → checkLength p m ≡ passed
+  length-passed m e = λ i. cond (eq-eqb (length m) (memoryLength p) e i) passed (answer 7 (memoryLength p))
+
+  module _ (m ws : List ℕ) (r : Ready m ws) (k : ℕ) (mul : MulAt p k) (x : Float) (fit : T (fits binary32 x)) (number : finiteF x ≡ true) where
+    all : Whole p ws
+    all = ap length (sym (r .is)) ∙ omega (arith, length-words m, r .size)
+
+    sent : messageOf s m k x ≡ (passed, unwords (setNumber p k x ws))
+    unfolding messageOf
+    sent =
+        let long = length-passed m (r .size) in
+        let cells : checkMemory p m ≡ passed = judged-passed p (words m) (subst (Judged p) (sym (r .is)) (r .judged)) in
+        let takes : checkNumber p k x ≡ passed =
+        λ i. cond (lt-ltb k (length (p .nodes)) (mul .0) i && mul-takes (kindAt p k) (mul .1) i) (cond (mul-fits (kindAt p k) x (mul .1) number i) passed (answer 12 k)) (answer 11 k) in
+        let checks : checkMessage p m k x ≡ passed = λ i. andThen (long i) (andThen (cells i) (takes i)) in
+        ap (λ (v : Reading). messageBy v m k x) reads ∙ (λ i. (checks i, cond (eqb (checks i .number) 0) (unwords (setNumber p k x (r .is i))) m))
+
+    ready : Ready (unwords (setNumber p k x ws)) (setNumber p k x ws)
+    ready = record {
+      is = words-unwords (setNumber p k x ws);
+      size = length-unwords (setNumber p k x ws) ∙ omega (arith, set-long p fine ws all k x (mul .0), all);
+      judged = set-judged p fine ws all k x (mul .0) fit (mul-fits (kindAt p k) x (mul .1) number) (r .judged);
+    }
+
+  -- ---- the four
+
+  module _ (m : List ℕ) (mix : Float) (told : MixTold p m mix) (fit : T (fits binary32 mix)) where
+    abbrev dry : Float
+    dry = dryOf mix
+
+    dry-fit : T (fits binary32 dry)
+    dry-fit = sub-fits binary32 f1 mix
+
+    dry-number : finiteF dry ≡ true
+    dry-number = dry-finite mix fit (told .number)
+
+    start : Ready m (words m)
+    start = record { is = refl; size = told .long; judged = passed-judged p (words m) (told .judged) }
+
+    mul-passed : (k : ℕ) → MulAt p k → checkMul p k ≡ passed
+    mul-passed k h = λ i. cond (lt-ltb k (length (p .nodes)) (h .0) i && h .1 i) passed (answer 11 k)
+
+    mixed : mixOf s m mix ≡ (passed, unwords (setMix p mix (words m)))
+    unfolding mixOf
+    mixed =
+        let long = length-passed m (told .long) in
+        let cells : checkMemory p m ≡ passed = judged-passed p (words m) (start .judged) in
+        let number : checkFinite mix ≡ passed = λ i. cond (told .number i) passed (answer 12 41) in
+        let a = mul-passed 41 (told .left-wet) in
+        let b = mul-passed 47 (told .right-wet) in
+        let c = mul-passed 43 (told .left-dry) in
+        let d = mul-passed 49 (told .right-dry) in
+        let checks : checkMixed p m mix ≡ passed =
+        λ i. andThen (long i) (andThen (cells i) (andThen (a i) (andThen (b i) (andThen (c i) (andThen (d i) (number i)))))) in
+        ap (λ (v : Reading). mixBy v m mix) reads ∙ (λ i. (checks i, cond (eqb (checks i .number) 0) (unwords (setMix p mix (words m))) m))
+
+    four : IsFour s m mix
+    four =
+        let ws₁ = setNumber p 41 mix (words m) in
+        let ws₂ = setNumber p 47 mix ws₁ in
+        let ws₃ = setNumber p 43 dry ws₂ in
+        let sent₁ = sent m (words m) start 41 (told .left-wet) mix fit (told .number) in
+        let ready₁ = ready m (words m) start 41 (told .left-wet) mix fit (told .number) in
+        let sent₂ = sent (unwords ws₁) ws₁ ready₁ 47 (told .right-wet) mix fit (told .number) in
+        let ready₂ = ready (unwords ws₁) ws₁ ready₁ 47 (told .right-wet) mix fit (told .number) in
+        let sent₃ = sent (unwords ws₂) ws₂ ready₂ 43 (told .left-dry) dry dry-fit dry-number in
+        let ready₃ = ready (unwords ws₂) ws₂ ready₂ 43 (told .left-dry) dry dry-fit dry-number in
+        let sent₄ = sent (unwords ws₃) ws₃ ready₃ 49 (told .right-dry) dry dry-fit dry-number in
+        let m₁ : after s m 41 mix ≡ unwords ws₁ = ap bytes-of sent₁ in
+        let m₂ : after s (after s m 41 mix) 47 mix ≡ unwords ws₂ = ap (λ (n : List ℕ). after s n 47 mix) m₁ ∙ ap bytes-of sent₂ in
+        let m₃ : after s (after s (after s m 41 mix) 47 mix) 43 dry ≡ unwords ws₃ = ap (λ (n : List ℕ). after s n 43 dry) m₂ ∙ ap bytes-of sent₃ in
+        record {
+          first = ap answer-of sent₁;
+          second = ap (λ (n : List ℕ). answer-of (messageOf s n 47 mix)) m₁ ∙ ap answer-of sent₂;
+          third = ap (λ (n : List ℕ). answer-of (messageOf s n 43 dry)) m₂ ∙ ap answer-of sent₃;
+          fourth = ap (λ (n : List ℕ). messageOf s n 49 dry) m₃ ∙ sent₄ ∙ sym mixed;
+        }
+
+    -- ---- the four cells
+
+    -- two of the nodes, the first before the second, have their numbers at different places
+    apart : (j k : ℕ) → j < k → k < length (p .nodes) → nodeAt p j .cell ≡ nodeAt p k .cell → ⊥
+    apart j k h there e = omega (arith, cell-apart p fine j k h there)
+
+    inside : (k : ℕ) → k < length (p .nodes) → nodeAt p k .cell < length (words m)
+    inside k there = omega (arith, cell-in p fine k there, all m (words m) start 41 (told .left-wet) mix fit (told .number))
+
+    -- node k's number is set, and what others then set leaves it
+    set-here : (ws : List ℕ) (k : ℕ) (x : Float) → length ws ≡ length (words m) → k < length (p .nodes)
+        → getD (setNumber p k x ws) (nodeAt p k .cell) 0 ≡ toBits binary32 x
+    set-here ws k x e there = getD-set-same ws (nodeAt p k .cell) (toBits binary32 x) 0 (omega (arith, inside k there))
+
+    set-there : (ws : List ℕ) (j k : ℕ) (x : Float) → (nodeAt p j .cell ≡ nodeAt p k .cell → ⊥)
+        → getD (setNumber p k x ws) (nodeAt p j .cell) 0 ≡ getD ws (nodeAt p j .cell) 0
+    set-there ws j k x h = getD-set-other ws (nodeAt p k .cell) (nodeAt p j .cell) (toBits binary32 x) 0 h
+
+    holds : HoldsMix p mix (setMix p mix (words m))
+    holds =
+        let ws₁ = setNumber p 41 mix (words m) in
+        let ws₂ = setNumber p 47 mix ws₁ in
+        let ws₃ = setNumber p 43 dry ws₂ in
+        let long₁ : length ws₁ ≡ length (words m) = length-set (words m) _ _ in
+        let long₂ : length ws₂ ≡ length (words m) = length-set ws₁ _ _ ∙ long₁ in
+        let long₃ : length ws₃ ≡ length (words m) = length-set ws₂ _ _ ∙ long₂ in
+        let a = told .left-wet .0 in
+        let b = told .right-wet .0 in
+        let c = told .left-dry .0 in
+        let d = told .right-dry .0 in
+        record {
+          left-wet =
+              set-there ws₃ 41 49 dry (apart 41 49 (omega arith) d) ∙ set-there ws₂ 41 43 dry (apart 41 43 (omega arith) c)
+              ∙ set-there ws₁ 41 47 mix (apart 41 47 (omega arith) b) ∙ set-here (words m) 41 mix refl a;
+          right-wet =
+              set-there ws₃ 47 49 dry (apart 47 49 (omega arith) d) ∙ set-there ws₂ 47 43 dry (λ e. apart 43 47 (omega arith) b (sym e))
+              ∙ set-here ws₁ 47 mix long₁ b;
+          left-dry = set-there ws₃ 43 49 dry (apart 43 49 (omega arith) d) ∙ set-here ws₂ 43 dry long₂ c;
+          right-dry = set-here ws₃ 49 dry long₃ d;
+        }
+
+-- ---- of bytes
+
+-- a board whose mix message is accepted is accepted, and its checks pass
+told-of : (s m : List ℕ) (mix : Float) → (mixOf s m mix) .0 .number ≡ 0 → (p : Parsed) × (readBoard s ≡ whole p) × MixTold p m mix
+unfolding mixOf
+told-of s m mix = go (readBoard s) refl (read-numbered s)
+  where
+    go : (r : Reading) → readBoard s ≡ r → Numbered r → (mixBy r m mix) .0 .number ≡ 0 → (p : Parsed) × (readBoard s ≡ whole p) × MixTold p m mix
+    go (going at last p) e n z = absurd (omega arith)
+    go (refused k w) e n z = absurd (omega arith)
+    go (whole p) e n z = (p, e, mix-told p m mix z)
+
+pub mix-four : (s m : List ℕ) (mix : Float) → Bytes s → T (fits binary32 mix) → (mixOf s m mix) .0 .number ≡ 0 → IsFour s m mix
+mix-four s m mix small fit z =
+    let known = told-of s m mix z in
+    four s (known .0) (known .1) (fine-board s small (known .0) (known .1)) m mix (known .2) fit
+
+pub mix-holds : (s m : List ℕ) (mix : Float) → Bytes s → T (fits binary32 mix) → (mixOf s m mix) .0 .number ≡ 0
+    → (p : Parsed) → readBoard s ≡ whole p → HoldsMix p mix (words ((mixOf s m mix) .1))
+mix-holds s m mix small fit z p e =
+    let known = told-of s m mix z in
+    let q = known .0 in
+    let fine = fine-board s small q (known .1) in
+    let same : q ≡ p = cc (sym (known .1) ∙ e) in
+    let left = holds s q (known .1) fine m mix (known .2) fit in
+    let bytes : (mixOf s m mix) .1 ≡ unwords (setMix q mix (words m)) = ap bytes-of (mixed s q (known .1) fine m mix (known .2) fit) in
+    subst (λ (x : Parsed). HoldsMix x mix (words ((mixOf s m mix) .1))) same
+    (subst (HoldsMix q mix) (sym (ap words bytes ∙ words-unwords (setMix q mix (words m)))) left)
