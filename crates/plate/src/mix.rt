@@ -6,11 +6,11 @@ ghost use Rattle.leaves.specs.Words.{words};
 ghost use Rattle.graph.specs.Read.{parsedOf, Sound};
 ghost use Rattle.context.specs.Fine.{Fine};
 ghost use Rattle.plate.specs.Mix.{isMul, checkMul, checkMix, checkMixed, setMix, mixOf};
+use context::calls::memory_judged;
+use context::message::put_number;
 use graph::answer::Answer;
 use graph::board::Board;
-use context::calls::memory_judged;
 use graph::judge::read_board;
-use context::message::put_number;
 use leaves::float::finite;
 use nodes::kind::NodeKind;
 
