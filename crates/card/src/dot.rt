@@ -1,0 +1,91 @@
+// The board as a graph for Graphviz: a node for each node, an arrow for each wire, dashed if it is late.
+ghost use Prim.Native.Nat.{_+_, _<_, _≤_};
+ghost use lib.ListN.{length};
+ghost use Rattle.graph.specs.Read.{Sound};
+use crate::records::put;
+use crate::text::put_kind;
+use crate::text::put_number;
+use crate::text::put_word;
+use graph::board::Board;
+use graph::graph::is_late;
+use graph::graph::places;
+use graph::graph::visiting_list;
+use graph::sources::wide;
+use nodes::kind::NodeKind;
+
+// Node i, labelled with its number and its type.
+fn put_vertex(out: &mut [u8], at: usize, kind: NodeKind, i: usize) -> usize
+    requires { ⌜ at + 128 ≤ length (now out) ⌝ }
+    ensures { λ r. ⌜ r ≤ at + 128 ⌝ }
+{
+    let a = put_word(out, at, b"  ");
+    let b = put_number(out, a, i as u64);
+    let c = put_word(out, b, b" [label=\"");
+    let d = put_number(out, c, i as u64);
+    let e = put(out, d, b' ');
+    let f = put_kind(out, e, kind);
+    put_word(out, f, b"\"];\n")
+}
+
+// An arrow, dashed if the wire is late.
+fn put_arrow(out: &mut [u8], at: usize, source: usize, target: usize, late: bool) -> usize
+    requires { ⌜ at + 64 ≤ length (now out) ⌝ }
+    ensures { λ r. ⌜ r ≤ at + 64 ⌝ }
+{
+    let a = put_word(out, at, b"  ");
+    let b = put_number(out, a, source as u64);
+    let c = put_word(out, b, b" -> ");
+    let d = put_number(out, c, target as u64);
+    if late {
+        return put_word(out, d, b" [style=dashed];\n");
+    }
+    put_word(out, d, b";\n")
+}
+
+fn put_vertices(out: &mut [u8], at: usize, board: Board) -> usize
+    requires { ⌜ (at + 8192 ≤ length (now out)) × Sound board ⌝ }
+    ensures { λ r. ⌜ r ≤ at + 8192 ⌝ }
+{
+    let mut n = at;
+    let mut i = 0;
+    while i < board.count {
+        let node = board.nodes[i];
+        let kind = node.kind;
+        n = put_vertex(out, n, kind, i);
+        i += 1;
+    }
+    n
+}
+
+fn put_arrows(out: &mut [u8], at: usize, board: Board, places: &[u8; 64], count: usize) -> usize
+    requires { ⌜ (at + 8192 ≤ length (now out)) × Sound board ⌝ }
+    ensures { λ r. ⌜ r ≤ at + 8192 ⌝ }
+{
+    let mut n = at;
+    let mut i = 0;
+    while i < board.wires {
+        let source = wide(board.sources[i]);
+        let target = wide(board.targets[i]);
+        let late = is_late(places, count, source, target);
+        n = put_arrow(out, n, source, target, late);
+        i += 1;
+    }
+    n
+}
+
+// The graph, in the first bytes of `out`.
+pub fn dot_of(board: Board, out: &mut [u8]) -> usize
+    requires { ⌜ (20480 ≤ length (now out)) × Sound board ⌝ }
+    ensures { λ r. ⌜ r ≤ length (now (out .exit)) ⌝ }
+{
+    let counts = board.counts;
+    let lists = board.lists;
+    let order = visiting_list(&counts, &lists);
+    let list = order.nodes;
+    let count = order.count;
+    let at = places(&list, count);
+    let n = put_word(out, 0, b"digraph board {\n");
+    let m = put_vertices(out, n, board);
+    let k = put_arrows(out, m, board, &at, count);
+    put_word(out, k, b"}\n")
+}

@@ -1,0 +1,164 @@
+// A board as text, as bytes and as a graph.
+mod board;
+mod decimal;
+mod dot;
+mod line;
+mod number;
+mod records;
+mod text;
+mod words;
+
+ghost use Prim.Native.Nat.{_+_, _*_, _≤_};
+ghost use lib.ListN.{length};
+ghost use Rattle.io.specs.Counts.{Counts};
+use board::Made;
+use board::board_of;
+use check::same;
+use dot::dot_of;
+use graph::judge::read_board;
+use libc::STDIN_FILENO;
+use libc::STDOUT_FILENO;
+use line::Reason;
+use text::text_of;
+use words::find;
+
+// `refused`, number and place.
+fn show_refusal(number: u32, place: u32) {
+    io::write_all(STDOUT_FILENO, b"refused ");
+    io::print_decimal(STDOUT_FILENO, number as u64);
+    io::write_all(STDOUT_FILENO, b" ");
+    io::print_decimal(STDOUT_FILENO, place as u64);
+    io::write_all(STDOUT_FILENO, b"\n");
+}
+
+fn show_reason(reason: Reason) {
+    match reason {
+        Reason::Name => io::write_all(STDOUT_FILENO, b"unknown name\n"),
+        Reason::Fields => io::write_all(STDOUT_FILENO, b"wrong number of fields\n"),
+        Reason::Whole => io::write_all(STDOUT_FILENO, b"no whole number, or too large\n"),
+        Reason::Float => io::write_all(STDOUT_FILENO, b"no float\n"),
+        Reason::Long => io::write_all(STDOUT_FILENO, b"decimal too long: write the bits\n"),
+        Reason::Late => io::write_all(STDOUT_FILENO, b"too late: block, nodes, wires\n"),
+        Reason::Early => io::write_all(STDOUT_FILENO, b"before the block line\n"),
+        Reason::Many => io::write_all(STDOUT_FILENO, b"too many\n"),
+    }
+    ;
+}
+
+// A bad line: its number and what is wrong with it.
+fn show_bad(line: usize, reason: Reason) {
+    io::write_all(STDOUT_FILENO, b"line ");
+    io::print_decimal(STDOUT_FILENO, line as u64);
+    io::write_all(STDOUT_FILENO, b": ");
+    show_reason(reason);
+}
+
+// Card to board.
+fn show_bytes(card: &[u8]) {
+    let mut out = [0u8; 2048];
+    match board_of(card, &mut out) {
+        Made::Board(n) => {
+            io::write_all(STDOUT_FILENO, &out[..n]);
+        }
+        Made::Refused(number, place) => show_refusal(number, place),
+        Made::Bad(line, reason) => show_bad(line, reason),
+    }
+}
+
+// Board to card.
+fn show_text(s: &[u8]) {
+    let board = read_board(s);
+    let refused = board.refused;
+    if refused.number != 0 {
+        show_refusal(refused.number, refused.place);
+        return;
+    }
+    let mut out = [0u8; 20480];
+    let n = text_of(board, &mut out);
+    io::write_all(STDOUT_FILENO, &out[..n]);
+}
+
+// Board to graph.
+fn show_dot(s: &[u8]) {
+    let board = read_board(s);
+    let refused = board.refused;
+    if refused.number != 0 {
+        show_refusal(refused.number, refused.place);
+        return;
+    }
+    let mut out = [0u8; 20480];
+    let n = dot_of(board, &mut out);
+    io::write_all(STDOUT_FILENO, &out[..n]);
+}
+
+// A board's bytes in base 16.
+fn show_hex(s: &[u8]) {
+    let mut i = 0;
+    while i < s.len() {
+        io::print_hex(STDOUT_FILENO, s[i] as u64, 2);
+        i += 1;
+        if i % 32 == 0 {
+            io::write_all(STDOUT_FILENO, b"\n");
+        }
+    }
+    io::write_all(STDOUT_FILENO, b"\n");
+}
+
+// A board in all its forms.
+fn show_board(s: &[u8]) {
+    show_hex(s);
+    show_text(s);
+    show_dot(s);
+}
+
+// Card to board, in all its forms.
+fn show_card(card: &[u8]) {
+    let mut out = [0u8; 2048];
+    match board_of(card, &mut out) {
+        Made::Board(n) => show_board(&out[..n]),
+        Made::Refused(number, place) => show_refusal(number, place),
+        Made::Bad(line, reason) => show_bad(line, reason),
+    }
+}
+
+// Each card of a text, up to a `%` or the text's end.
+fn show_cards(cards: &[u8]) {
+    let mut at = 0;
+    while at < cards.len() {
+        let end = find(cards, at, b'%');
+        show_card(&cards[at..end]);
+        if end == cards.len() {
+            return;
+        }
+        at = end + 1;
+    }
+}
+
+// The input is cut at this length. No board is so long that the rest could change an answer.
+const MOST: usize = 69632;
+
+fn run(mode: &[u8], input: &[u8]) {
+    if same(mode, b"bytes") {
+        if input.len() == MOST {
+            io::write_all(STDOUT_FILENO, b"text too long\n");
+            return;
+        }
+        show_bytes(input);
+    } else if same(mode, b"text") {
+        show_text(input);
+    } else if same(mode, b"dot") {
+        show_dot(input);
+    } else if same(mode, b"check") {
+        show_cards(input);
+    } else {
+        io::write_all(STDOUT_FILENO, b"card bytes | text | dot | check\n");
+    }
+}
+
+fn main() {
+    let mut input = [0u8; MOST];
+    let n = io::read_full(STDIN_FILENO, &mut input);
+    let mut mode = [0u8; 8];
+    let m = os::arg(1, &mut mode);
+    run(&mode[..m], &input[..n]);
+}
