@@ -1,12 +1,10 @@
 -- Decimals: the floats that they give. Definitions only.
 use mathlib.Core.Path.{_≡_}
 use mathlib.Core.Bool.{false}
-use Prim.Native.Nat.{ℕ, _*_, _^_, _≤_, _<_}
+use Prim.Native.Nat.{ℕ, _*_, _^_, _≤_}
 use lib.Ieee.{Float, binary32, round, toBits}
 use Rattle.card.specs.declared.decimal.Decimal.{Decimal}
 use Rattle.card.specs.declared.decimal.Decimal.the-variants.{Is, Nothing}
-use Rattle.card.specs.declared.number.Power.{Power}
-use Rattle.card.specs.declared.number.Power.the-variants.{Times, Over, Bad}
 
 -- the float nearest to d × 10^k, and to d / 10^k
 unfoldable pub times : ℕ → ℕ → Float
@@ -19,9 +17,3 @@ over d k = round binary32 false d (10 ^ k)
 abbrev pub Prints : ℕ → Decimal → Type 0
 Prints bits (Is d k) = (k ≤ 10) × (toBits binary32 (over d k) ≡ bits)
 Prints bits Nothing = Unit {0}
-
--- a power of ten as read is a 32-bit number
-abbrev pub Small : Power → Type 0
-Small (Times k) = k < 4294967296
-Small (Over k) = k < 4294967296
-Small Bad = Unit {0}

@@ -1,5 +1,6 @@
 // The board of a card: its lines, one after the other, written as records and then judged.
-ghost use Prim.Native.Nat.{_+_, _≤_};
+ghost use mathlib.Core.Path.{_≡_};
+ghost use Prim.Native.Nat.{_+_, _≤_, min};
 ghost use lib.ListN.{length};
 ghost use Rattle.card.specs.Board.{Room, Stepped, Made·of};
 use crate::line::Line;
@@ -9,6 +10,7 @@ use crate::records::put_end;
 use crate::records::put_head;
 use crate::records::put_node;
 use crate::records::put_wire;
+use crate::words::Stop;
 use crate::words::find;
 use graph::judge::judge;
 
@@ -94,7 +96,7 @@ fn add_line(line: &[u8], out: &mut [u8], done: Written) -> Step
     requires { ⌜ Room (length (now out)) done ⌝ }
     ensures { λ r. ⌜ Stepped (length (now (out .entry))) r ⌝ }
 {
-    let end = find(line, 0, b'#');
+    let end = find(line, 0, Stop::Byte(b'#'));
     match line_of(&line[..end]) {
         Line::Blank => Step::On(done),
         Line::Head(size, input) => add_head(out, done, size, input),
@@ -118,6 +120,14 @@ fn judged(out: &mut [u8], at: usize) -> Made
     }
 }
 
+// Where the line starts after the one that ends at `end`.
+fn line_after(text: &[u8], end: usize) -> usize
+    requires { ⌜ end ≤ length (now text) ⌝ }
+    ensures { λ r. ⌜ r ≡ min (end + 1) (length (now (text .entry))) ⌝ }
+{
+    if end < text.len() { end + 1 } else { end }
+}
+
 // The board of a card, in the first bytes of `out`.
 pub fn board_of(text: &[u8], out: &mut [u8]) -> Made
     requires { ⌜ 2048 ≤ length (now out) ⌝ }
@@ -131,16 +141,13 @@ pub fn board_of(text: &[u8], out: &mut [u8]) -> Made
     let mut line = 0;
     let mut start = 0;
     while start < text.len() {
-        let end = find(text, start, b'\n');
+        let end = find(text, start, Stop::Byte(b'\n'));
         line += 1;
         match add_line(&text[start..end], out, done) {
             Step::On(next) => done = next,
             Step::Bad(reason) => return Made::Bad(line, reason),
         }
-        start = end;
-        if start < text.len() {
-            start += 1;
-        }
+        start = line_after(text, end);
     }
     judged(out, done.at)
 }

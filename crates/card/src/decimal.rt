@@ -10,12 +10,12 @@ use leaves::float::to_bits;
 
 // A decimal: its digits as a whole number, over ten to `places`; or none that gives the float.
 pub enum Decimal {
-    Is(u64, u64),
+    Is(u32, u32),
     Nothing,
 }
 
 // Ten to k, as a float.
-fn ten(k: u64) -> f32
+fn ten(k: u32) -> f32
     requires { ⌜ k ≤ 10 ⌝ }
     ensures { λ r. ⌜ HasValue r false (10 ^ k) 1 ⌝ }
 {
@@ -35,7 +35,7 @@ fn ten(k: u64) -> f32
 }
 
 // The float nearest to digits × 10^k.
-pub fn product(digits: u64, k: u64) -> f32
+pub fn product(digits: u32, k: u32) -> f32
     requires { ⌜ (digits < 2 ^ 24) × (k ≤ 10) ⌝ }
     ensures { λ r. ⌜ r ≡ times digits k ⌝ }
 {
@@ -43,7 +43,7 @@ pub fn product(digits: u64, k: u64) -> f32
 }
 
 // The float nearest to digits / 10^k.
-pub fn quotient(digits: u64, k: u64) -> f32
+pub fn quotient(digits: u32, k: u32) -> f32
     requires { ⌜ (digits < 2 ^ 24) × (k ≤ 10) ⌝ }
     ensures { λ r. ⌜ r ≡ over digits k ⌝ }
 {
@@ -51,7 +51,7 @@ pub fn quotient(digits: u64, k: u64) -> f32
 }
 
 // Ten to k.
-pub fn power(k: u64) -> u64
+pub fn power(k: u32) -> u64
     requires { ⌜ k ≤ 10 ⌝ }
     ensures { λ r. ⌜ (1 ≤ r) × (r ≤ 10000000000) ⌝ }
 {
@@ -88,14 +88,15 @@ fn rounded(bits: u32, tens: u64) -> u64
 }
 
 // A decimal with k places that gives the positive float of these bits.
-fn with_places(bits: u32, k: u64) -> Decimal
+fn with_places(bits: u32, k: u32) -> Decimal
     requires { ⌜ k ≤ 10 ⌝ }
     ensures { λ r. ⌜ Prints bits r ⌝ }
 {
-    let digits = rounded(bits, power(k));
-    if 0x100_0000 <= digits {
+    let nearest = rounded(bits, power(k));
+    if 0x100_0000 <= nearest {
         return Decimal::Nothing;
     }
+    let digits = nearest as u32;
     if to_bits(quotient(digits, k)) == bits {
         Decimal::Is(digits, k)
     } else {

@@ -8,18 +8,22 @@ mod records;
 mod text;
 mod words;
 
-ghost use Prim.Native.Nat.{_+_, _*_, _≤_};
+ghost use Prim.Native.Nat.{_≤_};
 ghost use lib.ListN.{length};
 ghost use Rattle.io.specs.Counts.{Counts};
+ghost use Rattle.graph.specs.Read.{Sound};
 use board::Made;
 use board::board_of;
 use check::same;
 use dot::dot_of;
+use graph::board::Board;
 use graph::judge::read_board;
+use graph::sources::wide;
 use libc::STDIN_FILENO;
 use libc::STDOUT_FILENO;
 use line::Reason;
 use text::text_of;
+use words::Stop;
 use words::find;
 
 // `refused`, number and place.
@@ -65,29 +69,32 @@ fn show_bytes(card: &[u8]) {
     }
 }
 
-// Board to card.
-fn show_text(s: &[u8]) {
-    let board = read_board(s);
-    let refused = board.refused;
-    if refused.number != 0 {
-        show_refusal(refused.number, refused.place);
-        return;
-    }
-    let mut out = [0u8; 20480];
-    let n = text_of(board, &mut out);
-    io::write_all(STDOUT_FILENO, &out[..n]);
+// What a board is shown as.
+enum Form {
+    Text,
+    Graph,
 }
 
-// Board to graph.
-fn show_dot(s: &[u8]) {
+fn form_of(board: Board, form: Form, out: &mut [u8]) -> usize
+    requires { ⌜ (16384 ≤ length (now out)) × Sound board ⌝ }
+    ensures { λ r. ⌜ Counts r (now (out .exit)) ⌝ }
+{
+    match form {
+        Form::Text => text_of(board, out),
+        Form::Graph => dot_of(board, out),
+    }
+}
+
+// Board to card, or to graph.
+fn show_form(s: &[u8], form: Form) {
     let board = read_board(s);
     let refused = board.refused;
     if refused.number != 0 {
         show_refusal(refused.number, refused.place);
         return;
     }
-    let mut out = [0u8; 20480];
-    let n = dot_of(board, &mut out);
+    let mut out = [0u8; 16384];
+    let n = form_of(board, form, &mut out);
     io::write_all(STDOUT_FILENO, &out[..n]);
 }
 
@@ -95,7 +102,7 @@ fn show_dot(s: &[u8]) {
 fn show_hex(s: &[u8]) {
     let mut i = 0;
     while i < s.len() {
-        io::print_hex(STDOUT_FILENO, s[i] as u64, 2);
+        io::print_hex(STDOUT_FILENO, wide(s[i]) as u64, 2);
         i += 1;
         if i % 32 == 0 {
             io::write_all(STDOUT_FILENO, b"\n");
@@ -107,8 +114,8 @@ fn show_hex(s: &[u8]) {
 // A board in all its forms.
 fn show_board(s: &[u8]) {
     show_hex(s);
-    show_text(s);
-    show_dot(s);
+    show_form(s, Form::Text);
+    show_form(s, Form::Graph);
 }
 
 // Card to board, in all its forms.
@@ -125,7 +132,7 @@ fn show_card(card: &[u8]) {
 fn show_cards(cards: &[u8]) {
     let mut at = 0;
     while at < cards.len() {
-        let end = find(cards, at, b'%');
+        let end = find(cards, at, Stop::Byte(b'%'));
         show_card(&cards[at..end]);
         if end == cards.len() {
             return;
@@ -145,9 +152,9 @@ fn run(mode: &[u8], input: &[u8]) {
         }
         show_bytes(input);
     } else if same(mode, b"text") {
-        show_text(input);
+        show_form(input, Form::Text);
     } else if same(mode, b"dot") {
-        show_dot(input);
+        show_form(input, Form::Graph);
     } else if same(mode, b"check") {
         show_cards(input);
     } else {

@@ -1,7 +1,7 @@
 // Numbers of a text: whole numbers, and floats as decimals or as bits.
+ghost use mathlib.Core.Path.{_≡_};
 ghost use Prim.Native.Nat.{_<_, _≤_};
 ghost use lib.ListN.{length};
-ghost use Rattle.card.specs.Decimal.{Small};
 use crate::decimal::product;
 use crate::decimal::quotient;
 use leaves::float::to_bits;
@@ -20,11 +20,19 @@ pub struct Digits {
     pub next: usize,
 }
 
-// The power of ten at the end of a decimal.
-pub enum Power {
-    Times(u64),
-    Over(u64),
-    Bad,
+// The power of ten at the end of a decimal, if it is one: times ten to `up`, or over ten to `down`.
+pub struct Power {
+    pub up: u64,
+    pub down: u64,
+    pub good: bool,
+}
+
+impl Power {
+    fn new(up: u64, down: u64, good: bool) -> Self
+        ensures { λ r. ⌜ (r .up ≡ up) × (r .down ≡ down) ⌝ }
+    {
+        Power { up, down, good }
+    }
 }
 
 // A whole number, if it is one.
@@ -143,40 +151,28 @@ fn digits_of(word: &[u8], at: usize) -> Digits
     }
 }
 
-// The digits of a power of ten from `at` on, up to the word's end.
-fn exponent(word: &[u8], at: usize) -> Whole
-    requires { ⌜ at ≤ length (now word) ⌝ }
-{
-    whole_of(&word[at..], 4294967295)
-}
-
 // The power of ten from `at` on: none, or `e` and a whole number, perhaps with a minus.
 fn power_of(word: &[u8], at: usize) -> Power
     requires { ⌜ at ≤ length (now word) ⌝ }
-    ensures { λ r. ⌜ Small r ⌝ }
+    ensures { λ r. ⌜ (r .up < 4294967296) × (r .down < 4294967296) ⌝ }
 {
     if at == word.len() {
-        return Power::Times(0);
+        return Power::new(0, 0, true);
     }
     if word[at] != b'e' {
-        return Power::Bad;
+        return Power::new(0, 0, false);
     }
     let start = at + 1;
     if start == word.len() {
-        return Power::Bad;
+        return Power::new(0, 0, false);
     }
     if word[start] == b'-' {
-        let below = exponent(word, start + 1);
-        if below.good {
-            return Power::Over(below.value);
-        }
-        return Power::Bad;
+        let after = start + 1;
+        let down = whole_of(&word[after..], 4294967295);
+        return Power::new(0, down.value, down.good);
     }
-    let above = exponent(word, start);
-    if above.good {
-        return Power::Times(above.value);
-    }
-    Power::Bad
+    let up = whole_of(&word[start..], 4294967295);
+    Power::new(up.value, 0, up.good)
 }
 
 // The float of a decimal's sign and size.
@@ -198,13 +194,13 @@ fn scaled(minus: bool, digits: u64, up: u64, down: u64) -> Float {
         if 10 < tens {
             return Float::Long;
         }
-        return signed(minus, product(digits, tens));
+        return signed(minus, product(digits as u32, tens as u32));
     }
     let tens = down - up;
     if 10 < tens {
         return Float::Long;
     }
-    signed(minus, quotient(digits, tens))
+    signed(minus, quotient(digits as u32, tens as u32))
 }
 
 // The float of the decimal from `at` on.
@@ -218,11 +214,11 @@ fn decimal_at(word: &[u8], at: usize, minus: bool) -> Float
     if 4294967295 < digits.places {
         return Float::Long;
     }
-    match power_of(word, digits.next) {
-        Power::Times(up) => scaled(minus, digits.value, up, digits.places),
-        Power::Over(down) => scaled(minus, digits.value, 0, digits.places + down),
-        Power::Bad => Float::Bad,
+    let power = power_of(word, digits.next);
+    if !power.good {
+        return Float::Bad;
     }
+    scaled(minus, digits.value, power.up, digits.places + power.down)
 }
 
 // The bits that 8 digits of base 16 after an `x` give.

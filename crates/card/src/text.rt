@@ -1,8 +1,8 @@
 // The text of a board: each function writes into `out` from the place `at` on, and returns the place
 // after what it wrote.
-ghost use Prim.Native.Nat.{_+_, _≤_};
-ghost use mathlib.Core.Path.{_≡_};
+ghost use Prim.Native.Nat.{_+_, _<_, _≤_};
 ghost use lib.ListN.{length};
+ghost use Rattle.io.specs.Counts.{Counts};
 ghost use Rattle.graph.specs.Read.{Sound};
 ghost use Rattle.card.specs.Written.{Wrote};
 use crate::decimal::Decimal;
@@ -27,18 +27,8 @@ pub fn put_word(out: &mut [u8], at: usize, word: &[u8]) -> usize
     n
 }
 
-// A whole number.
-pub fn put_number(out: &mut [u8], at: usize, v: u64) -> usize
-    requires { ⌜ at + 20 ≤ length (now out) ⌝ }
-    ensures { λ r. ⌜ r ≤ at + 20 ⌝ }
-{
-    let mut digits = [0u8; 20];
-    let count = io::decimal(v, &mut digits);
-    put_word(out, at, &digits[..count])
-}
-
 // The last k decimal digits of a number.
-fn put_places(out: &mut [u8], at: usize, v: u64, k: u64) -> usize
+fn put_places(out: &mut [u8], at: usize, v: u32, k: u32) -> usize
     requires { ⌜ (at + 10 ≤ length (now out)) × (k ≤ 10) ⌝ }
     ensures { λ r. ⌜ r ≤ at + 10 ⌝ }
 {
@@ -46,18 +36,41 @@ fn put_places(out: &mut [u8], at: usize, v: u64, k: u64) -> usize
     let mut i = k;
     while 0 < i {
         i -= 1;
-        let digit = v / power(i) % 10;
+        let digit = v as u64 / power(i) % 10;
         n = put(out, n, (48 + digit) as u8);
     }
     n
 }
 
-// digits / 10^k, with k digits after the point.
-fn put_decimal(out: &mut [u8], at: usize, digits: u64, k: u64) -> usize
-    requires { ⌜ (at + 31 ≤ length (now out)) × (k ≤ 10) ⌝ }
-    ensures { λ r. ⌜ r ≤ at + 31 ⌝ }
+// How many decimal digits a number has.
+fn width(v: u32) -> u32
+    ensures { λ r. ⌜ r ≤ 10 ⌝ }
 {
-    let n = put_number(out, at, digits / power(k));
+    let mut k = 1;
+    while k < 10 {
+        if (v as u64) < power(k) {
+            return k;
+        }
+        k += 1;
+    }
+    k
+}
+
+// A whole number.
+pub fn put_number(out: &mut [u8], at: usize, v: u32) -> usize
+    requires { ⌜ at + 10 ≤ length (now out) ⌝ }
+    ensures { λ r. ⌜ r ≤ at + 10 ⌝ }
+{
+    put_places(out, at, v, width(v))
+}
+
+// digits / 10^k, with k digits after the point.
+fn put_decimal(out: &mut [u8], at: usize, digits: u32, k: u32) -> usize
+    requires { ⌜ (at + 21 ≤ length (now out)) × (k ≤ 10) ⌝ }
+    ensures { λ r. ⌜ r ≤ at + 21 ⌝ }
+{
+    let whole = digits as u64 / power(k);
+    let n = put_number(out, at, whole as u32);
     if k == 0 {
         return n;
     }
@@ -65,15 +78,29 @@ fn put_decimal(out: &mut [u8], at: usize, digits: u64, k: u64) -> usize
     put_places(out, m, digits, k)
 }
 
+// A digit of base 16.
+fn glyph(digit: u32) -> u8
+    requires { ⌜ digit < 16 ⌝ }
+{
+    if digit < 10 {
+        (48 + digit) as u8
+    } else {
+        (87 + digit) as u8
+    }
+}
+
 // The bits of a float, in base 16 after an `x`.
 fn put_bits(out: &mut [u8], at: usize, bits: u32) -> usize
-    requires { ⌜ at + 17 ≤ length (now out) ⌝ }
-    ensures { λ r. ⌜ r ≤ at + 17 ⌝ }
+    requires { ⌜ at + 9 ≤ length (now out) ⌝ }
+    ensures { λ r. ⌜ r ≤ at + 9 ⌝ }
 {
-    let mut digits = [0u8; 16];
-    let count = io::hex(bits as u64, 8, &mut digits);
-    let n = put(out, at, b'x');
-    put_word(out, n, &digits[..count])
+    let mut n = put(out, at, b'x');
+    let mut i = 8;
+    while 0 < i {
+        i -= 1;
+        n = put(out, n, glyph((bits >> (4 * i)) % 16));
+    }
+    n
 }
 
 // A minus before a negative float, by its bits.
@@ -89,8 +116,8 @@ fn put_sign(out: &mut [u8], at: usize, bits: u32) -> usize
 
 // A space and a float: the decimal that reads as this float, or its bits.
 fn put_float(out: &mut [u8], at: usize, x: f32) -> usize
-    requires { ⌜ at + 33 ≤ length (now out) ⌝ }
-    ensures { λ r. ⌜ r ≤ at + 33 ⌝ }
+    requires { ⌜ at + 23 ≤ length (now out) ⌝ }
+    ensures { λ r. ⌜ r ≤ at + 23 ⌝ }
 {
     let bits = to_bits(x);
     let n = put(out, at, b' ');
@@ -105,8 +132,8 @@ fn put_float(out: &mut [u8], at: usize, x: f32) -> usize
 
 // A name and a float.
 fn put_number_node(out: &mut [u8], at: usize, name: &[u8], x: f32) -> usize
-    requires { ⌜ (at + 44 ≤ length (now out)) × (length (now name) ≤ 11) ⌝ }
-    ensures { λ r. ⌜ r ≤ at + 44 ⌝ }
+    requires { ⌜ (at + 34 ≤ length (now out)) × (length (now name) ≤ 11) ⌝ }
+    ensures { λ r. ⌜ r ≤ at + 34 ⌝ }
 {
     let n = put_word(out, at, name);
     put_float(out, n, x)
@@ -114,18 +141,18 @@ fn put_number_node(out: &mut [u8], at: usize, name: &[u8], x: f32) -> usize
 
 // A name and the length of a line.
 fn put_line_node(out: &mut [u8], at: usize, name: &[u8], samples: u32) -> usize
-    requires { ⌜ (at + 31 ≤ length (now out)) × (length (now name) ≤ 10) ⌝ }
-    ensures { λ r. ⌜ r ≤ at + 31 ⌝ }
+    requires { ⌜ (at + 22 ≤ length (now out)) × (length (now name) ≤ 11) ⌝ }
+    ensures { λ r. ⌜ r ≤ at + 22 ⌝ }
 {
     let n = put_word(out, at, name);
     let m = put(out, n, b' ');
-    put_number(out, m, samples as u64)
+    put_number(out, m, samples)
 }
 
 // A type's name, and its whole number and float.
 pub fn put_kind(out: &mut [u8], at: usize, kind: NodeKind) -> usize
-    requires { ⌜ at + 64 ≤ length (now out) ⌝ }
-    ensures { λ r. ⌜ r ≤ at + 64 ⌝ }
+    requires { ⌜ at + 48 ≤ length (now out) ⌝ }
+    ensures { λ r. ⌜ r ≤ at + 48 ⌝ }
 {
     match kind {
         NodeKind::Pass => put_word(out, at, b"pass"),
@@ -145,63 +172,65 @@ pub fn put_kind(out: &mut [u8], at: usize, kind: NodeKind) -> usize
 }
 
 // The line of node i.
-fn put_node(out: &mut [u8], at: usize, kind: NodeKind, i: usize) -> usize
-    requires { ⌜ at + 96 ≤ length (now out) ⌝ }
-    ensures { λ r. ⌜ r ≤ at + 96 ⌝ }
+fn put_node(out: &mut [u8], at: usize, kind: NodeKind, i: u32) -> usize
+    requires { ⌜ at + 64 ≤ length (now out) ⌝ }
+    ensures { λ r. ⌜ r ≤ at + 64 ⌝ }
 {
     let n = put_kind(out, at, kind);
     let m = put_word(out, n, b"  # ");
-    let k = put_number(out, m, i as u64);
+    let k = put_number(out, m, i);
     put(out, k, b'\n')
 }
 
 // The line of the head.
-fn put_head(out: &mut [u8], at: usize, size: usize, input: usize) -> usize
-    requires { ⌜ at + 64 ≤ length (now out) ⌝ }
-    ensures { λ r. ⌜ r ≤ at + 64 ⌝ }
+fn put_head(out: &mut [u8], at: usize, size: u32, input: u32) -> usize
+    requires { ⌜ at + 34 ≤ length (now out) ⌝ }
+    ensures { λ r. ⌜ r ≤ at + 34 ⌝ }
 {
     let n = put_word(out, at, b"block ");
-    let m = put_number(out, n, size as u64);
+    let m = put_number(out, n, size);
     let k = put_word(out, m, b" input ");
-    let l = put_number(out, k, input as u64);
+    let l = put_number(out, k, input);
     put(out, l, b'\n')
 }
 
 // The line of a wire.
-fn put_wire(out: &mut [u8], at: usize, source: usize, target: usize) -> usize
-    requires { ⌜ at + 48 ≤ length (now out) ⌝ }
-    ensures { λ r. ⌜ r ≤ at + 48 ⌝ }
+fn put_wire(out: &mut [u8], at: usize, source: u32, target: u32) -> usize
+    requires { ⌜ at + 32 ≤ length (now out) ⌝ }
+    ensures { λ r. ⌜ r ≤ at + 32 ⌝ }
 {
     let n = put_word(out, at, b"wire ");
-    let m = put_number(out, n, source as u64);
+    let m = put_number(out, n, source);
     let k = put(out, m, b' ');
-    let l = put_number(out, k, target as u64);
+    let l = put_number(out, k, target);
     put(out, l, b'\n')
 }
 
 fn put_nodes(out: &mut [u8], at: usize, board: Board) -> usize
-    requires { ⌜ (at + 6144 ≤ length (now out)) × Sound board ⌝ }
-    ensures { λ r. ⌜ r ≤ at + 6144 ⌝ }
+    requires { ⌜ (at + 4096 ≤ length (now out)) × Sound board ⌝ }
+    ensures { λ r. ⌜ r ≤ at + 4096 ⌝ }
 {
     let mut n = at;
     let mut i = 0;
     while i < board.count {
         let node = board.nodes[i];
         let kind = node.kind;
-        n = put_node(out, n, kind, i);
+        n = put_node(out, n, kind, i as u32);
         i += 1;
     }
     n
 }
 
 fn put_wires(out: &mut [u8], at: usize, board: Board) -> usize
-    requires { ⌜ (at + 6144 ≤ length (now out)) × Sound board ⌝ }
-    ensures { λ r. ⌜ r ≤ at + 6144 ⌝ }
+    requires { ⌜ (at + 4096 ≤ length (now out)) × Sound board ⌝ }
+    ensures { λ r. ⌜ r ≤ at + 4096 ⌝ }
 {
     let mut n = at;
     let mut i = 0;
     while i < board.wires {
-        n = put_wire(out, n, wide(board.sources[i]), wide(board.targets[i]));
+        let source = wide(board.sources[i]);
+        let target = wide(board.targets[i]);
+        n = put_wire(out, n, source as u32, target as u32);
         i += 1;
     }
     n
@@ -210,9 +239,9 @@ fn put_wires(out: &mut [u8], at: usize, board: Board) -> usize
 // The text of a board, in the first bytes of `out`.
 pub fn text_of(board: Board, out: &mut [u8]) -> usize
     requires { ⌜ (16384 ≤ length (now out)) × Sound board ⌝ }
-    ensures { λ r. ⌜ r ≤ length (now (out .exit)) ⌝ }
+    ensures { λ r. ⌜ Counts r (now (out .exit)) ⌝ }
 {
-    let n = put_head(out, 0, board.size, board.input);
+    let n = put_head(out, 0, board.size as u32, board.input as u32);
     let m = put_nodes(out, n, board);
     put_wires(out, m, board)
 }

@@ -1,0 +1,3 @@
+-- Laws that the proofs of `card` cite.
+pub mod Writing
+pub mod Scaling

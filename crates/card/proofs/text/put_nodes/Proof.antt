@@ -1,0 +1,55 @@
+use Rattle.card.proofs.text.put_nodes.Statement.{statement}
+use Rattle.card.proofs.text.put_nodes.Tie as tie
+
+abbrev Inv-loop : tie.InvT-loop
+Inv-loop out₀ at board n₀ i₀ out n i = ?
+
+abbrev μ-loop : tie.MeasureT-loop
+μ-loop out₀ at board n₀ i₀ out n i = ?
+
+loop-holds : tie.Need-loop-holds Inv-loop μ-loop
+loop-holds c = ?
+
+mul-node : tie.Need-mul-node Inv-loop μ-loop
+mul-node c = ?
+
+element-copy-out-node : tie.Need-element-copy-out-node Inv-loop μ-loop
+element-copy-out-node c = ?
+
+cast-put-node : tie.Need-cast-put-node Inv-loop μ-loop
+cast-put-node c = ?
+
+put-node-requires : tie.Need-put-node-requires Inv-loop μ-loop
+put-node-requires c κs = ?
+
+add-i : tie.Need-add-i Inv-loop μ-loop
+add-i c = ?
+
+loop-less : tie.Need-loop-less Inv-loop μ-loop
+loop-less c = ?
+
+loop-again : tie.Need-loop-again Inv-loop μ-loop
+loop-again c = ?
+
+same-length : tie.Need-same-length Inv-loop μ-loop
+same-length c = ?
+
+returns : tie.Need-returns Inv-loop μ-loop
+returns c = ?
+
+pub put-nodes-spec : {M : Type 1} → statement M
+put-nodes-spec =
+    tie.close
+    (tie.spec
+    Inv-loop
+    μ-loop
+    loop-holds
+    mul-node
+    element-copy-out-node
+    cast-put-node
+    put-node-requires
+    add-i
+    loop-less
+    loop-again
+    same-length
+    returns)
