@@ -2,7 +2,7 @@
 ghost use mathlib.Core.Path.{_≡_};
 ghost use Prim.Native.Nat.{_+_, _≤_, min};
 ghost use lib.ListN.{length};
-ghost use Rattle.card.specs.Board.{Room, Stepped, Made·of};
+ghost use Rattle.card.specs.Board.{Room, Stepped, Given};
 use crate::line::Line;
 use crate::line::Reason;
 use crate::line::line_of;
@@ -36,8 +36,8 @@ pub enum Made {
 
 // The head is the first record.
 fn add_head(out: &mut [u8], done: Written, size: u16, input: u16) -> Step
-    requires { ⌜ Room (length (now out)) done ⌝ }
-    ensures { λ r. ⌜ Stepped (length (now (out .entry))) r ⌝ }
+    requires { ⌜ (1932 ≤ length (now out)) × Room done ⌝ }
+    ensures { λ r. ⌜ Stepped r ⌝ }
 {
     if done.at != 0 {
         return Step::Bad(Reason::Late);
@@ -52,8 +52,8 @@ fn add_head(out: &mut [u8], done: Written, size: u16, input: u16) -> Step
 
 // A node stands after the head and before the wires.
 fn add_node(out: &mut [u8], done: Written, t: u16, n: u32, f: u32) -> Step
-    requires { ⌜ Room (length (now out)) done ⌝ }
-    ensures { λ r. ⌜ Stepped (length (now (out .entry))) r ⌝ }
+    requires { ⌜ (1932 ≤ length (now out)) × Room done ⌝ }
+    ensures { λ r. ⌜ Stepped r ⌝ }
 {
     if done.at == 0 {
         return Step::Bad(Reason::Early);
@@ -74,8 +74,8 @@ fn add_node(out: &mut [u8], done: Written, t: u16, n: u32, f: u32) -> Step
 
 // A wire stands after the head.
 fn add_wire(out: &mut [u8], done: Written, source: u16, target: u16) -> Step
-    requires { ⌜ Room (length (now out)) done ⌝ }
-    ensures { λ r. ⌜ Stepped (length (now (out .entry))) r ⌝ }
+    requires { ⌜ (1932 ≤ length (now out)) × Room done ⌝ }
+    ensures { λ r. ⌜ Stepped r ⌝ }
 {
     if done.at == 0 {
         return Step::Bad(Reason::Early);
@@ -93,8 +93,8 @@ fn add_wire(out: &mut [u8], done: Written, source: u16, target: u16) -> Step
 
 // The record of a line, after those that are written.
 fn add_line(line: &[u8], out: &mut [u8], done: Written) -> Step
-    requires { ⌜ Room (length (now out)) done ⌝ }
-    ensures { λ r. ⌜ Stepped (length (now (out .entry))) r ⌝ }
+    requires { ⌜ (1932 ≤ length (now out)) × Room done ⌝ }
+    ensures { λ r. ⌜ Stepped r ⌝ }
 {
     let end = find(line, 0, Stop::Byte(b'#'));
     match line_of(&line[..end]) {
@@ -109,7 +109,7 @@ fn add_line(line: &[u8], out: &mut [u8], done: Written) -> Step
 // The judge's answer to a board of `at` bytes and its end.
 fn judged(out: &mut [u8], at: usize) -> Made
     requires { ⌜ at + 4 ≤ length (now out) ⌝ }
-    ensures { λ r. ⌜ Made·of (now (out .exit)) r ⌝ }
+    ensures { λ r. ⌜ Given (now (out .exit)) r ⌝ }
 {
     let end = put_end(out, at);
     let answer = judge(&out[..end]);
@@ -130,8 +130,8 @@ fn line_after(text: &[u8], end: usize) -> usize
 
 // The board of a card, in the first bytes of `out`.
 pub fn board_of(text: &[u8], out: &mut [u8]) -> Made
-    requires { ⌜ 2048 ≤ length (now out) ⌝ }
-    ensures { λ r. ⌜ Made·of (now (out .exit)) r ⌝ }
+    requires { ⌜ 1932 ≤ length (now out) ⌝ }
+    ensures { λ r. ⌜ Given (now (out .exit)) r ⌝ }
 {
     let mut done = Written {
         at: 0,

@@ -3,6 +3,7 @@ ghost use Prim.Native.Nat.{_+_, _≤_};
 ghost use lib.ListN.{length};
 ghost use Rattle.io.specs.Counts.{Counts};
 ghost use Rattle.graph.specs.Read.{Sound};
+ghost use Rattle.card.specs.Board.{Accepted};
 use crate::records::put;
 use crate::text::put_kind;
 use crate::text::put_number;
@@ -76,7 +77,7 @@ fn put_arrows(out: &mut [u8], at: usize, board: Board, places: &[u8; 64], count:
 
 // The graph, in the first bytes of `out`.
 pub fn dot_of(board: Board, out: &mut [u8]) -> usize
-    requires { ⌜ (16384 ≤ length (now out)) × Sound board ⌝ }
+    requires { ⌜ (16384 ≤ length (now out)) × Accepted board ⌝ }
     ensures { λ r. ⌜ Counts r (now (out .exit)) ⌝ }
 {
     let counts = board.counts;

@@ -11,7 +11,7 @@ mod words;
 ghost use Prim.Native.Nat.{_≤_};
 ghost use lib.ListN.{length};
 ghost use Rattle.io.specs.Counts.{Counts};
-ghost use Rattle.graph.specs.Read.{Sound};
+ghost use Rattle.card.specs.Board.{Accepted};
 use board::Made;
 use board::board_of;
 use check::same;
@@ -57,18 +57,6 @@ fn show_bad(line: usize, reason: Reason) {
     show_reason(reason);
 }
 
-// Card to board.
-fn show_bytes(card: &[u8]) {
-    let mut out = [0u8; 2048];
-    match board_of(card, &mut out) {
-        Made::Board(n) => {
-            io::write_all(STDOUT_FILENO, &out[..n]);
-        }
-        Made::Refused(number, place) => show_refusal(number, place),
-        Made::Bad(line, reason) => show_bad(line, reason),
-    }
-}
-
 // What a board is shown as.
 enum Form {
     Text,
@@ -76,7 +64,7 @@ enum Form {
 }
 
 fn form_of(board: Board, form: Form, out: &mut [u8]) -> usize
-    requires { ⌜ (16384 ≤ length (now out)) × Sound board ⌝ }
+    requires { ⌜ (16384 ≤ length (now out)) × Accepted board ⌝ }
     ensures { λ r. ⌜ Counts r (now (out .exit)) ⌝ }
 {
     match form {
@@ -111,18 +99,22 @@ fn show_hex(s: &[u8]) {
     io::write_all(STDOUT_FILENO, b"\n");
 }
 
-// A board in all its forms.
-fn show_board(s: &[u8]) {
-    show_hex(s);
-    show_form(s, Form::Text);
-    show_form(s, Form::Graph);
+// A board's bytes, or for a check all its forms.
+fn show_board(s: &[u8], check: bool) {
+    if check {
+        show_hex(s);
+        show_form(s, Form::Text);
+        show_form(s, Form::Graph);
+    } else {
+        io::write_all(STDOUT_FILENO, s);
+    }
 }
 
-// Card to board, in all its forms.
-fn show_card(card: &[u8]) {
+// Card to board.
+fn show_card(card: &[u8], check: bool) {
     let mut out = [0u8; 2048];
     match board_of(card, &mut out) {
-        Made::Board(n) => show_board(&out[..n]),
+        Made::Board(n) => show_board(&out[..n], check),
         Made::Refused(number, place) => show_refusal(number, place),
         Made::Bad(line, reason) => show_bad(line, reason),
     }
@@ -133,7 +125,7 @@ fn show_cards(cards: &[u8]) {
     let mut at = 0;
     while at < cards.len() {
         let end = find(cards, at, Stop::Byte(b'%'));
-        show_card(&cards[at..end]);
+        show_card(&cards[at..end], true);
         if end == cards.len() {
             return;
         }
@@ -150,7 +142,7 @@ fn run(mode: &[u8], input: &[u8]) {
             io::write_all(STDOUT_FILENO, b"text too long\n");
             return;
         }
-        show_bytes(input);
+        show_card(input, false);
     } else if same(mode, b"text") {
         show_form(input, Form::Text);
     } else if same(mode, b"dot") {

@@ -95,7 +95,7 @@ fn put_bits(out: &mut [u8], at: usize, bits: u32) -> usize
     ensures { λ r. ⌜ r ≤ at + 9 ⌝ }
 {
     let mut n = put(out, at, b'x');
-    let mut i = 8;
+    let mut i: u32 = 8;
     while 0 < i {
         i -= 1;
         n = put(out, n, glyph((bits >> (4 * i)) % 16));

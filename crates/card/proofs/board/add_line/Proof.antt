@@ -1,3 +1,6 @@
+-- `card::board::add_line` meets its contract: the line without its comment says which record is added. Assumes nothing.
+use mathlib.Core.Path.{sym}
+use lib.Seq.{length-take-le}
 use borrow.Author.Needs.{needs}
 use Rattle.card.proofs.board.add_line.Statement.{statement}
 use Rattle.card.proofs.board.add_line.Tie as tie
@@ -6,7 +9,7 @@ find-requires : tie.Need-find-requires
 find-requires c κs = search needs
 
 slice-aggregate-line-of : tie.Need-slice-aggregate-line-of
-slice-aggregate-line-of c = ?
+slice-aggregate-line-of c = sym (length-take-le _ _ (c .before .find .ensures .1))
 
 line-of-requires : tie.Need-line-of-requires
 line-of-requires c κs = search needs

@@ -1,62 +1,71 @@
+-- `card::board::board_of` meets its contract: each line takes at least one byte, and its record leaves room for the rest. Assumes nothing.
+use mathlib.Core.Path.{_≡_, subst}
+use Prim.Native.Nat.{_≤_, _-_}
+use lib.ListN.{length}
+use Rattle.card.specs.Board.{Room, Stepped}
+use borrow.Author.Needs.{needs}
 use Rattle.card.proofs.board.board_of.Statement.{statement}
 use Rattle.card.proofs.board.board_of.Tie as tie
 
 abbrev Inv-loop : tie.InvT-loop
-Inv-loop text out₀ done₀ line₀ start₀ out done line start = ?
+Inv-loop text out₀ done₀ line₀ start₀ out done line start = (line ≤ start) × (start ≤ length text) × (length out ≡ length out₀) × Room done
 
 abbrev μ-loop : tie.MeasureT-loop
-μ-loop text out₀ done₀ line₀ start₀ out done line start = ?
+μ-loop text out₀ done₀ line₀ start₀ out done line start = length text - start
 
 loop-holds : tie.Need-loop-holds Inv-loop μ-loop
-loop-holds c = ?
+loop-holds c = search needs
 
 find-requires : tie.Need-find-requires Inv-loop μ-loop
-find-requires c κs = ?
+find-requires c κs = search needs
 
 add-line : tie.Need-add-line Inv-loop μ-loop
-add-line c = ?
+add-line c = search needs
 
 sub-add-line : tie.Need-sub-add-line Inv-loop μ-loop
-sub-add-line c = ?
+sub-add-line c = search needs
 
 part-add-line-start : tie.Need-part-add-line-start Inv-loop μ-loop
-part-add-line-start c = ?
+part-add-line-start c = search needs
 
 part-add-line-end : tie.Need-part-add-line-end Inv-loop μ-loop
-part-add-line-end c = ?
+part-add-line-end c = search needs
 
 add-line-requires : tie.Need-add-line-requires Inv-loop μ-loop
-add-line-requires c κs = ?
+add-line-requires c κs = search needs
 
 enum-known-next : tie.Need-enum-known-next Inv-loop μ-loop
-enum-known-next c = ?
+enum-known-next c = search needs
 
 enum-known-reason : tie.Need-enum-known-reason Inv-loop μ-loop
-enum-known-reason c = ?
+enum-known-reason c = search needs
 
 same-length : tie.Need-same-length Inv-loop μ-loop
-same-length c = ?
+same-length c = search needs
 
 returns : tie.Need-returns Inv-loop μ-loop
-returns c = ?
+returns c = search needs
 
 line-after-requires : tie.Need-line-after-requires Inv-loop μ-loop
-line-after-requires c κs = ?
+line-after-requires c κs = search needs
 
 loop-less : tie.Need-loop-less Inv-loop μ-loop
-loop-less c = ?
+loop-less c = search needs
 
 loop-again : tie.Need-loop-again Inv-loop μ-loop
-loop-again c = ?
+loop-again c = 
+    let read = c .before .before in
+    let added = read .before .before .before .before .add-line in
+    (search needs, search needs, search needs, subst Stepped (read .next .given .1) (added .ensures))
 
 judged-requires : tie.Need-judged-requires Inv-loop μ-loop
-judged-requires c κs = ?
+judged-requires c κs = search needs
 
 same-length-2 : tie.Need-same-length-2 Inv-loop μ-loop
-same-length-2 c = ?
+same-length-2 c = search needs
 
 returns-2 : tie.Need-returns-2 Inv-loop μ-loop
-returns-2 c = ?
+returns-2 c = search needs
 
 pub board-of-spec : {M : Type 1} → statement M
 board-of-spec =

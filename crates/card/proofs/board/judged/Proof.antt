@@ -23,8 +23,8 @@ same-length c = search needs
 
 returns : tie.Need-returns
 returns c =
-    let answer = c .before in
-    (answer .before .before .before .before .before .put-end .ensures .fits, ap (λ (a : Answer). a .number) (sym (answer .judge .ensures)) ∙ c .if1 .taken)
+    let answer = c .before .before in
+    (answer .before .before .before .before .put-end .ensures .fits, ap (λ (a : Answer). a .number) (sym (answer .judge .ensures)) ∙ c .if1 .taken)
 
 same-length-2 : tie.Need-same-length-2
 same-length-2 c = search needs

@@ -24,9 +24,6 @@ sub-i c = search needs
 mul-glyph : tie.Need-mul-glyph Inv-loop μ-loop
 mul-glyph c = search needs
 
-cast-glyph : tie.Need-cast-glyph Inv-loop μ-loop
-cast-glyph c = search needs
-
 shr-glyph : tie.Need-shr-glyph Inv-loop μ-loop
 shr-glyph c = search needs
 
@@ -58,7 +55,6 @@ put-bits-spec =
     loop-holds
     sub-i
     mul-glyph
-    cast-glyph
     shr-glyph
     glyph-requires
     put-requires-2

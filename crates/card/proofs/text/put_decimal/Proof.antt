@@ -1,3 +1,6 @@
+-- `card::text::put_decimal` meets its contract: the part before the point is no larger than the digits. Assumes nothing.
+use native.Mathlib.Nat.{div-le-self}
+use native.Mathlib.Omega.{arith}
 use borrow.Author.Needs.{needs}
 use Rattle.card.proofs.text.put_decimal.Statement.{statement}
 use Rattle.card.proofs.text.put_decimal.Tie as tie
@@ -9,7 +12,9 @@ div-whole : tie.Need-div-whole
 div-whole c = search needs
 
 cast-put-number : tie.Need-cast-put-number
-cast-put-number c = ?
+cast-put-number c =
+    let made = c .before in
+    omega (arith, div-le-self (made .before .before .args .digits) (made .power .result))
 
 put-number-requires : tie.Need-put-number-requires
 put-number-requires c κs = search needs

@@ -1,3 +1,6 @@
+-- `card::text::put_float` meets its contract: a decimal that was found has at most 10 places. Assumes nothing.
+use mathlib.Core.Path.{subst}
+use Rattle.card.specs.Decimal.{Prints}
 use borrow.Author.Needs.{needs}
 use Rattle.card.proofs.text.put_float.Statement.{statement}
 use Rattle.card.proofs.text.put_float.Tie as tie
@@ -18,7 +21,9 @@ put-sign-requires : tie.Need-put-sign-requires
 put-sign-requires c κs = search needs
 
 put-decimal-requires : tie.Need-put-decimal-requires
-put-decimal-requires c κs = ?
+put-decimal-requires c κs = 
+    let found = c .before .before .before .before .before .before in
+    (search needs, subst (Prints _) (found .digits .given .1) (found .before .before .decimal-of .ensures) .0)
 
 enum-told : tie.Need-enum-told
 enum-told c = search needs
