@@ -1,4 +1,25 @@
-// A board as text, as bytes and as a graph.
+// Boards as text: `card bytes` reads a card, a board written as text, and writes the board's bytes;
+// `card text` reads a board and writes its card; `card dot` reads a board and writes it as a graph for
+// Graphviz. All read standard input and write standard output.
+//
+// A card has a line for each record but the end record, in the order of a board. Words stand apart by
+// spaces; `#` starts a comment; an empty line is nothing.
+//
+//     block N input I                the head: block size and input node
+//     pass | sum | destination | balance
+//     mul F | add F | onepole F | sine F
+//     delay N | allpass N F          nodes, numbered from 0 in their order
+//     wire SOURCE TARGET
+//
+// A whole number is decimal digits. A float is a decimal, as 0.5, -1 or 1e-3, or `x` and the 8
+// hexadecimal digits of its bits. A decimal has digits below 2^24, its point aside, and at most 10 tens
+// up or down, and gives the nearest float; any other is refused.
+//
+// A bad line is answered by `line`, its number and what is wrong, and nothing else; a board that the
+// judge refuses by `refused`, number and place. docs/CARD.md has examples.
+//
+// `card check` reads cards with a `%` between them, and writes of each the board's bytes in base 16, its
+// card and its graph.
 mod board;
 mod decimal;
 mod dot;
@@ -35,18 +56,24 @@ fn show_refusal(number: u32, place: u32) {
     io::write_all(STDOUT_FILENO, b"\n");
 }
 
-fn show_reason(reason: Reason) {
+// What is wrong with a line. Answers as `write_all` does.
+fn show_reason(reason: Reason) -> bool {
     match reason {
         Reason::Name => io::write_all(STDOUT_FILENO, b"unknown name\n"),
         Reason::Fields => io::write_all(STDOUT_FILENO, b"wrong number of fields\n"),
         Reason::Whole => io::write_all(STDOUT_FILENO, b"no whole number, or too large\n"),
         Reason::Float => io::write_all(STDOUT_FILENO, b"no float\n"),
-        Reason::Long => io::write_all(STDOUT_FILENO, b"decimal too long: write the bits\n"),
-        Reason::Late => io::write_all(STDOUT_FILENO, b"too late: block, nodes, wires\n"),
+        Reason::Long => io::write_all(
+            STDOUT_FILENO,
+            b"decimal too long: write its bits, x and 8 hexadecimal digits\n",
+        ),
+        Reason::Late => io::write_all(
+            STDOUT_FILENO,
+            b"out of order: block, then nodes, then wires\n",
+        ),
         Reason::Early => io::write_all(STDOUT_FILENO, b"before the block line\n"),
-        Reason::Many => io::write_all(STDOUT_FILENO, b"too many\n"),
+        Reason::Many => io::write_all(STDOUT_FILENO, b"too many of these\n"),
     }
-    ;
 }
 
 // A bad line: its number and what is wrong with it.
@@ -63,6 +90,7 @@ enum Form {
     Graph,
 }
 
+// The text of a board in a form.
 fn form_of(board: Board, form: Form, out: &mut [u8]) -> usize
     requires { ⌜ (16384 ≤ length (now out)) × Accepted board ⌝ }
     ensures { λ r. ⌜ Counts r (now (out .exit)) ⌝ }
@@ -136,6 +164,7 @@ fn show_cards(cards: &[u8]) {
 // The input is cut at this length. No board is so long that the rest could change an answer.
 const MOST: usize = 69632;
 
+// What the first argument asks.
 fn run(mode: &[u8], input: &[u8]) {
     if same(mode, b"bytes") {
         if input.len() == MOST {

@@ -67,6 +67,9 @@ fn digit_of(byte: u8) -> u64
     16
 }
 
+// The largest value of a run of digits.
+const LARGEST: u64 = 42949672959;
+
 // One decimal digit more. From 2^32 on a value is too large for every field, and stays.
 fn appended(value: u64, digit: u64) -> u64
     requires { ⌜ (value < 42949672960) × (digit < 10) ⌝ }
@@ -154,7 +157,7 @@ fn digits_of(word: &[u8], at: usize) -> Digits
 // The power of ten from `at` on: none, or `e` and a whole number, perhaps with a minus.
 fn power_of(word: &[u8], at: usize) -> Power
     requires { ⌜ at ≤ length (now word) ⌝ }
-    ensures { λ r. ⌜ (r .up < 4294967296) × (r .down < 4294967296) ⌝ }
+    ensures { λ r. ⌜ (r .up < 42949672960) × (r .down < 42949672960) ⌝ }
 {
     if at == word.len() {
         return Power::new(0, 0, true);
@@ -168,10 +171,10 @@ fn power_of(word: &[u8], at: usize) -> Power
     }
     if word[start] == b'-' {
         let after = start + 1;
-        let down = whole_of(&word[after..], 4294967295);
+        let down = whole_of(&word[after..], LARGEST);
         return Power::new(0, down.value, down.good);
     }
-    let up = whole_of(&word[start..], 4294967295);
+    let up = whole_of(&word[start..], LARGEST);
     Power::new(up.value, 0, up.good)
 }
 

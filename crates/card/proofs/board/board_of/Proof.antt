@@ -53,7 +53,7 @@ loop-less : tie.Need-loop-less Inv-loop μ-loop
 loop-less c = search needs
 
 loop-again : tie.Need-loop-again Inv-loop μ-loop
-loop-again c = 
+loop-again c =
     let read = c .before .before in
     let added = read .before .before .before .before .add-line in
     (search needs, search needs, search needs, subst Stepped (read .next .given .1) (added .ensures))

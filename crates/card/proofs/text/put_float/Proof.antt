@@ -21,7 +21,7 @@ put-sign-requires : tie.Need-put-sign-requires
 put-sign-requires c κs = search needs
 
 put-decimal-requires : tie.Need-put-decimal-requires
-put-decimal-requires c κs = 
+put-decimal-requires c κs =
     let found = c .before .before .before .before .before .before in
     (search needs, subst (Prints _) (found .digits .given .1) (found .before .before .decimal-of .ensures) .0)
 
