@@ -29,26 +29,26 @@ use Rattle.graph.proofs.RoundWorked.{feedback}
 use Rattle.context.proofs.Demand.{board-claim, own-order}
 
 -- two samples as bytes: (1, 0), (0, 1), (0.5, 0) and (0, 0)
-abbrev one : List ℕ
+abbrev pub one : List ℕ
 one = 0 ∷ 0 ∷ 128 ∷ 63 ∷ 0 ∷ 0 ∷ 0 ∷ 0 ∷ []
 
-abbrev ahead : List ℕ
+abbrev pub ahead : List ℕ
 ahead = 0 ∷ 0 ∷ 0 ∷ 0 ∷ 0 ∷ 0 ∷ 128 ∷ 63 ∷ []
 
-abbrev half : List ℕ
+abbrev pub half : List ℕ
 half = 0 ∷ 0 ∷ 0 ∷ 63 ∷ 0 ∷ 0 ∷ 0 ∷ 0 ∷ []
 
-abbrev quiet : List ℕ
+abbrev pub quiet : List ℕ
 quiet = 0 ∷ 0 ∷ 0 ∷ 0 ∷ 0 ∷ 0 ∷ 0 ∷ 0 ∷ []
 
 abbrev pub three : List Call
 three = block one quiet quiet ∷ block quiet quiet quiet ∷ block quiet quiet quiet ∷ []
 
 -- accepted, with the same block on both channels
-abbrev said : List ℕ → Reply
+abbrev pub said : List ℕ → Reply
 said x = record { answer = answer 0 0; left = x; right = x }
 
-abbrev p : Parsed
+abbrev pub p : Parsed
 p = parsedOf feedback
 
 reads : readBoard (writeBoard feedback) ≡ whole p

@@ -27,3 +27,4 @@ pub mod SilenceNodes
 pub mod SilenceLags
 pub mod Silence
 pub mod SilenceWorked
+pub mod Trials
