@@ -1,9 +1,9 @@
 #!/bin/sh
-# record.sh [FILE] [boards N] [plate M] [seed S]: writes FILE (oracle/answers.bin), a list of calls with the oracle's
+# record.sh [FILE] [boards N] [plate M] [seed S]: writes FILE (crates/replay/stdin), a list of calls with the oracle's
 # answers, and replays it in the library; README.md has the format. Variables as for run.sh.
 set -eu
 root=$(cd "$(dirname "$0")/.." && pwd -P)
-file=$root/oracle/answers.bin
+file=$root/crates/replay/stdin
 case ${1:-boards} in boards | plate | seed) ;; *) file=$(realpath "$1") && shift ;; esac
 PLATE_LIB=$(realpath "${PLATE_LIB:-$root/target/staticlib/libplate.a}")
 export PLATE_LIB
