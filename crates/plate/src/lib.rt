@@ -15,6 +15,8 @@ pub mod mix;
 pub mod plate;
 
 // The board judge: 0 and the memory's length.
+// Ruled out, and tried by must-fail edits: one that takes a 65th node (graph, node_65), one that counts
+// a repeated wire twice (graph, repeat_counts).
 #[no_mangle]
 pub extern "C" fn plate_judge(board: &[u8]) -> Answer
     ensures { λ r. ⌜ r ≡ judgeOf (now (board .entry)) ⌝ }
@@ -23,6 +25,8 @@ pub extern "C" fn plate_judge(board: &[u8]) -> Answer
 }
 
 // 0 and the tail, 4,294,967,295 for an endless one.
+// Ruled out: endless for every board (graph, tail_endless_on_time), lines of nodes that are not listed
+// (graph, tail_unlisted_lines).
 #[no_mangle]
 pub extern "C" fn plate_tail(board: &[u8]) -> Answer
     ensures { λ r. ⌜ r ≡ tailAnswer (now (board .entry)) ⌝ }
@@ -31,6 +35,8 @@ pub extern "C" fn plate_tail(board: &[u8]) -> Answer
 }
 
 // Fresh memory.
+// Ruled out: numbers left at 0 (context, fresh_numbers_left_out), a refused call that writes (context,
+// fresh_refused_writes).
 #[no_mangle]
 pub extern "C" fn plate_fresh(board: &[u8], memory: &mut [u8]) -> Answer
     ensures answered { λ r. ⌜ r ≡ (freshOf (now (board .entry)) (now (memory .entry))) .0 ⌝ }
@@ -40,6 +46,8 @@ pub extern "C" fn plate_fresh(board: &[u8], memory: &mut [u8]) -> Answer
 }
 
 // A block run.
+// Ruled out: memory left untouched (context, block_runs_nothing), a fixed output (context,
+// block_fixed_output), outputs swapped (context, block_outputs_swapped).
 #[no_mangle]
 pub extern "C" fn plate_block(
     board: &[u8],
@@ -55,6 +63,8 @@ pub extern "C" fn plate_block(
 }
 
 // A number message.
+// Ruled out: one that writes another value of the cell (context, message_sets_carry), a value out of
+// range answered as a wrong node (context, message_eleven_for_twelve).
 #[no_mangle]
 pub extern "C" fn plate_message(board: &[u8], memory: &mut [u8], node: u32, value: f32) -> Answer
     ensures answered { λ r. ⌜ r ≡ (messageOf (now (board .entry)) (now (memory .entry)) node value) .0 ⌝ }
@@ -64,6 +74,8 @@ pub extern "C" fn plate_message(board: &[u8], memory: &mut [u8], node: u32, valu
 }
 
 // The mix message.
+// Ruled out: mix and 1 - mix exchanged (mix_and_dry_exchanged), 43 judged before 47
+// (mix_judges_43_before_47).
 #[no_mangle]
 pub extern "C" fn plate_mix(board: &[u8], memory: &mut [u8], mix: f32) -> Answer
     ensures answered { λ r. ⌜ r ≡ (mixOf (now (board .entry)) (now (memory .entry)) mix) .0 ⌝ }
@@ -73,6 +85,8 @@ pub extern "C" fn plate_mix(board: &[u8], memory: &mut [u8], mix: f32) -> Answer
 }
 
 // The plate writer.
+// Ruled out: the repeated wires left out (repeats_left_out), an all-pass one sample longer
+// (all_pass_one_longer).
 #[no_mangle]
 pub extern "C" fn plate_write(n: u32, mix: f32, board: &mut [u8]) -> Answer
     ensures answered { λ r. ⌜ r ≡ (writeOf n mix (now (board .entry))) .0 ⌝ }
@@ -97,6 +111,8 @@ fn length_answer(length: Length) -> Answer
 }
 
 // 0 and the length of a delay of so many milliseconds.
+// Ruled out: a delay of no sample (leaves, no_shortest_delay), a length past the line's (the bound on
+// every answered length: leaves, proofs/Samples).
 #[no_mangle]
 pub extern "C" fn plate_delay_length(ms: f32) -> Answer
     ensures { λ r. ⌜ r ≡ lengthAnswer (delayOf ms) ⌝ }
@@ -105,6 +121,8 @@ pub extern "C" fn plate_delay_length(ms: f32) -> Answer
 }
 
 // 0 and the length of an all-pass of so many milliseconds.
+// Ruled out: another length for 0 ms (leaves, all_pass_of_zero), a line of no sample (leaves,
+// proofs/Samples).
 #[no_mangle]
 pub extern "C" fn plate_allpass_length(ms: f32) -> Answer
     ensures { λ r. ⌜ r ≡ lengthAnswer (allPassOf ms) ⌝ }
