@@ -11,8 +11,6 @@ pub mod Fresh
 pub mod Carried
 pub mod Histories
 pub mod HistoryFrames
-pub mod HistoryBlocks
 pub mod HistoryRules
-pub mod HistoryFits
 pub mod Rings
 pub mod Unread
