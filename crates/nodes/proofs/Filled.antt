@@ -11,10 +11,39 @@ use lib.Dec.{ltb}
 use borrow.Author.Tests.{ltb-true, ltb-false}
 use lib.ListN.{length, set, length-set}
 use lib.Seq.{getD-set-same, getD-set-other, ext-getD}
-use lib.Ieee.{Float, nan}
+use lib.Ieee.{Float, nan, binary32, toBits}
 use Rattle.leaves.specs.Floats.{floatAt}
 use Rattle.nodes.specs.Iter.{iter}
-use Rattle.nodes.specs.Block.{sample, fetched, fetchedIf, fill}
+use Rattle.nodes.specs.Block.{sample, fetched, fetchedIf, fill, stored}
+use Rattle.nodes.proofs.Iterated.{iter-then}
+
+-- ---- how a loop that stores or fills starts, goes on and ends
+
+module _ (y : ℕ → Float) (at : ℕ) (ws : List ℕ) where
+  pub stored-none : ws ≡ stored y at 0 ws
+  unfolding stored iter
+  stored-none = refl
+
+  pub stored-then : (i : ℕ) (vs vs′ : List ℕ) → vs ≡ stored y at i ws → vs′ ≡ set vs (at + i) (toBits binary32 (y i)) → vs′ ≡ stored y at (i + 1) ws
+  unfolding stored
+  stored-then i vs vs′ e f = iter-then _ i ws vs vs′ e f
+
+  pub stored-end : (i n : ℕ) (vs : List ℕ) → vs ≡ stored y at i ws → i ≡ n → vs ≡ stored y at n ws
+  stored-end i n vs e f = e ∙ ap (λ (j : ℕ). stored y at j ws) f
+
+module _ (f : ℕ → Float) (x : List Float) where
+  pub fill-none : x ≡ fill f 0 x
+  unfolding fill iter
+  fill-none = refl
+
+  pub fill-then : (i : ℕ) (v : Float) (y : List Float) → y ≡ fill f i x → v ≡ f i → set y i v ≡ fill f (i + 1) x
+  unfolding fill
+  fill-then i v y e h = iter-then _ i x y (set y i v) e (ap (set y i) h)
+
+  pub fill-end : (i n : ℕ) (y : List Float) → y ≡ fill f i x → i ≡ n → y ≡ fill f n x
+  fill-end i n y e h = e ∙ ap (λ (j : ℕ). fill f j x) h
+
+-- ---- what a filled array holds
 
 pub length-fill : (f : ℕ → Float) (n : ℕ) (x : List Float) → length (fill f n x) ≡ length x
 unfolding fill iter

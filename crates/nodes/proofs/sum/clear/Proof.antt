@@ -4,7 +4,7 @@ use Prim.Native.Nat.{_≤_, _-_}
 use native.Mathlib.Omega.{arith}
 use lib.Ieee.{ofBits}
 use Rattle.nodes.specs.Block.{quiet, fill}
-use Rattle.nodes.proofs.Iterated.{iter-none, iter-then, iter-end}
+use Rattle.nodes.proofs.Filled.{fill-none, fill-then, fill-end}
 use Rattle.nodes.proofs.sum.clear.Statement.{statement}
 use Rattle.nodes.proofs.sum.clear.Tie as tie
 
@@ -14,31 +14,17 @@ Inv-loop x₀ size i₀ x i = (i ≤ size) × (x ≡ fill quiet i x₀)
 abbrev μ-loop : tie.MeasureT-loop
 μ-loop x₀ size i₀ x i = size - i
 
-loop-holds : tie.Need-loop-holds Inv-loop μ-loop
-unfolding fill
-loop-holds c = (omega arith, iter-none _ _)
-
-mul-x : tie.Need-mul-x Inv-loop μ-loop
-mul-x c = omega arith
-
-element-write-x : tie.Need-element-write-x Inv-loop μ-loop
-element-write-x c = omega arith
-
-add-i : tie.Need-add-i Inv-loop μ-loop
-add-i c = omega arith
-
-loop-less : tie.Need-loop-less Inv-loop μ-loop
-loop-less c = omega arith
-
-loop-again : tie.Need-loop-again Inv-loop μ-loop
-unfolding fill ofBits
-loop-again c = (omega arith, iter-then _ _ _ _ _ (c .before .loop .inv .1) refl)
-
-returns : tie.Need-returns Inv-loop μ-loop
-unfolding fill
-returns c = iter-end _ _ _ _ _ (c .before .loop .inv .1) (omega arith)
-
 pub clear-spec : {M : Type 1} → statement M
+unfolding ofBits
 clear-spec =
     tie.close
-    (tie.spec Inv-loop μ-loop loop-holds mul-x element-write-x add-i loop-less loop-again returns)
+    (tie.spec
+    Inv-loop
+    μ-loop
+    (λ c. (omega arith, fill-none _ _))
+    (λ c. omega arith)
+    (λ c. omega arith)
+    (λ c. omega arith)
+    (λ c. omega arith)
+    (λ c. (omega arith, fill-then _ _ _ _ _ (c .before .loop .inv .1) refl))
+    (λ c. fill-end _ _ _ _ _ (c .before .loop .inv .1) (omega arith)))
