@@ -12,36 +12,46 @@ use borrow.Author.Tests.{ltb-true, ltb-false}
 use lib.ListN.{length, set, length-set}
 use lib.Seq.{getD-set-same, getD-set-other, ext-getD}
 use lib.Ieee.{Float, nan, binary32, toBits}
+use Rattle.leaves.specs.Words.{words}
 use Rattle.leaves.specs.Floats.{floatAt}
 use Rattle.nodes.specs.Iter.{iter}
 use Rattle.nodes.specs.Block.{sample, fetched, fetchedIf, fill, stored}
 use Rattle.nodes.proofs.Iterated.{iter-then}
 
--- ---- how a loop that stores or fills starts, goes on and ends
+-- ---- loops that store or fill
 
-module _ (y : ℕ → Float) (at : ℕ) (ws : List ℕ) where
-  pub stored-none : ws ≡ stored y at 0 ws
+-- after i of n turns of a loop over a cell, y is stored from value `at` on
+abbrev pub Storing : (ℕ → Float) → ℕ → ℕ → List ℕ → ℕ → List ℕ → Type 0
+Storing y at n cell₀ i cell = (i ≤ n) × (length cell ≡ length cell₀) × (words cell ≡ stored y at i (words cell₀))
+
+module _ (y : ℕ → Float) (at n : ℕ) (cell₀ : List ℕ) where
+  pub storing-none : Storing y at n cell₀ 0 cell₀
   unfolding stored iter
-  stored-none = refl
+  storing-none = (omega arith, refl, refl)
 
-  pub stored-then : (i : ℕ) (vs vs′ : List ℕ) → vs ≡ stored y at i ws → vs′ ≡ set vs (at + i) (toBits binary32 (y i)) → vs′ ≡ stored y at (i + 1) ws
+  pub storing-then : (i : ℕ) (cell cell′ : List ℕ) → Storing y at n cell₀ i cell → i < n → length cell′ ≡ length cell
+      → words cell′ ≡ set (words cell) (at + i) (toBits binary32 (y i)) → Storing y at n cell₀ (i + 1) cell′
   unfolding stored
-  stored-then i vs vs′ e f = iter-then _ i ws vs vs′ e f
+  storing-then i cell cell′ r below long e = (omega arith, long ∙ r .1, iter-then _ i _ _ _ (r .2) e)
 
-  pub stored-end : (i n : ℕ) (vs : List ℕ) → vs ≡ stored y at i ws → i ≡ n → vs ≡ stored y at n ws
-  stored-end i n vs e f = e ∙ ap (λ (j : ℕ). stored y at j ws) f
+  pub storing-end : (i : ℕ) (cell : List ℕ) → Storing y at n cell₀ i cell → n ≤ i → words cell ≡ stored y at n (words cell₀)
+  storing-end i cell r all = let done : i ≡ n = omega arith in r .2 ∙ ap (λ (j : ℕ). stored y at j (words cell₀)) done
 
-module _ (f : ℕ → Float) (x : List Float) where
-  pub fill-none : x ≡ fill f 0 x
+-- after i of n turns of a loop over an array, its first i places are given by f
+abbrev pub Filling : (ℕ → Float) → ℕ → List Float → ℕ → List Float → Type 0
+Filling f n x₀ i x = (i ≤ n) × (x ≡ fill f i x₀)
+
+module _ (f : ℕ → Float) (n : ℕ) (x₀ : List Float) where
+  pub filling-none : Filling f n x₀ 0 x₀
   unfolding fill iter
-  fill-none = refl
+  filling-none = (omega arith, refl)
 
-  pub fill-then : (i : ℕ) (v : Float) (y : List Float) → y ≡ fill f i x → v ≡ f i → set y i v ≡ fill f (i + 1) x
+  pub filling-then : (i : ℕ) (v : Float) (x : List Float) → Filling f n x₀ i x → i < n → v ≡ f i → Filling f n x₀ (i + 1) (set x i v)
   unfolding fill
-  fill-then i v y e h = iter-then _ i x y (set y i v) e (ap (set y i) h)
+  filling-then i v x r below e = (omega arith, iter-then _ i _ _ _ (r .1) (ap (set x i) e))
 
-  pub fill-end : (i n : ℕ) (y : List Float) → y ≡ fill f i x → i ≡ n → y ≡ fill f n x
-  fill-end i n y e h = e ∙ ap (λ (j : ℕ). fill f j x) h
+  pub filling-end : (i : ℕ) (x : List Float) → Filling f n x₀ i x → n ≤ i → x ≡ fill f n x₀
+  filling-end i x r all = let done : i ≡ n = omega arith in r .1 ∙ ap (λ (j : ℕ). fill f j x₀) done
 
 -- ---- what a filled array holds
 

@@ -1,3 +1,5 @@
+pub mod Answers
+pub mod Arms
 pub mod Iterated
 pub mod Filled
 pub mod Cells

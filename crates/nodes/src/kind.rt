@@ -97,16 +97,9 @@ pub fn line_of(k: NodeKind) -> usize
     ensures { λ r. ⌜ (r ≡ lineOf k) × (r < 8589934592) ⌝ }
 {
     match k {
-        NodeKind::Pass => 0,
-        NodeKind::Sum => 0,
-        NodeKind::Destination => 0,
-        NodeKind::Balance => 0,
-        NodeKind::Mul(_) => 0,
-        NodeKind::Add(_) => 0,
         NodeKind::Delay(n) => n as usize,
         NodeKind::AllPass(n, _) => n as usize * 2,
-        NodeKind::OnePole(_) => 0,
-        NodeKind::Sine(_) => 0,
+        _ => 0,
     }
 }
 

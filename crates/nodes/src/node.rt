@@ -71,14 +71,7 @@ fn bring(
             total(memory, list, lefts, size, x);
             total(memory, list, rights, size, m);
         }
-        NodeKind::Pass => operands(memory, size, list, second, lefts, x, m),
-        NodeKind::Balance => operands(memory, size, list, second, lefts, x, m),
-        NodeKind::Mul(_f) => operands(memory, size, list, second, lefts, x, m),
-        NodeKind::Add(_f) => operands(memory, size, list, second, lefts, x, m),
-        NodeKind::Delay(_n) => operands(memory, size, list, second, lefts, x, m),
-        NodeKind::AllPass(_n, _f) => operands(memory, size, list, second, lefts, x, m),
-        NodeKind::OnePole(_f) => operands(memory, size, list, second, lefts, x, m),
-        NodeKind::Sine(_f) => operands(memory, size, list, second, lefts, x, m),
+        _ => operands(memory, size, list, second, lefts, x, m),
     }
 }
 

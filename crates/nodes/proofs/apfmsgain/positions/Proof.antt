@@ -1,14 +1,14 @@
 -- `nodes::apfmsgain::positions` meets its contract: after i turns the first i positions are filled in. Assumes nothing.
-use mathlib.Core.Path.{_≡_}
-use Prim.Native.Nat.{_≤_, _-_}
-use native.Mathlib.Omega.{arith}
-use Rattle.nodes.specs.Block.{positioned, fill}
-use Rattle.nodes.proofs.Filled.{fill-none, fill-then, fill-end}
+use Prim.Native.Nat.{_-_}
+use borrow.Author.Needs.{needs}
+use Rattle.nodes.specs.Block.{positioned}
+use Rattle.nodes.proofs.Answers.{next8}
+use Rattle.nodes.proofs.Filled.{Filling, filling-none, filling-then, filling-end}
 use Rattle.nodes.proofs.apfmsgain.positions.Statement.{statement}
 use Rattle.nodes.proofs.apfmsgain.positions.Tie as tie
 
 abbrev Inv-loop : tie.InvT-loop
-Inv-loop m n size p₀ i₀ p i = (i ≤ size) × (p ≡ fill (positioned m n) i p₀)
+Inv-loop m n size p₀ i₀ p i = Filling (positioned m n) size p₀ i p
 
 abbrev μ-loop : tie.MeasureT-loop
 μ-loop m n size p₀ i₀ p i = size - i
@@ -16,17 +16,6 @@ abbrev μ-loop : tie.MeasureT-loop
 pub positions-spec : {M : Type 1} → statement M
 positions-spec =
     tie.close
-    (tie.spec
-    Inv-loop
-    μ-loop
-    (λ c. (omega arith, fill-none _ _))
-    (λ c. omega arith)
-    (λ c. omega arith)
-    (λ c. omega arith)
-    (λ c κs. omega arith)
-    (λ c. omega arith)
-    (λ c. omega arith)
-    (λ c. omega arith)
-    (λ c. omega arith)
-    (λ c. (omega arith, fill-then _ _ _ _ _ (c .before .before .before .loop .inv .1) (c .position .ensures)))
-    (λ c. fill-end _ _ _ _ _ (c .before .loop .inv .1) (omega arith)))
+    (next8 (tie.spec Inv-loop μ-loop (λ c. filling-none _ _ _)) (search needs)
+    (λ c. let t = c .before .before in filling-then _ _ _ _ _ _ (t .before .loop .inv) (t .loop-test .taken) (c .position .ensures))
+    (λ c. filling-end _ _ _ _ _ (c .before .loop .inv) (c .loop-test .left)))

@@ -1,15 +1,15 @@
 -- `nodes::block::fetch` meets its contract: after i turns the first i samples are filled in. Assumes nothing.
-use mathlib.Core.Path.{_≡_}
-use Prim.Native.Nat.{_≤_, _-_}
-use native.Mathlib.Omega.{arith}
+use Prim.Native.Nat.{_-_}
+use borrow.Author.Needs.{needs}
 use Rattle.leaves.specs.Words.{words}
-use Rattle.nodes.specs.Block.{fetched, fill}
-use Rattle.nodes.proofs.Filled.{fill-none, fill-then, fill-end}
+use Rattle.nodes.specs.Block.{fetched}
+use Rattle.nodes.proofs.Answers.{next6}
+use Rattle.nodes.proofs.Filled.{Filling, filling-none, filling-then, filling-end}
 use Rattle.nodes.proofs.block.fetch.Statement.{statement}
 use Rattle.nodes.proofs.block.fetch.Tie as tie
 
 abbrev Inv-loop : tie.InvT-loop
-Inv-loop memory at size x₀ i₀ x i = (i ≤ size) × (x ≡ fill (fetched (words memory) at) i x₀)
+Inv-loop memory at size x₀ i₀ x i = Filling (fetched (words memory) at) size x₀ i x
 
 abbrev μ-loop : tie.MeasureT-loop
 μ-loop memory at size x₀ i₀ x i = size - i
@@ -17,15 +17,6 @@ abbrev μ-loop : tie.MeasureT-loop
 pub fetch-spec : {M : Type 1} → statement M
 fetch-spec =
     tie.close
-    (tie.spec
-    Inv-loop
-    μ-loop
-    (λ c. (omega arith, fill-none _ _))
-    (λ c. omega arith)
-    (λ c κs. omega arith)
-    (λ c. omega arith)
-    (λ c. omega arith)
-    (λ c. omega arith)
-    (λ c. omega arith)
-    (λ c. (omega arith, fill-then _ _ _ _ _ (c .before .before .loop .inv .1) (c .load .ensures)))
-    (λ c. fill-end _ _ _ _ _ (c .before .loop .inv .1) (omega arith)))
+    (next6 (tie.spec Inv-loop μ-loop (λ c. filling-none _ _ _)) (search needs)
+    (λ c. let t = c .before in filling-then _ _ _ _ _ _ (t .before .loop .inv) (t .loop-test .taken) (c .load .ensures))
+    (λ c. filling-end _ _ _ _ _ (c .before .loop .inv) (c .loop-test .left)))

@@ -1,17 +1,15 @@
 -- `nodes::operator::add::add_sources` meets its contract: after i turns the first i sums are stored. Assumes nothing.
-use mathlib.Core.Path.{_≡_, refl}
-use Prim.Native.Nat.{_≤_, _-_}
-use native.Mathlib.Omega.{arith}
-use lib.ListN.{length}
+use Prim.Native.Nat.{_-_}
+use borrow.Author.Needs.{needs}
 use lib.Ieee.{binary32, add}
-use Rattle.leaves.specs.Words.{words}
-use Rattle.nodes.specs.Block.{stored, opSources}
-use Rattle.nodes.proofs.Filled.{stored-none, stored-then, stored-end}
+use Rattle.nodes.specs.Block.{opSources}
+use Rattle.nodes.proofs.Answers.{next8}
+use Rattle.nodes.proofs.Filled.{Storing, storing-none, storing-then, storing-end}
 use Rattle.nodes.proofs.operator.add.add_sources.Statement.{statement}
 use Rattle.nodes.proofs.operator.add.add_sources.Tie as tie
 
 abbrev Inv-loop : tie.InvT-loop
-Inv-loop cell₀ size x m i₀ cell i = (i ≤ size) × (length cell ≡ length cell₀) × (words cell ≡ stored (opSources (add binary32) x m) 3 i (words cell₀))
+Inv-loop cell₀ size x m i₀ cell i = Storing (opSources (add binary32) x m) 3 size cell₀ i cell
 
 abbrev μ-loop : tie.MeasureT-loop
 μ-loop cell₀ size x m i₀ cell i = size - i
@@ -19,18 +17,7 @@ abbrev μ-loop : tie.MeasureT-loop
 pub add-sources-spec : {M : Type 1} → statement M
 add-sources-spec =
     tie.close
-    (tie.spec
-    Inv-loop
-    μ-loop
-    (λ c. (omega arith, refl, stored-none _ _ _))
-    (λ c. omega arith)
-    (λ c. omega arith)
-    (λ c. omega arith)
-    (λ c. omega arith)
-    (λ c. omega arith)
-    (λ c κs. omega arith)
-    (λ c. omega arith)
-    (λ c. omega arith)
-    (λ c. (omega arith, omega arith, stored-then _ _ _ _ _ _ (c .before .before .before .before .before .before .before .loop .inv .2) (c .before .before .store .ensures)))
-    (λ c. omega arith)
-    (λ c. stored-end _ _ _ _ _ _ (c .before .loop .inv .2) (omega arith)))
+    (next8 (tie.spec Inv-loop μ-loop (λ c. storing-none _ _ _ _)) (search needs)
+    (λ c. let t = c .before .before .before .before .before .before in storing-then _ _ _ _ _ _ _ (t .before .loop .inv) (t .loop-test .taken) (c .before .before .store .kept .0) (c .before .before .store .ensures))
+    (search needs)
+    (λ c. storing-end _ _ _ _ _ _ (c .before .loop .inv) (c .loop-test .left)))
