@@ -8,6 +8,7 @@ use Rattle.leaves.specs.Words.{words, length-words}
 use Rattle.nodes.specs.Block.{alone}
 use Rattle.nodes.specs.declared.kind.NodeKind.the-variants.{AllPass}
 use Rattle.nodes.proofs.Rings.{all-pass-ring, stretch-some, wrap-below, Reached, reached-none, reached-number, reached-then, reached-end}
+use Rattle.nodes.proofs.Answers.{next2, next3}
 use Rattle.nodes.proofs.apfmsgain.run.Statement.{statement}
 use Rattle.nodes.proofs.apfmsgain.run.Tie as tie
 
@@ -19,12 +20,6 @@ Inv-loop cell₀ n size g x place₀ done₀ cell place done =
 abbrev μ-loop : tie.MeasureT-loop
 μ-loop cell₀ n size g x place₀ done₀ cell place done = size - done
 
-word-at-requires : tie.Need-word-at-requires Inv-loop μ-loop
-word-at-requires c κs = omega arith
-
-cast-place : tie.Need-cast-place Inv-loop μ-loop
-cast-place c = omega arith
-
 loop-holds : tie.Need-loop-holds Inv-loop μ-loop
 loop-holds c =
     let a = c .before .before .before .args in (
@@ -35,12 +30,6 @@ loop-holds c =
           reached-none (AllPass (a .n) f) (a .n) (all-pass-ring (a .n) f) (a .size) (alone (a .x .now)) (words (a .cell .now))
           _ (c .word-at .ensures) (omega (arith, length-words (a .cell .now))),
     )
-
-sub-stretch : tie.Need-sub-stretch Inv-loop μ-loop
-sub-stretch c = omega arith
-
-stretch-requires : tie.Need-stretch-requires Inv-loop μ-loop
-stretch-requires c κs = omega arith
 
 filter-requires : tie.Need-filter-requires Inv-loop μ-loop
 filter-requires c κs =
@@ -56,15 +45,6 @@ filter-requires c κs =
           (sym (reached-number (AllPass (a .n) nan) (a .n) (all-pass-ring (a .n) nan) (a .size) (alone (a .x .now)) (words (a .cell .now))
           (l .done) (l .place) (words (l .cell)) (l .inv .3 nan))),
     )
-
-add-done : tie.Need-add-done Inv-loop μ-loop
-add-done c = omega arith
-
-add-wrap : tie.Need-add-wrap Inv-loop μ-loop
-add-wrap c = omega arith
-
-wrap-requires : tie.Need-wrap-requires Inv-loop μ-loop
-wrap-requires c κs = omega arith
 
 loop-less : tie.Need-loop-less Inv-loop μ-loop
 loop-less c =
@@ -85,15 +65,6 @@ loop-again c =
           (l .done) (l .place) (words (l .cell)) (l .inv .3 f) _ _ _ (c .before .before .before .filter .ensures f) (c .wrap .ensures) (omega arith) (omega arith),
     )
 
-cast-put-word : tie.Need-cast-put-word Inv-loop μ-loop
-cast-put-word c = omega arith
-
-put-word-requires : tie.Need-put-word-requires Inv-loop μ-loop
-put-word-requires c κs = omega arith
-
-same-length : tie.Need-same-length Inv-loop μ-loop
-same-length c = omega arith
-
 returns : tie.Need-returns Inv-loop μ-loop
 returns c f =
     let a = c .before .before .before .before .before .before .before .before .before .args in
@@ -102,23 +73,4 @@ returns c f =
     (l .done) (l .place) (words (l .cell)) (l .inv .3 f) _ (c .before .before .put-word .ensures) (omega arith)
 
 pub run-spec : {M : Type 1} → statement M
-run-spec =
-    tie.close
-    (tie.spec
-    Inv-loop
-    μ-loop
-    word-at-requires
-    cast-place
-    loop-holds
-    sub-stretch
-    stretch-requires
-    filter-requires
-    add-done
-    add-wrap
-    wrap-requires
-    loop-less
-    loop-again
-    cast-put-word
-    put-word-requires
-    same-length
-    returns)
+run-spec = tie.close (next3 (next3 (next2 (next2 (tie.spec Inv-loop μ-loop) (omega arith) loop-holds) (omega arith) filter-requires) (omega arith) loop-less loop-again) (omega arith) returns)

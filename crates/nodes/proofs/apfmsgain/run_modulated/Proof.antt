@@ -11,6 +11,7 @@ use Rattle.nodes.specs.Block.{sample, positioned, pair}
 use Rattle.nodes.specs.declared.kind.NodeKind.the-variants.{AllPass}
 use Rattle.nodes.proofs.Filled.{fill-at}
 use Rattle.nodes.proofs.Rings.{all-pass-ring, wrap-below, Reached, reached-none, reached-number, reached-then, reached-end}
+use Rattle.nodes.proofs.Answers.{next3, next4}
 use Rattle.nodes.proofs.apfmsgain.run_modulated.Statement.{statement}
 use Rattle.nodes.proofs.apfmsgain.run_modulated.Tie as tie
 
@@ -22,15 +23,6 @@ Inv-loop cell₀ n size g x m p place₀ i₀ cell place i =
 
 abbrev μ-loop : tie.MeasureT-loop
 μ-loop cell₀ n size g x m p place₀ i₀ cell place i = size - i
-
-positions-requires : tie.Need-positions-requires Inv-loop μ-loop
-positions-requires c κs = omega arith
-
-word-at-requires : tie.Need-word-at-requires Inv-loop μ-loop
-word-at-requires c κs = omega arith
-
-cast-place : tie.Need-cast-place Inv-loop μ-loop
-cast-place c = omega arith
 
 loop-holds : tie.Need-loop-holds Inv-loop μ-loop
 loop-holds c =
@@ -60,18 +52,6 @@ modulate-requires c κs =
       subst (Upto (a .n)) (sym (l .inv .4 (l .i) (omega arith))) (position-upto (sample (a .m .now) (l .i)) (a .n) (omega arith)),
     )
 
-add-wrap : tie.Need-add-wrap Inv-loop μ-loop
-add-wrap c = omega arith
-
-wrap-requires : tie.Need-wrap-requires Inv-loop μ-loop
-wrap-requires c κs = omega arith
-
-add-i : tie.Need-add-i Inv-loop μ-loop
-add-i c = omega arith
-
-loop-less : tie.Need-loop-less Inv-loop μ-loop
-loop-less c = omega arith
-
 loop-again : tie.Need-loop-again Inv-loop μ-loop
 loop-again c =
     let a = c .before .before .before .before .before .before .before .before .before .before .before .before .before .args in
@@ -85,15 +65,6 @@ loop-again c =
       l .inv .4,
     )
 
-cast-put-word : tie.Need-cast-put-word Inv-loop μ-loop
-cast-put-word c = omega arith
-
-put-word-requires : tie.Need-put-word-requires Inv-loop μ-loop
-put-word-requires c κs = omega arith
-
-same-length : tie.Need-same-length Inv-loop μ-loop
-same-length c = omega arith
-
 returns : tie.Need-returns Inv-loop μ-loop
 returns c f =
     let a = c .before .before .before .before .before .before .before .before .before .before .before .args in
@@ -102,22 +73,4 @@ returns c f =
     (l .i) (l .place) (words (l .cell)) (l .inv .3 f) _ (c .before .before .put-word .ensures) (omega arith)
 
 pub run-modulated-spec : {M : Type 1} → statement M
-run-modulated-spec =
-    tie.close
-    (tie.spec
-    Inv-loop
-    μ-loop
-    positions-requires
-    word-at-requires
-    cast-place
-    loop-holds
-    modulate-requires
-    add-wrap
-    wrap-requires
-    add-i
-    loop-less
-    loop-again
-    cast-put-word
-    put-word-requires
-    same-length
-    returns)
+run-modulated-spec = tie.close (next3 (next4 (next3 (tie.spec Inv-loop μ-loop) (omega arith) loop-holds modulate-requires) (omega arith) loop-again) (omega arith) returns)

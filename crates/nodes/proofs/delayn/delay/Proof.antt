@@ -7,6 +7,7 @@ use Rattle.leaves.specs.Words.{words, length-words}
 use Rattle.nodes.specs.Block.{alone}
 use Rattle.nodes.specs.declared.kind.NodeKind.the-variants.{Delay}
 use Rattle.nodes.proofs.Rings.{delay-ring, stretch-some, wrap-below, Reached, reached-none, reached-then, reached-end}
+use Rattle.nodes.proofs.Answers.{next2, next3, next6}
 use Rattle.nodes.proofs.delayn.delay.Statement.{statement}
 use Rattle.nodes.proofs.delayn.delay.Tie as tie
 
@@ -17,12 +18,6 @@ Inv-loop cell₀ n size x place₀ done₀ cell place done =
 abbrev μ-loop : tie.MeasureT-loop
 μ-loop cell₀ n size x place₀ done₀ cell place done = size - done
 
-word-at-requires : tie.Need-word-at-requires Inv-loop μ-loop
-word-at-requires c κs = omega arith
-
-cast-place : tie.Need-cast-place Inv-loop μ-loop
-cast-place c = omega arith
-
 loop-holds : tie.Need-loop-holds Inv-loop μ-loop
 loop-holds c =
     let a = c .before .before .before .args in (
@@ -32,24 +27,6 @@ loop-holds c =
       reached-none (Delay (a .n)) (a .n) (delay-ring (a .n)) (a .size) (alone (a .x .now)) (words (a .cell .now)) _ (c .word-at .ensures)
           (omega (arith, length-words (a .cell .now))),
     )
-
-sub-stretch : tie.Need-sub-stretch Inv-loop μ-loop
-sub-stretch c = omega arith
-
-stretch-requires : tie.Need-stretch-requires Inv-loop μ-loop
-stretch-requires c κs = omega arith
-
-push-requires : tie.Need-push-requires Inv-loop μ-loop
-push-requires c κs = omega arith
-
-add-done : tie.Need-add-done Inv-loop μ-loop
-add-done c = omega arith
-
-add-wrap : tie.Need-add-wrap Inv-loop μ-loop
-add-wrap c = omega arith
-
-wrap-requires : tie.Need-wrap-requires Inv-loop μ-loop
-wrap-requires c κs = omega arith
 
 loop-less : tie.Need-loop-less Inv-loop μ-loop
 loop-less c =
@@ -70,15 +47,6 @@ loop-again c =
           _ _ _ pushed (c .wrap .ensures) (omega arith) (omega arith),
     )
 
-cast-put-word : tie.Need-cast-put-word Inv-loop μ-loop
-cast-put-word c = omega arith
-
-put-word-requires : tie.Need-put-word-requires Inv-loop μ-loop
-put-word-requires c κs = omega arith
-
-same-length : tie.Need-same-length Inv-loop μ-loop
-same-length c = omega arith
-
 returns : tie.Need-returns Inv-loop μ-loop
 returns c =
     let a = c .before .before .before .before .before .before .before .before .before .args in
@@ -87,23 +55,4 @@ returns c =
     _ (c .before .before .put-word .ensures) (omega arith)
 
 pub delay-spec : {M : Type 1} → statement M
-delay-spec =
-    tie.close
-    (tie.spec
-    Inv-loop
-    μ-loop
-    word-at-requires
-    cast-place
-    loop-holds
-    sub-stretch
-    stretch-requires
-    push-requires
-    add-done
-    add-wrap
-    wrap-requires
-    loop-less
-    loop-again
-    cast-put-word
-    put-word-requires
-    same-length
-    returns)
+delay-spec = tie.close (next3 (next6 (next2 (tie.spec Inv-loop μ-loop) (omega arith) loop-holds) (omega arith) loop-less loop-again) (omega arith) returns)

@@ -3,83 +3,9 @@ use borrow.Author.Needs.{needs}
 use borrow.Author.Tests.{ne-eqb}
 use mathlib.Core.Path.{_∙_}
 use Rattle.nodes.specs.Kind.{ruleOf}
+use Rattle.nodes.proofs.Answers.{next5, next10}
 use Rattle.nodes.proofs.kind.rule_of.Statement.{statement}
 use Rattle.nodes.proofs.kind.rule_of.Tie as tie
-
-plain-fields-requires : tie.Need-plain-fields-requires
-plain-fields-requires c κs = search needs
-
-keep-requires : tie.Need-keep-requires
-keep-requires c κs = search needs
-
-plain-fields-requires-2 : tie.Need-plain-fields-requires-2
-plain-fields-requires-2 c κs = search needs
-
-keep-requires-2 : tie.Need-keep-requires-2
-keep-requires-2 c κs = search needs
-
-plain-fields-requires-3 : tie.Need-plain-fields-requires-3
-plain-fields-requires-3 c κs = search needs
-
-keep-requires-3 : tie.Need-keep-requires-3
-keep-requires-3 c κs = search needs
-
-plain-fields-requires-4 : tie.Need-plain-fields-requires-4
-plain-fields-requires-4 c κs = search needs
-
-keep-requires-4 : tie.Need-keep-requires-4
-keep-requires-4 c κs = search needs
-
-float-fields-requires : tie.Need-float-fields-requires
-float-fields-requires c κs = search needs
-
-of-bits-requires : tie.Need-of-bits-requires
-of-bits-requires c κs = search needs
-
-keep-requires-5 : tie.Need-keep-requires-5
-keep-requires-5 c κs = search needs
-
-float-fields-requires-2 : tie.Need-float-fields-requires-2
-float-fields-requires-2 c κs = search needs
-
-of-bits-requires-2 : tie.Need-of-bits-requires-2
-of-bits-requires-2 c κs = search needs
-
-keep-requires-6 : tie.Need-keep-requires-6
-keep-requires-6 c κs = search needs
-
-delay-fields-requires : tie.Need-delay-fields-requires
-delay-fields-requires c κs = search needs
-
-keep-requires-7 : tie.Need-keep-requires-7
-keep-requires-7 c κs = search needs
-
-all-pass-fields-requires : tie.Need-all-pass-fields-requires
-all-pass-fields-requires c κs = search needs
-
-of-bits-requires-3 : tie.Need-of-bits-requires-3
-of-bits-requires-3 c κs = search needs
-
-keep-requires-8 : tie.Need-keep-requires-8
-keep-requires-8 c κs = search needs
-
-float-fields-requires-3 : tie.Need-float-fields-requires-3
-float-fields-requires-3 c κs = search needs
-
-of-bits-requires-4 : tie.Need-of-bits-requires-4
-of-bits-requires-4 c κs = search needs
-
-keep-requires-9 : tie.Need-keep-requires-9
-keep-requires-9 c κs = search needs
-
-sine-fields-requires : tie.Need-sine-fields-requires
-sine-fields-requires c κs = search needs
-
-of-bits-requires-5 : tie.Need-of-bits-requires-5
-of-bits-requires-5 c κs = search needs
-
-keep-requires-10 : tie.Need-keep-requires-10
-keep-requires-10 c κs = search needs
 
 returns : tie.Need-returns
 unfolding ruleOf
@@ -138,42 +64,4 @@ returns-11 c =
     )
 
 pub rule-of-spec : {M : Type 1} → statement M
-rule-of-spec =
-    tie.close
-    (tie.spec
-    plain-fields-requires
-    keep-requires
-    plain-fields-requires-2
-    keep-requires-2
-    plain-fields-requires-3
-    keep-requires-3
-    plain-fields-requires-4
-    keep-requires-4
-    float-fields-requires
-    of-bits-requires
-    keep-requires-5
-    float-fields-requires-2
-    of-bits-requires-2
-    keep-requires-6
-    delay-fields-requires
-    keep-requires-7
-    all-pass-fields-requires
-    of-bits-requires-3
-    keep-requires-8
-    float-fields-requires-3
-    of-bits-requires-4
-    keep-requires-9
-    sine-fields-requires
-    of-bits-requires-5
-    keep-requires-10
-    returns
-    returns-2
-    returns-3
-    returns-4
-    returns-5
-    returns-6
-    returns-7
-    returns-8
-    returns-9
-    returns-10
-    returns-11)
+rule-of-spec = tie.close (next5 (next10 (next10 tie.spec (search needs)) (search needs)) (search needs) returns returns-2 returns-3 returns-4 returns-5 returns-6 returns-7 returns-8 returns-9 returns-10 returns-11)

@@ -11,6 +11,7 @@ use Rattle.nodes.specs.declared.kind.NodeKind.{NodeKind}
 use Rattle.nodes.proofs.Alike.{mul-reads, add-reads, delay-reads, all-pass-reads, one-pole-reads, sine-reads, given-run, alone-run, nothing-run}
 use Rattle.nodes.proofs.Supplied.{Runs, at-least, at-most, delay-place, all-pass-place, sine-ranges, sum-runs, destination-runs, balance-runs, pass-runs, pass-kept}
 use borrow.Author.Needs.{needs}
+use Rattle.nodes.proofs.Answers.{next2}
 use Rattle.nodes.proofs.node.run_cell.Statement.{statement}
 use Rattle.nodes.proofs.node.run_cell.Tie as tie
 
@@ -24,86 +25,41 @@ runs s vs = Runs (now (s .args .cell)) (s .args .size) (s .args .count) (now (s 
 arm : (s : tie.Start) {k : NodeKind} {vs : List ℕ} → s .args .kind ≡ k → runs s vs k → runs s vs (s .args .kind)
 arm s {k} {vs} e r = subst (runs s vs) (sym e) r
 
-enum-told : tie.Need-enum-told
-enum-told c = search needs
-
 put-requires : tie.Need-put-requires
 put-requires c κs = let r = ready (c .before .before .before .before .before) (c .before .before .enum-told .given .1) in omega arith
-
-enum-told-2 : tie.Need-enum-told-2
-enum-told-2 c = search needs
 
 put-requires-2 : tie.Need-put-requires-2
 put-requires-2 c κs = let r = ready (c .before .before .before .before) (c .before .enum-told2 .given .1) in omega arith
 
-enum-told-3 : tie.Need-enum-told-3
-enum-told-3 c = search needs
-
 put-requires-3 : tie.Need-put-requires-3
 put-requires-3 c κs = let r = ready (c .before .before .before .before) (c .before .enum-told3 .given .1) in omega arith
-
-add-put : tie.Need-add-put
-add-put c = search needs
 
 put-requires-4 : tie.Need-put-requires-4
 put-requires-4 c κs = let r = ready (c .before .before .before .before .before .before .before .before) (c .before .before .before .before .before .enum-told3 .given .1) in omega arith
 
-enum-told-4 : tie.Need-enum-told-4
-enum-told-4 c = search needs
-
 put-requires-5 : tie.Need-put-requires-5
 put-requires-5 c κs = let r = ready (c .before .before .before .before) (c .before .enum-told4 .given .1) in omega arith
-
-add-put-2 : tie.Need-add-put-2
-add-put-2 c = search needs
 
 put-requires-6 : tie.Need-put-requires-6
 put-requires-6 c κs = let r = ready (c .before .before .before .before .before .before .before .before) (c .before .before .before .before .before .enum-told4 .given .1) in omega arith
 
-enum-known-kind : tie.Need-enum-known-kind
-enum-known-kind c = search needs
-
 mul-requires : tie.Need-mul-requires
 mul-requires c κs = let r = ready (c .before .before .before .before .before) (c .before .before .kind .given .1) in omega arith
-
-enum-known-kind-2 : tie.Need-enum-known-kind-2
-enum-known-kind-2 c = search needs
 
 add-requires : tie.Need-add-requires
 add-requires c κs = let r = ready (c .before .before .before .before .before) (c .before .before .kind2 .given .1) in omega arith
 
-enum-known-kind-3 : tie.Need-enum-known-kind-3
-enum-known-kind-3 c = search needs
-
-cast-delay : tie.Need-cast-delay
-cast-delay c = search needs
-
 delay-requires : tie.Need-delay-requires
 delay-requires c κs = let r = ready (c .before .before .before .before .before) (c .before .before .kind3 .given .1) in omega (arith, delay-place r)
-
-enum-known-kind-4 : tie.Need-enum-known-kind-4
-enum-known-kind-4 c = search needs
-
-cast-all-pass : tie.Need-cast-all-pass
-cast-all-pass c = search needs
 
 all-pass-requires : tie.Need-all-pass-requires
 all-pass-requires c κs = let r = ready (c .before .before .before .before .before) (c .before .before .kind4 .given .1) in omega (arith, all-pass-place r)
 
-enum-known-kind-5 : tie.Need-enum-known-kind-5
-enum-known-kind-5 c = search needs
-
 one-pole-requires : tie.Need-one-pole-requires
 one-pole-requires c κs = let r = ready (c .before .before .before .before .before) (c .before .before .kind5 .given .1) in omega arith
 
-enum-known-kind-6 : tie.Need-enum-known-kind-6
-enum-known-kind-6 c = search needs
-
 sin-osc-requires : tie.Need-sin-osc-requires
 sin-osc-requires c κs = let r = ready (c .before .before .before .before .before) (c .before .before .kind6 .given .1) in (omega arith, sine-ranges r)
-
-same-length : tie.Need-same-length
-same-length c = search needs
 
 returns : tie.Need-returns
 returns c =
@@ -117,17 +73,11 @@ returns-2 c =
     let e = c .before .enum-told .given .1 in
     arm s e (pass-kept (ready s e) (omega (arith, c .if1 .left)) refl)
 
-same-length-2 : tie.Need-same-length-2
-same-length-2 c = search needs
-
 returns-3 : tie.Need-returns-3
 returns-3 c =
     let s = c .before .before .before .before .before .before .before in
     let e = c .before .before .before .before .enum-told2 .given .1 in
     arm s e (sum-runs (ready s e) (c .before .before .put2 .ensures))
-
-same-length-3 : tie.Need-same-length-3
-same-length-3 c = search needs
 
 returns-4 : tie.Need-returns-4
 returns-4 c =
@@ -135,17 +85,11 @@ returns-4 c =
     let e = c .before .before .before .before .before .before .before .before .enum-told3 .given .1 in
     arm s e (destination-runs (ready s e) (c .before .before .before .before .before .before .put3 .ensures) (c .before .before .put4 .ensures))
 
-same-length-4 : tie.Need-same-length-4
-same-length-4 c = search needs
-
 returns-5 : tie.Need-returns-5
 returns-5 c =
     let s = c .before .before .before .before .before .before .before .before .before .before .before in
     let e = c .before .before .before .before .before .before .before .before .enum-told4 .given .1 in
     arm s e (balance-runs (ready s e) (c .before .before .before .before .before .before .put5 .ensures) (c .before .before .put6 .ensures))
-
-same-length-5 : tie.Need-same-length-5
-same-length-5 c = search needs
 
 returns-6 : tie.Need-returns-6
 returns-6 c =
@@ -153,17 +97,11 @@ returns-6 c =
     let e = c .before .before .before .before .before .kind .given .1 in
     arm s e (λ bs supply. given-run (mul-reads _) (s .args .size) (s .args .count) (now (s .args .x)) (now (s .args .m)) bs (words (now (s .args .cell))) _ (supply .counted) (supply .gives) (at-least (ready s e)) (c .before .before .mul .ensures _))
 
-same-length-6 : tie.Need-same-length-6
-same-length-6 c = search needs
-
 returns-7 : tie.Need-returns-7
 returns-7 c =
     let s = c .before .before .before .before .before .before .before .before in
     let e = c .before .before .before .before .before .kind2 .given .1 in
     arm s e (λ bs supply. given-run (add-reads _) (s .args .size) (s .args .count) (now (s .args .x)) (now (s .args .m)) bs (words (now (s .args .cell))) _ (supply .counted) (supply .gives) (at-least (ready s e)) (c .before .before .add .ensures _))
-
-same-length-7 : tie.Need-same-length-7
-same-length-7 c = search needs
 
 returns-8 : tie.Need-returns-8
 returns-8 c =
@@ -171,26 +109,17 @@ returns-8 c =
     let e = c .before .before .before .before .before .kind3 .given .1 in
     arm s e (λ bs supply. alone-run (delay-reads _) (s .args .size) (s .args .count) (now (s .args .x)) (now (s .args .m)) bs (words (now (s .args .cell))) _ (supply .counted) (supply .gives) (omega (arith, at-least (ready s e), at-most (ready s e))) (c .before .before .delay .ensures))
 
-same-length-8 : tie.Need-same-length-8
-same-length-8 c = search needs
-
 returns-9 : tie.Need-returns-9
 returns-9 c =
     let s = c .before .before .before .before .before .before .before .before in
     let e = c .before .before .before .before .before .kind4 .given .1 in
     arm s e (λ bs supply. given-run (all-pass-reads _ _) (s .args .size) (s .args .count) (now (s .args .x)) (now (s .args .m)) bs (words (now (s .args .cell))) _ (supply .counted) (supply .gives) (at-least (ready s e)) (c .before .before .all-pass .ensures _))
 
-same-length-9 : tie.Need-same-length-9
-same-length-9 c = search needs
-
 returns-10 : tie.Need-returns-10
 returns-10 c =
     let s = c .before .before .before .before .before .before .before .before in
     let e = c .before .before .before .before .before .kind5 .given .1 in
     arm s e (λ bs supply. alone-run (one-pole-reads _) (s .args .size) (s .args .count) (now (s .args .x)) (now (s .args .m)) bs (words (now (s .args .cell))) _ (supply .counted) (supply .gives) (omega (arith, at-least (ready s e), at-most (ready s e))) (c .before .before .one-pole .ensures))
-
-same-length-10 : tie.Need-same-length-10
-same-length-10 c = search needs
 
 returns-11 : tie.Need-returns-11
 returns-11 c =
@@ -199,53 +128,4 @@ returns-11 c =
     arm s e (λ bs supply. nothing-run (sine-reads _) (s .args .size) (s .args .count) (now (s .args .x)) (now (s .args .m)) bs (words (now (s .args .cell))) _ (supply .counted) (supply .gives) (omega (arith, at-most (ready s e))) (c .before .before .sin-osc .ensures _))
 
 pub run-cell-spec : {M : Type 1} → statement M
-run-cell-spec =
-    tie.close
-    (tie.spec
-    enum-told
-    put-requires
-    enum-told-2
-    put-requires-2
-    enum-told-3
-    put-requires-3
-    add-put
-    put-requires-4
-    enum-told-4
-    put-requires-5
-    add-put-2
-    put-requires-6
-    enum-known-kind
-    mul-requires
-    enum-known-kind-2
-    add-requires
-    enum-known-kind-3
-    cast-delay
-    delay-requires
-    enum-known-kind-4
-    cast-all-pass
-    all-pass-requires
-    enum-known-kind-5
-    one-pole-requires
-    enum-known-kind-6
-    sin-osc-requires
-    same-length
-    returns
-    returns-2
-    same-length-2
-    returns-3
-    same-length-3
-    returns-4
-    same-length-4
-    returns-5
-    same-length-5
-    returns-6
-    same-length-6
-    returns-7
-    same-length-7
-    returns-8
-    same-length-8
-    returns-9
-    same-length-9
-    returns-10
-    same-length-10
-    returns-11)
+run-cell-spec = tie.close (next2 (next2 (tie.spec (λ c. search needs) put-requires (λ c. search needs) put-requires-2 (λ c. search needs) put-requires-3 (λ c. search needs) put-requires-4 (λ c. search needs) put-requires-5 (λ c. search needs) put-requires-6 (λ c. search needs) mul-requires (λ c. search needs) add-requires) (search needs) delay-requires) (search needs) all-pass-requires (λ c. search needs) one-pole-requires (λ c. search needs) sin-osc-requires (λ c. search needs) returns returns-2 (λ c. search needs) returns-3 (λ c. search needs) returns-4 (λ c. search needs) returns-5 (λ c. search needs) returns-6 (λ c. search needs) returns-7 (λ c. search needs) returns-8 (λ c. search needs) returns-9 (λ c. search needs) returns-10 (λ c. search needs) returns-11)
