@@ -95,11 +95,7 @@ fn run_cell(
             }
         }
         NodeKind::Sum => put(cell, 3, size, x),
-        NodeKind::Destination => {
-            put(cell, 3, size, x);
-            put(cell, 3 + size, size, m);
-        }
-        NodeKind::Balance => {
+        NodeKind::Destination | NodeKind::Balance => {
             put(cell, 3, size, x);
             put(cell, 3 + size, size, m);
         }
