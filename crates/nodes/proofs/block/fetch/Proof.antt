@@ -17,6 +17,6 @@ abbrev μ-loop : tie.MeasureT-loop
 pub fetch-spec : {M : Type 1} → statement M
 fetch-spec =
     tie.close
-    (next6 (tie.spec Inv-loop μ-loop (λ c. filling-none _ _ _)) (search needs)
-    (λ c. let t = c .before in filling-then _ _ _ _ _ _ (t .before .loop .inv) (t .loop-test .taken) (c .load .ensures))
-    (λ c. filling-end _ _ _ _ _ (c .before .loop .inv) (c .loop-test .left)))
+    (next6 (tie.spec Inv-loop μ-loop (λ c. filling-none)) (search needs)
+    (λ c. let t = c .before in filling-then (t .before .loop .inv) (t .loop-test .taken) (c .load .ensures))
+    (λ c. filling-end (c .before .loop .inv) (c .loop-test .left)))

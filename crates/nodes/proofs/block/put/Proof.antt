@@ -16,7 +16,7 @@ abbrev μ-loop : tie.MeasureT-loop
 pub put-spec : {M : Type 1} → statement M
 put-spec =
     tie.close
-    (next6 (tie.spec Inv-loop μ-loop (λ c. storing-none _ _ _ _)) (search needs)
-    (λ c. let t = c .before .before .before .before .before in storing-then _ _ _ _ _ _ _ (t .before .loop .inv) (t .loop-test .taken) (c .before .before .store .kept .0) (c .before .before .store .ensures))
+    (next6 (tie.spec Inv-loop μ-loop (λ c. storing-none)) (search needs)
+    (λ c. let t = c .before .before .before .before .before in storing-then (t .before .loop .inv) (t .loop-test .taken) (c .before .before .store .kept .0) (c .before .before .store .ensures))
     (search needs)
-    (λ c. storing-end _ _ _ _ _ _ (c .before .loop .inv) (c .loop-test .left)))
+    (λ c. storing-end (c .before .loop .inv) (c .loop-test .left)))

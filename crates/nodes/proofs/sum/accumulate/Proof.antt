@@ -22,12 +22,12 @@ loop-again : tie.Need-loop-again Inv-loop μ-loop
 loop-again c =
     let t = c .before .before in
     let l = t .before .loop in
-    let ahead = ap (λ (y : List Float). sample y (l .i)) (l .inv .1) ∙ fill-ahead _ _ _ _ (omega arith) in
-    filling-then _ _ _ _ _ _ (l .inv) (t .loop-test .taken) (λ j. add binary32 (ahead j) (c .load .ensures j))
+    let ahead = ap (λ (y : List Float). sample y (l .i)) (l .inv .filled) ∙ fill-ahead _ _ _ _ (omega arith) in
+    filling-then (l .inv) (t .loop-test .taken) (λ j. add binary32 (ahead j) (c .load .ensures j))
 
 pub accumulate-spec : {M : Type 1} → statement M
 accumulate-spec =
     tie.close
-    (next8 (tie.spec Inv-loop μ-loop (λ c. filling-none _ _ _)) (search needs)
+    (next8 (tie.spec Inv-loop μ-loop (λ c. filling-none)) (search needs)
     loop-again
-    (λ c. filling-end _ _ _ _ _ (c .before .loop .inv) (c .loop-test .left)))
+    (λ c. filling-end (c .before .loop .inv) (c .loop-test .left)))

@@ -19,6 +19,6 @@ pub clear-spec : {M : Type 1} → statement M
 unfolding ofBits
 clear-spec =
     tie.close
-    (next4 (tie.spec Inv-loop μ-loop (λ c. filling-none _ _ _)) (search needs)
-    (λ c. filling-then _ _ _ _ _ _ (c .before .loop .inv) (c .loop-test .taken) refl)
-    (λ c. filling-end _ _ _ _ _ (c .before .loop .inv) (c .loop-test .left)))
+    (next4 (tie.spec Inv-loop μ-loop (λ c. filling-none)) (search needs)
+    (λ c. filling-then (c .before .loop .inv) (c .loop-test .taken) refl)
+    (λ c. filling-end (c .before .loop .inv) (c .loop-test .left)))
