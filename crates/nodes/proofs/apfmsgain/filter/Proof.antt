@@ -77,4 +77,4 @@ returns c f =
     l .inv .2 f ∙ ap (λ (j : ℕ). stretchValues (AllPass (a .n) f) (a .size) (alone (a .x .now)) (a .place) (a .done) j (words (a .cell .now))) done
 
 pub filter-spec : {M : Type 1} → statement M
-filter-spec = tie.close (next3 (next10 (next10 (next2 (tie.spec Inv-loop μ-loop) (omega arith) loop-holds) (search needs)) (omega arith)) (omega arith) loop-again (λ c. omega arith) returns)
+filter-spec = tie.close (next3 (next10 (next10 (next2 (tie.spec Inv-loop μ-loop) (omega arith) loop-holds) (omega arith)) (omega arith)) (omega arith) loop-again (λ c. omega arith) returns)

@@ -20,4 +20,4 @@ returns-2 : tie.Need-returns-2
 returns-2 c = (past _ _ _ (omega arith) (omega arith) (omega arith), omega arith)
 
 pub wrapped-spec : {M : Type 1} → statement M
-wrapped-spec = tie.close (next4 tie.spec (search needs) returns returns-2)
+wrapped-spec = tie.close (next4 tie.spec (omega arith) returns returns-2)

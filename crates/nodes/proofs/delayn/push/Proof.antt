@@ -69,4 +69,4 @@ returns c n e =
     l .inv .2 n e ∙ ap (λ (j : ℕ). stretchValues (Delay n) (s .size) (alone (s .x .now)) (s .place) (s .done) j (words (s .cell .now))) done
 
 pub push-spec : {M : Type 1} → statement M
-push-spec = tie.close (next3 (next10 (next2 (tie.spec Inv-loop μ-loop) (omega arith) loop-holds) (search needs)) (omega arith) loop-again (λ c. omega arith) returns)
+push-spec = tie.close (next3 (next10 (next2 (tie.spec Inv-loop μ-loop) (omega arith) loop-holds) (omega arith)) (omega arith) loop-again (λ c. omega arith) returns)
