@@ -1,5 +1,6 @@
 -- The arms of a match on a node's type, which are told the numbers of their types: 0 a pass, 1 a sum, .. 9 a sine, in the enum's order.
---     arm    what holds of each type of an arm holds of the type that came to it
+--     arm      what holds of each type of an arm holds of the type that came to it
+--     kinds    what holds of each of the ten types holds of every type; by-line, by-carry where only those with a line, or a carry, differ
 -- Assumes nothing.
 use Prim.Native.Nat.{ℕ, zero, suc}
 use mathlib.Core.Path.{_≡_, sym, subst}
@@ -51,3 +52,26 @@ module _ (P : NodeKind → Type 0) where
   arm (t ∷ []) k e h = own k (subst At (sym e) h)
   arm (t ∷ u ∷ ts) k (inl e) h = own k (subst At (sym e) (h .0))
   arm (t ∷ u ∷ ts) k (inr o) h = arm (u ∷ ts) k o (h .1)
+
+  -- ---- all ten
+
+  pub kinds : P Pass × P Sum × P Destination × P Balance × ((f : Float) → P (Mul f)) × ((f : Float) → P (Add f)) × ((n : ℕ) → P (Delay n))
+      × ((n : ℕ) (f : Float) → P (AllPass n f)) × ((f : Float) → P (OnePole f)) × ((f : Float) → P (Sine f)) → (k : NodeKind) → P k
+  kinds h Pass = h .0
+  kinds h Sum = h .1
+  kinds h Destination = h .2
+  kinds h Balance = h .3
+  kinds h (Mul f) = h .4 f
+  kinds h (Add f) = h .5 f
+  kinds h (Delay n) = h .6 n
+  kinds h (AllPass n f) = h .7 n f
+  kinds h (OnePole f) = h .8 f
+  kinds h (Sine f) = h .9 f
+
+  pub by-line : P Pass × P Sum × P Destination × P Balance × ((f : Float) → P (Mul f)) × ((f : Float) → P (Add f)) × ((f : Float) → P (OnePole f)) × ((f : Float) → P (Sine f))
+      → ((n : ℕ) → P (Delay n)) → ((n : ℕ) (f : Float) → P (AllPass n f)) → (k : NodeKind) → P k
+  by-line h delay all-pass = kinds (h .0, h .1, h .2, h .3, h .4, h .5, delay, all-pass, h .6, h .7)
+
+  pub by-carry : P Pass × P Sum × P Destination × P Balance × ((f : Float) → P (Mul f)) × ((f : Float) → P (Add f)) × ((n : ℕ) → P (Delay n)) × ((n : ℕ) (f : Float) → P (AllPass n f))
+      → ((f : Float) → P (OnePole f)) → ((f : Float) → P (Sine f)) → (k : NodeKind) → P k
+  by-carry h pole sine = kinds (h .0, h .1, h .2, h .3, h .4, h .5, h .6, h .7, pole, sine)

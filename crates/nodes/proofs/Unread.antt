@@ -20,6 +20,7 @@ use Rattle.nodes.specs.Kind.{sourcesFit}
 use Rattle.nodes.specs.Rule.{Brought, Frame, State, first, two, allPass, between, tap, leftOf, rightOf, keeps, carryAfter, lineAfter, xLine, yLine, leftBy, sampleBy, stateBy}
 use Rattle.nodes.specs.History.{Heard, leftHeard, sampleHeard, heardAfter}
 use Rattle.nodes.specs.declared.kind.NodeKind.{NodeKind}
+use Rattle.nodes.proofs.Arms.{kinds, by-line}
 use Rattle.nodes.specs.declared.kind.NodeKind.the-variants.{Pass, Sum, Destination, Balance, Mul, Add, Delay, AllPass, OnePole, Sine}
 
 abbrev pub unread : Brought → Brought
@@ -62,16 +63,8 @@ left-unread (Sine f) g c x y b = refl
 
 keeps-unread : (k : NodeKind) (b : Brought) → keeps k b ≡ keeps k (unread b)
 unfolding keeps
-keeps-unread Pass b = refl
-keeps-unread Sum b = refl
-keeps-unread Destination b = refl
-keeps-unread Balance b = refl
-keeps-unread (Mul f) b = refl
-keeps-unread (Add f) b = refl
-keeps-unread (Delay n) b = refl
-keeps-unread (AllPass n f) b = refl
-keeps-unread (OnePole f) b = refl
-keeps-unread (Sine f) b = refl
+keeps-unread k b =
+    kinds (λ j. keeps j b ≡ keeps j (unread b)) (refl, refl, refl, refl, λ f. refl, λ f. refl, λ n. refl, λ n f. refl, λ f. refl, λ f. refl) k
 
 -- the one type that always reads it has two sources
 balance-two : (b : Brought) → sourcesFit Balance (length (b .left)) ≡ true → b .second ≡ cond (two b) (b .second) nan
@@ -141,13 +134,6 @@ module _ (k : NodeKind) (b : Brought) where
 
 pub line-after-long : (k : NodeKind) (p x y : ℕ) (l : List ℕ) → length (lineAfter k p x y l) ≡ length l
 unfolding lineAfter
-line-after-long Pass p x y l = refl
-line-after-long Sum p x y l = refl
-line-after-long Destination p x y l = refl
-line-after-long Balance p x y l = refl
-line-after-long (Mul f) p x y l = refl
-line-after-long (Add f) p x y l = refl
-line-after-long (Delay n) p x y l = length-set l p x
-line-after-long (AllPass n f) p x y l = length-set (set l p x) (n + p) y ∙ length-set l p x
-line-after-long (OnePole f) p x y l = refl
-line-after-long (Sine f) p x y l = refl
+line-after-long k p x y l =
+    by-line (λ j. length (lineAfter j p x y l) ≡ length l) (refl, refl, refl, refl, λ f. refl, λ f. refl, λ f. refl, λ f. refl)
+    (λ n. length-set l p x) (λ n f. length-set (set l p x) (n + p) y ∙ length-set l p x) k

@@ -1,6 +1,6 @@
 -- `nodes::block::fetch` meets its contract: after i turns the first i samples are filled in. Assumes nothing.
 use Prim.Native.Nat.{_-_}
-use borrow.Author.Needs.{needs}
+use native.Mathlib.Omega.{arith}
 use Rattle.leaves.specs.Words.{words}
 use Rattle.nodes.specs.Block.{fetched}
 use Rattle.nodes.proofs.Answers.{next6}
@@ -17,6 +17,6 @@ abbrev μ-loop : tie.MeasureT-loop
 pub fetch-spec : {M : Type 1} → statement M
 fetch-spec =
     tie.close
-    (next6 (tie.spec Inv-loop μ-loop (λ c. filling-none)) (search needs)
+    (next6 (tie.spec Inv-loop μ-loop (λ c. filling-none)) (omega arith)
     (λ c. let t = c .before in filling-then (t .before .loop .inv) (t .loop-test .taken) (c .load .ensures))
     (λ c. filling-end (c .before .loop .inv) (c .loop-test .left)))

@@ -1,5 +1,5 @@
 -- `nodes::cell::cell_fits` meets its contract. Assumes nothing.
-use borrow.Author.Needs.{needs}
+use native.Mathlib.Omega.{arith}
 use mathlib.Core.Path.{_≡_, sym, ap, _∙_}
 use mathlib.Core.Bool.{Bool, _&&_}
 use mathlib.Core.List.{List}
@@ -31,4 +31,4 @@ returns c =
     (c .before .before .before .before .number-fits .ensures) (c .before .before .carry-fits .ensures) (c .place-fits .ensures)
 
 pub cell-fits-spec : {M : Type 1} → statement M
-cell-fits-spec = tie.close (next8 tie.spec (search needs) returns)
+cell-fits-spec = tie.close (next8 tie.spec (omega arith) returns)

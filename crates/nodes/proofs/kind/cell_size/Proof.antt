@@ -4,24 +4,14 @@ use Prim.Native.Nat.{ℕ, _*_, _≤_}
 use native.Mathlib.Omega.{arith}
 use native.Mathlib.Nat.{mul-le-mul}
 use mathlib.Core.Path.{_≡_, sym, subst}
-use lib.Dec.{lit≤}
 use Rattle.nodes.specs.Kind.{channelsOf}
 use Rattle.nodes.specs.declared.kind.NodeKind.{NodeKind}
-use Rattle.nodes.specs.declared.kind.NodeKind.the-variants.{Pass, Sum, Destination, Balance, Mul, Add, Delay, AllPass, OnePole, Sine}
+use Rattle.nodes.proofs.Arms.{kinds}
 use Rattle.nodes.proofs.kind.cell_size.Statement.{statement}
 use Rattle.nodes.proofs.kind.cell_size.Tie as tie
 
 channels-two : (k : NodeKind) → channelsOf k ≤ 2
-channels-two Pass = lit≤ tt
-channels-two Sum = lit≤ tt
-channels-two Destination = lit≤ tt
-channels-two Balance = lit≤ tt
-channels-two (Mul f) = lit≤ tt
-channels-two (Add f) = lit≤ tt
-channels-two (Delay n) = lit≤ tt
-channels-two (AllPass n f) = lit≤ tt
-channels-two (OnePole f) = lit≤ tt
-channels-two (Sine f) = lit≤ tt
+channels-two = kinds (λ k. channelsOf k ≤ 2) (omega arith)
 
 -- the samples of a cell
 room : (k : NodeKind) (size channels : ℕ) → size ≤ 128 → channels ≡ channelsOf k → size * channels ≤ 256

@@ -10,7 +10,6 @@ use lib.ListN.{length, getD}
 use Rattle.leaves.specs.Words.{words}
 use Rattle.nodes.specs.Block.{fetched, fetchedIf, fill}
 use Rattle.nodes.proofs.Filled.{fetch-asked, fetch-not}
-use borrow.Author.Needs.{needs}
 use Rattle.nodes.proofs.Answers.{next2, next3}
 use Rattle.nodes.proofs.node.operands.Statement.{statement}
 use Rattle.nodes.proofs.node.operands.Tie as tie
@@ -49,4 +48,4 @@ returns-2 : tie.Need-returns-2
 returns-2 c = (first-fetched (c .before), fetch-not _ _ _ _ _ _ (le-ltb _ _ (c .if2 .left)) refl)
 
 pub operands-spec : {M : Type 1} → statement M
-operands-spec = tie.close (next3 (next2 tie.spec (search needs) mul-fetch element-copy-out-fetch fetch-requires) (search needs) returns returns-2)
+operands-spec = tie.close (next3 (next2 tie.spec (omega arith) mul-fetch element-copy-out-fetch fetch-requires) (omega arith) returns returns-2)

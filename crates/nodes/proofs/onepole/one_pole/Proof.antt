@@ -94,4 +94,4 @@ returns c =
     (omega arith) (omega arith) (here .loop .inv .2 .1)
 
 pub one-pole-spec : {M : Type 1} → statement M
-one-pole-spec = tie.close (next2 (next7 (next2 (tie.spec Inv-loop μ-loop) (search needs) loop-holds) (search needs) loop-again) (search needs) returns)
+one-pole-spec = tie.close (next2 (next7 (next2 (tie.spec Inv-loop μ-loop) (omega arith) loop-holds) (omega arith) loop-again) (omega arith) returns)

@@ -1,6 +1,5 @@
 -- `nodes::sum::accumulate` meets its contract: after i turns the first i samples have theirs added; those ahead are as they were. Assumes nothing.
 use Prim.Native.Nat.{_-_}
-use borrow.Author.Needs.{needs}
 use mathlib.Core.Path.{ap, _∙_}
 use mathlib.Core.List.{List}
 use native.Mathlib.Omega.{arith}
@@ -28,6 +27,6 @@ loop-again c =
 pub accumulate-spec : {M : Type 1} → statement M
 accumulate-spec =
     tie.close
-    (next8 (tie.spec Inv-loop μ-loop (λ c. filling-none)) (search needs)
+    (next8 (tie.spec Inv-loop μ-loop (λ c. filling-none)) (omega arith)
     loop-again
     (λ c. filling-end (c .before .loop .inv) (c .loop-test .left)))

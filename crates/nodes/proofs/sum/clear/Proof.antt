@@ -1,6 +1,6 @@
 -- `nodes::sum::clear` meets its contract: after i turns the first i samples are 0. Assumes nothing.
 use Prim.Native.Nat.{_-_}
-use borrow.Author.Needs.{needs}
+use native.Mathlib.Omega.{arith}
 use mathlib.Core.Path.{refl}
 use lib.Ieee.{ofBits}
 use Rattle.nodes.specs.Block.{quiet}
@@ -19,6 +19,6 @@ pub clear-spec : {M : Type 1} → statement M
 unfolding ofBits
 clear-spec =
     tie.close
-    (next4 (tie.spec Inv-loop μ-loop (λ c. filling-none)) (search needs)
+    (next4 (tie.spec Inv-loop μ-loop (λ c. filling-none)) (omega arith)
     (λ c. filling-then (c .before .loop .inv) (c .loop-test .taken) refl)
     (λ c. filling-end (c .before .loop .inv) (c .loop-test .left)))

@@ -1,6 +1,6 @@
 -- `nodes::operator::mul::mul_number` meets its contract: after i turns the first i products are stored. Assumes nothing.
 use Prim.Native.Nat.{_-_}
-use borrow.Author.Needs.{needs}
+use native.Mathlib.Omega.{arith}
 use lib.Ieee.{binary32, mul}
 use Rattle.nodes.specs.Block.{opNumber}
 use Rattle.nodes.proofs.Answers.{next6}
@@ -17,7 +17,7 @@ abbrev μ-loop : tie.MeasureT-loop
 pub mul-number-spec : {M : Type 1} → statement M
 mul-number-spec =
     tie.close
-    (next6 (tie.spec Inv-loop μ-loop (λ c. storing-none)) (search needs)
+    (next6 (tie.spec Inv-loop μ-loop (λ c. storing-none)) (omega arith)
     (λ c. let t = c .before .before .before .before .before in storing-then (t .before .loop .inv) (t .loop-test .taken) (c .before .before .store .kept .0) (c .before .before .store .ensures))
-    (search needs)
+    (omega arith)
     (λ c. storing-end (c .before .loop .inv) (c .loop-test .left)))
