@@ -23,7 +23,7 @@ use Rattle.nodes.specs.Cell.{numberOf, freshCell}
 use Rattle.nodes.specs.Node.{LineFits}
 use Rattle.nodes.specs.History.{Heard, xs, ys, count, freshHeard, setNumber, agoBy, leftHeard, sampleHeard, heardAfter, placeOf, ring, lineHeard, stateOf}
 use Rattle.nodes.specs.declared.kind.NodeKind.{NodeKind}
-use Rattle.nodes.specs.declared.kind.NodeKind.the-variants.{Pass, Sum, Destination, Balance, Mul, Add, Delay, AllPass, OnePole, Sine}
+use Rattle.nodes.specs.declared.kind.NodeKind.the-variants.{Delay, AllPass}
 use Rattle.nodes.proofs.Arms.{by-line}
 use Rattle.nodes.proofs.Cells.{withNumber, set-append-right}
 

@@ -1,6 +1,6 @@
 -- What a block run keeps, for every kind: the number, the lengths, and that the judged values are as they must be. A number message keeps them too.
 --     number-kept, samples-kept, line-kept, fits-kept    after any number of samples
---     run-long, run-number, run-fits                     after a block run
+--     run-long, run-fits                                 after a block run
 --     run-own                                            the node's cell, after its block run over the whole memory
 --     fits-part                                          the judgement of a part and of what starts there
 --     message-fits                                       after a number message
@@ -24,7 +24,7 @@ use Rattle.leaves.proofs.Patterns.{finite-float}
 use Rattle.leaves.proofs.PhaseStep.{phase-stays, phase-fits}
 use Rattle.nodes.specs.Kind.{cellSize, channelsOf, inBand}
 use Rattle.nodes.specs.Iter.{iter}
-use Rattle.nodes.specs.Rule.{Brought, State, next, leftBy, carryAfter, placeAfter, lineAfter, stateBy}
+use Rattle.nodes.specs.Rule.{Brought, State, next, leftBy, carryAfter, placeAfter, stateBy}
 use Rattle.nodes.specs.Cell.{Cell, valuesOf, cellOf, valueFits, numberFits, carryFits, placeFits, cellFits, putFrame, stepCell, runCell, runValues}
 use Rattle.nodes.specs.Node.{nodeRun}
 use Rattle.nodes.specs.declared.kind.NodeKind.{NodeKind}
@@ -32,7 +32,7 @@ use Rattle.nodes.specs.declared.kind.NodeKind.the-variants.{Pass, Sum, D
 use Rattle.nodes.proofs.Arms.{by-line, by-carry}
 use Rattle.nodes.proofs.Unread.{line-after-long}
 use Rattle.nodes.proofs.Iterated.{iter-keeps}
-use Rattle.nodes.proofs.Cells.{samples-long, line-long, length-values, get-number}
+use Rattle.nodes.proofs.Cells.{samples-long, line-long, length-values}
 
 -- ---- the number and the lengths
 
@@ -152,10 +152,6 @@ module _ (k : NodeKind) (N : ℕ) (bs : ℕ → Brought) where
   run-long ws long =
       length-values (runCell k N bs (cellOf N k ws))
       ∙ omega (arith, samples-kept N (cellOf N k ws), line-kept N (cellOf N k ws), samples-long N k ws long, line-long N k ws long)
-
-  pub run-number : (ws : List ℕ) → getD (runValues k N bs ws) 0 0 ≡ getD ws 0 0
-  unfolding runCell cellOf
-  run-number ws = get-number (runCell k N bs (cellOf N k ws)) ∙ number-kept N (cellOf N k ws)
 
   pub run-fits : (ws : List ℕ) → cellFits k ws ≡ true → cellFits k (runValues k N bs ws) ≡ true
   unfolding runCell

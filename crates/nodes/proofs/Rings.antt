@@ -14,7 +14,7 @@ use native.Mathlib.Nat.{mod-eq-of-lt, mod-self, mod-add-mod, add-assoc}
 use native.Mathlib.Numerals.{add-one}
 use native.Mathlib.Omega.{arith}
 use lib.Dec.{eqb, ltb}
-use lib.ListN.{length, getD, set, take, drop, length-set}
+use lib.ListN.{length, getD, set, take, drop}
 use lib.Seq.{take-at, drop-at}
 use lib.Ieee.{Float, nan, binary32, ofBits, toBits}
 use borrow.Author.Tests.{lt-ltb, le-ltb, eq-eqb, ne-eqb, eqb-true, eqb-false, ltb-true, ltb-false}
@@ -24,8 +24,8 @@ use Rattle.leaves.specs.Floors.{floorOf}
 use Rattle.leaves.specs.Position.{positionOf, restOf}
 use Rattle.nodes.specs.Kind.{channelsOf, cellSize}
 use Rattle.nodes.specs.Iter.{iter, from}
-use Rattle.nodes.specs.Rule.{Brought, Frame, State, first, two, between, leftBy, leftOf, get, xLine, yLine, tap, allPass, next, placeAfter, lineAfter, carryAfter, keeps, sampleBy, stateBy}
-use Rattle.nodes.specs.Cell.{Cell, valuesOf, cellOf, frameAt, putFrame, stepCell, runCell, runValues}
+use Rattle.nodes.specs.Rule.{Brought, State, first, two, between, leftBy, leftOf, get, xLine, yLine, tap, allPass, next, placeAfter, lineAfter, carryAfter, keeps, sampleBy, stateBy}
+use Rattle.nodes.specs.Cell.{Cell, valuesOf, cellOf, putFrame, stepCell, runCell, runValues}
 use Rattle.nodes.specs.Ring.{stretchOf, wrapOf, atPlace, stretchValues}
 use Rattle.nodes.specs.declared.kind.NodeKind.{NodeKind}
 use Rattle.nodes.specs.declared.kind.NodeKind.the-variants.{Delay, AllPass}

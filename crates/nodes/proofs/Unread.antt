@@ -1,6 +1,5 @@
 -- What a rule does not read: the second wire's source, unless there are two sources; and what lines keep.
 --     unread                           what wires bring, with nothing for the second source unless there are two
---     same-unread                      two that agree in what is read
 --     sample-unread, state-unread      the rule on what memory holds reads no more
 --     heard-sample-unread, heard-unread    nor does the rule on what the reading knows
 --     line-after-long                  a line keeps its length
@@ -25,16 +24,6 @@ use Rattle.nodes.specs.declared.kind.NodeKind.the-variants.{Pass, Sum, D
 
 abbrev pub unread : Brought → Brought
 unread b = record { left = b .left; right = b .right; second = cond (two b) (b .second) nan }
-
-pub same-unread : (b d : Brought) → b .left ≡ d .left → b .right ≡ d .right → (two b ≡ true → b .second ≡ d .second) → unread b ≡ unread d
-same-unread b d l r s = λ i. record { left = l i; right = r i; second = second i }
-  where
-    go : (q : Bool) → two b ≡ q → cond q (b .second) nan ≡ cond q (d .second) nan
-    go true e = s e
-    go false e = refl
-
-    second : cond (two b) (b .second) nan ≡ cond (two d) (d .second) nan
-    second = go (two b) refl ∙ ap (λ (x : List Float). cond (two (record { left = x; right = b .right; second = nan })) (d .second) nan) l
 
 -- what is used only where there are two sources
 inner : {A : Type 0} (q : Bool) (f : Float → A) (s : Float) (g : A) → cond q (f s) g ≡ cond q (f (cond q s nan)) g

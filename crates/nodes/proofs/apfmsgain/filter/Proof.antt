@@ -5,7 +5,6 @@ use Prim.Native.Nat.{ℕ, _+_, _≤_, _<_, _-_}
 use native.Mathlib.Omega.{arith}
 use lib.ListN.{length, set}
 use lib.Ieee.{Float, binary32, ofBits, toBits}
-use borrow.Author.Needs.{needs}
 use Rattle.leaves.specs.Words.{words, length-words}
 use Rattle.leaves.specs.Floats.{floatAt}
 use Rattle.nodes.specs.Kind.{cellSize}

@@ -16,7 +16,6 @@ use Rattle.nodes.specs.Block.{sample, pair}
 use Rattle.nodes.specs.Ring.{wrapOf, stretchValues}
 use Rattle.nodes.specs.declared.kind.NodeKind.the-variants.{AllPass}
 use Rattle.nodes.proofs.Rings.{wrap-below, all-pass-ring, stretch-none, float-at, tap-two, all-pass-reads, all-pass-then}
-use borrow.Author.Needs.{needs}
 use Rattle.nodes.proofs.Answers.{next2, next3, next4, next10}
 use Rattle.nodes.proofs.apfmsgain.modulate.Statement.{statement}
 use Rattle.nodes.proofs.apfmsgain.modulate.Tie as tie

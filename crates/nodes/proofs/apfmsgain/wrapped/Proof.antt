@@ -3,7 +3,6 @@ use mathlib.Core.Path.{_≡_, sym, ap, _∙_}
 use Prim.Native.Nat.{ℕ, _+_, _-_, _%_, _≤_, _<_}
 use native.Mathlib.Nat.{mod-eq-of-lt, add-mod-right}
 use native.Mathlib.Omega.{arith}
-use borrow.Author.Needs.{needs}
 use Rattle.nodes.proofs.Answers.{next4}
 use Rattle.nodes.proofs.apfmsgain.wrapped.Statement.{statement}
 use Rattle.nodes.proofs.apfmsgain.wrapped.Tie as tie

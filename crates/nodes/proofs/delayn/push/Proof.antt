@@ -5,7 +5,6 @@ use Prim.Native.Nat.{ℕ, _+_, _*_, _≤_, _<_, _-_}
 use native.Mathlib.Omega.{arith}
 use lib.ListN.{length, getD, set}
 use lib.Ieee.{Float, binary32, ofBits, toBits}
-use borrow.Author.Needs.{needs}
 use Rattle.leaves.specs.Words.{words, length-words}
 use Rattle.nodes.specs.Kind.{cellSize}
 use Rattle.nodes.specs.Block.{sample, alone}
