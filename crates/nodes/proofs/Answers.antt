@@ -1,4 +1,4 @@
--- The next answers that a function's proof takes, at once: `next6 f (search needs)` gives f the next six, each of which the search finds.
+-- The next answers that a function's proof takes, at once: `next6 f (omega arith)` gives f the next six, each of which is arithmetic.
 -- Assumes nothing.
 
 pub next2 : {A B : Type 0} {Rest : Type 2} → (A → B → Rest) → A × B → Rest

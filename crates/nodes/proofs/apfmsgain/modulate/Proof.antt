@@ -90,4 +90,7 @@ returns c f m e =
     (s .pre .5) (omega (arith, length-words (a .cell .now), s)) (omega (arith, s)) (omega (arith, s))
 
 pub modulate-spec : {M : Type 1} → statement M
-modulate-spec = tie.close (next4 (next10 (next3 (next2 tie.spec (omega arith) split-requires (λ c. omega arith) wrapped-requires) (omega arith) between-requires (λ c. omega arith) between-requires-2) (omega arith)) (omega arith) returns)
+modulate-spec =
+    tie.close
+    (next4 (next10 (next3 (next2 tie.spec (omega arith) split-requires (λ c. omega arith) wrapped-requires)
+    (omega arith) between-requires (λ c. omega arith) between-requires-2) (omega arith)) (omega arith) returns)
