@@ -1,6 +1,7 @@
 -- A type that reads its first source, and where there are two sources the second, runs alike on all that brings the same of these.
 --     ReadsOperands     such a type; mul-reads, add-reads, delay-reads, all-pass-reads, one-pole-reads, sine-reads
---     given-run, alone-run, nothing-run    the run on blocks of the operands is the run on what the wires bring
+--     run-alike         the block run
+--     alike-given, alike-alone, alike-nothing    blocks of the operands, and what the wires bring
 -- Assumes nothing.
 use mathlib.Core.Path.{_≡_, refl, sym, ap, _∙_}
 use mathlib.Core.Bool.{Bool, true, false, cond}
@@ -18,7 +19,7 @@ use Rattle.nodes.specs.Kind.{channelsOf}
 use Rattle.nodes.specs.Rule.{Brought, State, first, two, allPass, between, tap, keeps, leftOf, leftBy, rightOf, carryAfter, xLine, yLine, placeAfter, lineAfter, sampleBy, stateBy}
 use Rattle.nodes.specs.Cell.{Cell, valuesOf, cellOf, frameAt, putFrame, stepCell, runCell, runValues}
 use Rattle.nodes.specs.Block.{sample, alone, given, nothing}
-use Rattle.nodes.specs.Node.{Operands}
+use Rattle.nodes.specs.Node.{Operands, Gives}
 use Rattle.nodes.specs.declared.kind.NodeKind.{NodeKind}
 use Rattle.nodes.specs.declared.kind.NodeKind.the-variants.{Mul, Add, Delay, AllPass, OnePole, Sine}
 use Rattle.nodes.proofs.Iterated.{iter-same}
@@ -32,6 +33,7 @@ pub record ReadsOperands (k : NodeKind) : Type 0 where
   pub left : (s : State) (b d : Brought) → Alike b d → leftBy k s b ≡ leftBy k s d
   pub right : (b d : Brought) → rightOf k b ≡ rightOf k d
   pub goes : (b d : Brought) → keeps k b ≡ keeps k d
+  pub asks : (n : ℕ) (b : Brought) (x m : Float) → Gives k n b x m → Operands n b x m
 
 -- ---- the types
 
@@ -56,6 +58,7 @@ mul-reads f = record {
   left = λ s b d e i. mul binary32 (e .firsts i) (second-same b d (λ m. m) (ofBits binary32 (s .number)) e i);
   right = λ b d. refl;
   goes = λ b d. refl;
+  asks = λ n b x m g. g;
 }
 
 pub add-reads : (f : Float) → ReadsOperands (Add f)
@@ -64,11 +67,12 @@ add-reads f = record {
   left = λ s b d e i. add binary32 (e .firsts i) (second-same b d (λ m. m) (ofBits binary32 (s .number)) e i);
   right = λ b d. refl;
   goes = λ b d. refl;
+  asks = λ n b x m g. g;
 }
 
 pub delay-reads : (n : ℕ) → ReadsOperands (Delay n)
 unfolding leftOf rightOf keeps
-delay-reads n = record { left = λ s b d e. refl; right = λ b d. refl; goes = λ b d. refl }
+delay-reads n = record { left = λ s b d e. refl; right = λ b d. refl; goes = λ b d. refl; asks = λ n b x m g. g }
 
 pub all-pass-reads : (n : ℕ) (f : Float) → ReadsOperands (AllPass n f)
 unfolding leftOf rightOf keeps
@@ -77,6 +81,7 @@ all-pass-reads n f = record {
       allPass (ofBits binary32 (s .number)) (e .firsts i) (tap-same n (xLine (AllPass n f) s) b d e i) (tap-same n (yLine (AllPass n f) s) b d e i);
   right = λ b d. refl;
   goes = λ b d. refl;
+  asks = λ n b x m g. g;
 }
 
 pub one-pole-reads : (f : Float) → ReadsOperands (OnePole f)
@@ -85,11 +90,12 @@ one-pole-reads f = record {
   left = λ s b d e i. onePoleStep (onePoleOf f (ofBits binary32 (s .carry))) (e .firsts i) .y1;
   right = λ b d. refl;
   goes = λ b d. refl;
+  asks = λ n b x m g. g;
 }
 
 pub sine-reads : (f : Float) → ReadsOperands (Sine f)
 unfolding leftOf rightOf keeps
-sine-reads f = record { left = λ s b d e. refl; right = λ b d. refl; goes = λ b d. refl }
+sine-reads f = record { left = λ s b d e. refl; right = λ b d. refl; goes = λ b d. refl; asks = λ n b x m g. g }
 
 -- ---- a block run
 
@@ -111,34 +117,22 @@ module _ {k : NodeKind} (r : ReadsOperands k) (N : ℕ) (bs ds : ℕ → Brought
             (c .samples);
       }
 
-  run-alike : (ws : List ℕ) → ((i : ℕ) → i < N → Alike (bs i) (ds i)) → runValues k N bs ws ≡ runValues k N ds ws
+  pub run-alike : (ws : List ℕ) → ((i : ℕ) → i < N → Alike (bs i) (ds i)) → runValues k N bs ws ≡ runValues k N ds ws
   unfolding runCell
   run-alike ws e = ap valuesOf (iter-same (stepCell k N bs) (stepCell k N ds) N (cellOf N k ws) (λ i h. step-alike i (e i h) _))
 
 -- ---- on blocks of the operands
 
 module _ (b : Brought) (n i : ℕ) (x m : List Float) (counted : length (b .left) ≡ n) (o : Operands n b (sample x i) (sample m i)) where
-  alike-given : 0 < n → Alike (given (ltb 1 n) x m i) b
+  pub alike-given : 0 < n → Alike (given (ltb 1 n) x m i) b
   alike-given h = go (ltb 1 n) refl
     where
       go : (t : Bool) → ltb 1 n ≡ t → Alike (given t x m i) b
       go true e = record { firsts = sym (o .0 h); twos = sym (ap (ltb 1) counted ∙ e); seconds = λ q. sym (o .1 (ltb-true 1 n e)) }
       go false e = record { firsts = sym (o .0 h); twos = sym (ap (ltb 1) counted ∙ e); seconds = λ q. cc }
 
-  alike-alone : n ≡ 1 → Alike (alone x i) b
+  pub alike-alone : n ≡ 1 → Alike (alone x i) b
   alike-alone one = record { firsts = sym (o .0 (omega arith)); twos = sym (ap (ltb 1) (counted ∙ one)); seconds = λ q. cc }
 
-  alike-nothing : n ≡ 0 → Alike (nothing i) b
+  pub alike-nothing : n ≡ 0 → Alike (nothing i) b
   alike-nothing none = record { firsts = sym (List·getD-eq-default (b .left) nan (omega arith)); twos = sym (ap (ltb 1) (counted ∙ none)); seconds = λ q. cc }
-
--- vs is what a loop leaves, which was given blocks of the operands that the wires bring
-module _ {k : NodeKind} (r : ReadsOperands k) (N n : ℕ) (x m : List Float) (bs : ℕ → Brought) (ws vs : List ℕ)
-    (counted : (i : ℕ) → i < N → length (bs i .left) ≡ n) (o : (i : ℕ) → i < N → Operands n (bs i) (sample x i) (sample m i)) where
-  pub given-run : 0 < n → vs ≡ runValues k N (given (ltb 1 n) x m) ws → vs ≡ runValues k N bs ws
-  given-run h e = e ∙ run-alike r N (given (ltb 1 n) x m) bs ws (λ i b. alike-given (bs i) n i x m (counted i b) (o i b) h)
-
-  pub alone-run : n ≡ 1 → vs ≡ runValues k N (alone x) ws → vs ≡ runValues k N bs ws
-  alone-run one e = e ∙ run-alike r N (alone x) bs ws (λ i b. alike-alone (bs i) n i x m (counted i b) (o i b) one)
-
-  pub nothing-run : n ≡ 0 → vs ≡ runValues k N nothing ws → vs ≡ runValues k N bs ws
-  nothing-run none e = e ∙ run-alike r N nothing bs ws (λ i b. alike-nothing (bs i) n i x m (counted i b) (o i b) none)

@@ -11,10 +11,52 @@ use lib.Dec.{ltb}
 use borrow.Author.Tests.{ltb-true, ltb-false}
 use lib.ListN.{length, set, length-set}
 use lib.Seq.{getD-set-same, getD-set-other, ext-getD}
-use lib.Ieee.{Float, nan}
+use lib.Ieee.{Float, nan, binary32, toBits}
+use Rattle.leaves.specs.Words.{words}
 use Rattle.leaves.specs.Floats.{floatAt}
 use Rattle.nodes.specs.Iter.{iter}
-use Rattle.nodes.specs.Block.{sample, fetched, fetchedIf, fill}
+use Rattle.nodes.specs.Block.{sample, fetched, fetchedIf, fill, stored}
+use Rattle.nodes.proofs.Iterated.{iter-then}
+
+-- ---- loops that store or fill
+
+-- after i of n turns of a loop over a cell, y is stored from value `at` on
+pub record Storing (y : ℕ → Float) (at n : ℕ) (cell₀ : List ℕ) (i : ℕ) (cell : List ℕ) : Type 0 where
+  pub turns : i ≤ n
+  pub long : length cell ≡ length cell₀
+  pub values : words cell ≡ stored y at i (words cell₀)
+
+module _ {y : ℕ → Float} {at n : ℕ} {cell₀ : List ℕ} where
+  pub storing-none : Storing y at n cell₀ 0 cell₀
+  unfolding stored iter
+  storing-none = record { turns = omega arith; long = refl; values = refl }
+
+  pub storing-then : {i : ℕ} {cell cell′ : List ℕ} → Storing y at n cell₀ i cell → i < n → length cell′ ≡ length cell
+      → words cell′ ≡ set (words cell) (at + i) (toBits binary32 (y i)) → Storing y at n cell₀ (i + 1) cell′
+  unfolding stored
+  storing-then {i} r below long e = record { turns = omega arith; long = long ∙ r .long; values = iter-then _ i _ _ _ (r .values) e }
+
+  pub storing-end : {i : ℕ} {cell : List ℕ} → Storing y at n cell₀ i cell → n ≤ i → words cell ≡ stored y at n (words cell₀)
+  storing-end {i} r all = let done : i ≡ n = omega arith in r .values ∙ ap (λ (j : ℕ). stored y at j (words cell₀)) done
+
+-- after i of n turns of a loop over an array, its first i places are given by f
+pub record Filling (f : ℕ → Float) (n : ℕ) (x₀ : List Float) (i : ℕ) (x : List Float) : Type 0 where
+  pub turns : i ≤ n
+  pub filled : x ≡ fill f i x₀
+
+module _ {f : ℕ → Float} {n : ℕ} {x₀ : List Float} where
+  pub filling-none : Filling f n x₀ 0 x₀
+  unfolding fill iter
+  filling-none = record { turns = omega arith; filled = refl }
+
+  pub filling-then : {i : ℕ} {v : Float} {x : List Float} → Filling f n x₀ i x → i < n → v ≡ f i → Filling f n x₀ (i + 1) (set x i v)
+  unfolding fill
+  filling-then {i} {v} {x} r below e = record { turns = omega arith; filled = iter-then _ i _ _ _ (r .filled) (ap (set x i) e) }
+
+  pub filling-end : {i : ℕ} {x : List Float} → Filling f n x₀ i x → n ≤ i → x ≡ fill f n x₀
+  filling-end {i} r all = let done : i ≡ n = omega arith in r .filled ∙ ap (λ (j : ℕ). fill f j x₀) done
+
+-- ---- what a filled array holds
 
 pub length-fill : (f : ℕ → Float) (n : ℕ) (x : List Float) → length (fill f n x) ≡ length x
 unfolding fill iter

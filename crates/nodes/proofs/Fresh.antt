@@ -20,6 +20,7 @@ use Rattle.nodes.specs.declared.kind.NodeKind.{NodeKind}
 use Rattle.nodes.specs.declared.kind.NodeKind.the-variants.{Pass, Sum, Destination, Balance, Mul, Add, Delay, AllPass, OnePole, Sine}
 use Rattle.nodes.specs.declared.kind.Rule.{Rule}
 use Rattle.nodes.specs.declared.kind.Rule.the-variants.{Is}
+use Rattle.nodes.proofs.Arms.{kinds, by-line}
 use Rattle.nodes.proofs.Cells.{length-values}
 use Rattle.nodes.proofs.Kept.{both, in-band, judged-fits}
 
@@ -82,29 +83,13 @@ fresh-long N k = length-values (freshCell N k) ∙ omega (arith, length-replicat
 
 start-carry : (k : NodeKind) → carryFits k 0 ≡ true
 unfolding carryFits within le ofBits
-start-carry Pass = refl
-start-carry Sum = refl
-start-carry Destination = refl
-start-carry Balance = refl
-start-carry (Mul f) = refl
-start-carry (Add f) = refl
-start-carry (Delay n) = refl
-start-carry (AllPass n f) = refl
-start-carry (OnePole f) = refl
-start-carry (Sine f) = refl
+start-carry = kinds (λ k. carryFits k 0 ≡ true) (refl, refl, refl, refl, λ f. refl, λ f. refl, λ n. refl, λ n f. refl, λ f. refl, λ f. refl)
 
 start-place : (k : NodeKind) → LineFits k → placeFits k 0 ≡ true
 unfolding placeFits
-start-place Pass h = refl
-start-place Sum h = refl
-start-place Destination h = refl
-start-place Balance h = refl
-start-place (Mul f) h = refl
-start-place (Add f) h = refl
-start-place (Delay n) h = lt-ltb 0 n (h .0)
-start-place (AllPass n f) h = lt-ltb 0 n (h .0)
-start-place (OnePole f) h = refl
-start-place (Sine f) h = refl
+start-place =
+    by-line (λ k. LineFits k → placeFits k 0 ≡ true)
+    (λ h. refl, λ h. refl, λ h. refl, λ h. refl, λ f h. refl, λ f h. refl, λ f h. refl, λ f h. refl) (λ n h. lt-ltb 0 n (h .0)) (λ n f h. lt-ltb 0 n (h .0))
 
 pub fresh-fits : (N : ℕ) (k : NodeKind) → Sound k → cellFits k (valuesOf (freshCell N k)) ≡ true
 unfolding freshCell

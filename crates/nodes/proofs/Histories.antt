@@ -23,7 +23,8 @@ use Rattle.nodes.specs.Cell.{numberOf, freshCell}
 use Rattle.nodes.specs.Node.{LineFits}
 use Rattle.nodes.specs.History.{Heard, xs, ys, count, freshHeard, setNumber, agoBy, leftHeard, sampleHeard, heardAfter, placeOf, ring, lineHeard, stateOf}
 use Rattle.nodes.specs.declared.kind.NodeKind.{NodeKind}
-use Rattle.nodes.specs.declared.kind.NodeKind.the-variants.{Pass, Sum, Destination, Balance, Mul, Add, Delay, AllPass, OnePole, Sine}
+use Rattle.nodes.specs.declared.kind.NodeKind.the-variants.{Delay, AllPass}
+use Rattle.nodes.proofs.Arms.{by-line}
 use Rattle.nodes.proofs.Cells.{withNumber, set-append-right}
 
 -- ---- a line of n, once c samples l have been taken
@@ -98,32 +99,20 @@ module _ (n : ℕ) (pos : 1 ≤ n) (h : Heard) where
 
 left-heard : (k : NodeKind) → LineFits k → (h : Heard) (b : Brought) → leftBy k (stateOf k h) b ≡ leftHeard k h b
 unfolding leftOf stateOf
-left-heard Pass fit h b = refl
-left-heard Sum fit h b = refl
-left-heard Destination fit h b = refl
-left-heard Balance fit h b = refl
-left-heard (Mul f) fit h b = refl
-left-heard (Add f) fit h b = refl
-left-heard (Delay n) fit h b = λ i. delay-x n (fit .0) h i 0
-left-heard (AllPass n f) fit h b =
-    λ i. allPass (ofBits binary32 (h .number)) (first b) (tap n b (all-pass-x n (fit .0) h f i)) (tap n b (all-pass-y n (fit .0) h f i))
-left-heard (OnePole f) fit h b = refl
-left-heard (Sine f) fit h b = refl
+left-heard k fit h b =
+    by-line (λ j. LineFits j → leftBy j (stateOf j h) b ≡ leftHeard j h b)
+    (λ l. refl, λ l. refl, λ l. refl, λ l. refl, λ f l. refl, λ f l. refl, λ f l. refl, λ f l. refl)
+    (λ n l i. delay-x n (l .0) h i 0)
+    (λ n f l i. allPass (ofBits binary32 (h .number)) (first b) (tap n b (all-pass-x n (l .0) h f i)) (tap n b (all-pass-y n (l .0) h f i))) k fit
 
 -- ---- what is left
 
 place-heard : (k : NodeKind) → LineFits k → (h : Heard) → placeAfter k (placeOf k (count h)) ≡ placeOf k (suc (count h))
 unfolding placeAfter placeOf
-place-heard Pass fit h = refl
-place-heard Sum fit h = refl
-place-heard Destination fit h = refl
-place-heard Balance fit h = refl
-place-heard (Mul f) fit h = refl
-place-heard (Add f) fit h = refl
-place-heard (Delay n) fit h = ring-next n (fit .0) (xs h) (count h) (x-long h)
-place-heard (AllPass n f) fit h = ring-next n (fit .0) (xs h) (count h) (x-long h)
-place-heard (OnePole f) fit h = refl
-place-heard (Sine f) fit h = refl
+place-heard k fit h =
+    by-line (λ j. LineFits j → placeAfter j (placeOf j (count h)) ≡ placeOf j (suc (count h)))
+    (λ l. refl, λ l. refl, λ l. refl, λ l. refl, λ f l. refl, λ f l. refl, λ f l. refl, λ f l. refl)
+    (λ n l. ring-next n (l .0) (xs h) (count h) (x-long h)) (λ n f l. ring-next n (l .0) (xs h) (count h) (x-long h)) k fit
 
 -- a push to each of two lines of n
 pub two-set : (n : ℕ) (l m : List ℕ) (p x y : ℕ) → length l ≡ n → p < n → set (set (l ++ m) p x) (n + p) y ≡ set l p x ++ set m p y
@@ -135,18 +124,13 @@ two-set n l m p x y long h =
 line-heard : (k : NodeKind) → LineFits k → (h : Heard) (x y : ℕ)
     → lineAfter k (placeOf k (count h)) x y (lineHeard k (xs h) (ys h)) ≡ lineHeard k (x ∷ xs h) (y ∷ ys h)
 unfolding lineAfter placeOf lineHeard
-line-heard Pass fit h x y = refl
-line-heard Sum fit h x y = refl
-line-heard Destination fit h x y = refl
-line-heard Balance fit h x y = refl
-line-heard (Mul f) fit h x y = refl
-line-heard (Add f) fit h x y = refl
-line-heard (Delay n) fit h x y = ring-push n (fit .0) (xs h) (count h) (x-long h) x
-line-heard (AllPass n f) fit h x y =
-    two-set n (ring n (xs h)) (ring n (ys h)) (count h % n) x y (ring-long n (xs h)) (mod-lt (count h) (fit .0))
-    ∙ (λ i. ring-push n (fit .0) (xs h) (count h) (x-long h) x i ++ ring-push n (fit .0) (ys h) (count h) (y-long h) y i)
-line-heard (OnePole f) fit h x y = refl
-line-heard (Sine f) fit h x y = refl
+line-heard k fit h x y =
+    by-line (λ j. LineFits j → lineAfter j (placeOf j (count h)) x y (lineHeard j (xs h) (ys h)) ≡ lineHeard j (x ∷ xs h) (y ∷ ys h))
+    (λ l. refl, λ l. refl, λ l. refl, λ l. refl, λ f l. refl, λ f l. refl, λ f l. refl, λ f l. refl)
+    (λ n l. ring-push n (l .0) (xs h) (count h) (x-long h) x)
+    (λ n f l.
+    two-set n (ring n (xs h)) (ring n (ys h)) (count h % n) x y (ring-long n (xs h)) (mod-lt (count h) (l .0))
+    ∙ (λ i. ring-push n (l .0) (xs h) (count h) (x-long h) x i ++ ring-push n (l .0) (ys h) (count h) (y-long h) y i)) k fit
 
 -- ---- the laws
 
@@ -176,33 +160,21 @@ number-heard k h v = refl
 
 fresh-place : (k : NodeKind) → LineFits k → 0 ≡ placeOf k 0
 unfolding placeOf
-fresh-place Pass fit = refl
-fresh-place Sum fit = refl
-fresh-place Destination fit = refl
-fresh-place Balance fit = refl
-fresh-place (Mul f) fit = refl
-fresh-place (Add f) fit = refl
-fresh-place (Delay n) fit = sym (mod-eq-of-lt (fit .0))
-fresh-place (AllPass n f) fit = sym (mod-eq-of-lt (fit .0))
-fresh-place (OnePole f) fit = refl
-fresh-place (Sine f) fit = refl
+fresh-place =
+    by-line (λ k. LineFits k → 0 ≡ placeOf k 0)
+    (λ l. refl, λ l. refl, λ l. refl, λ l. refl, λ f l. refl, λ f l. refl, λ f l. refl, λ f l. refl)
+    (λ n l. sym (mod-eq-of-lt (l .0))) (λ n f l. sym (mod-eq-of-lt (l .0)))
 
 fresh-line : (k : NodeKind) → replicate (lineOf k) 0 ≡ lineHeard k [] []
 unfolding lineHeard
-fresh-line Pass = refl
-fresh-line Sum = refl
-fresh-line Destination = refl
-fresh-line Balance = refl
-fresh-line (Mul f) = refl
-fresh-line (Add f) = refl
-fresh-line (Delay n) = sym (tab-constant n 0)
-fresh-line (AllPass n f) =
+fresh-line =
+    by-line (λ k. replicate (lineOf k) 0 ≡ lineHeard k [] []) (refl, refl, refl, refl, λ f. refl, λ f. refl, λ f. refl, λ f. refl)
+    (λ n. sym (tab-constant n 0))
+    (λ n f.
     let twice : n * 2 ≡ n + n = omega arith in
     ap (λ (d : ℕ). replicate d 0) twice
     ∙ sym (replicate-append-replicate n n 0)
-    ∙ ap (λ (l : List ℕ). l ++ l) (sym (tab-constant n 0))
-fresh-line (OnePole f) = refl
-fresh-line (Sine f) = refl
+    ∙ ap (λ (l : List ℕ). l ++ l) (sym (tab-constant n 0)))
 
 pub fresh-heard : (N : ℕ) (k : NodeKind) → LineFits k → freshCell N k .state ≡ stateOf k (freshHeard k)
 unfolding freshCell stateOf freshHeard

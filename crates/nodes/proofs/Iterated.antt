@@ -1,24 +1,16 @@
--- Laws of iterated turns: how a loop's invariant starts, goes on and ends, and how stretches join.
+-- Laws of iterated turns: one more turn, how stretches join, and what turns keep.
 -- Assumes nothing.
-use mathlib.Core.Path.{_≡_, refl, sym, ap, _∙_}
+use mathlib.Core.Path.{_≡_, refl, ap, _∙_}
 use Prim.Native.Nat.{ℕ, zero, suc, _+_, _<_}
 use native.Mathlib.Omega.{arith}
 use native.Mathlib.Numerals.{add-one}
 use Rattle.nodes.specs.Iter.{iter, from}
 
 module _ {S : Type 0} (turn : ℕ → S → S) where
-  pub iter-none : (s : S) → s ≡ iter turn 0 s
-  unfolding iter
-  iter-none s = refl
-
   -- one more turn: t is the state after i turns, and t′ what the next turn makes of it
   pub iter-then : (i : ℕ) (s t t′ : S) → t ≡ iter turn i s → t′ ≡ turn i t → t′ ≡ iter turn (i + 1) s
   unfolding iter
   iter-then i s t t′ e f = f ∙ rw (add-one i) (ap (turn i) e)
-
-  -- after the last turn
-  pub iter-end : (i n : ℕ) (s t : S) → t ≡ iter turn i s → i ≡ n → t ≡ iter turn n s
-  iter-end i n s t e f = e ∙ ap (λ (k : ℕ). iter turn k s) f
 
   -- b turns after a turns are a + b turns
   pub iter-join : (a b : ℕ) (s : S) → iter (from a turn) b (iter turn a s) ≡ iter turn (a + b) s
@@ -45,10 +37,3 @@ pub iter-same : {S : Type 0} (f g : ℕ → S → S) (n : ℕ) (s : S) → ((i :
 unfolding iter
 iter-same f g zero s h = refl
 iter-same f g (suc n) s h = h n (omega arith) ∙ ap (g n) (iter-same f g n s (λ i b. h i (omega arith)))
-
--- an iteration seen through a function
-pub iter-through : {S T : Type 0} (f : ℕ → S → S) (g : ℕ → T → T) (e : S → T) → ((i : ℕ) (s : S) → e (f i s) ≡ g i (e s)) → (n : ℕ) (s : S)
-    → e (iter f n s) ≡ iter g n (e s)
-unfolding iter
-iter-through f g e h zero s = refl
-iter-through f g e h (suc n) s = h n (iter f n s) ∙ ap (g n) (iter-through f g e h n s)

@@ -1,6 +1,6 @@
 -- What a block run keeps, for every kind: the number, the lengths, and that the judged values are as they must be. A number message keeps them too.
 --     number-kept, samples-kept, line-kept, fits-kept    after any number of samples
---     run-long, run-number, run-fits                     after a block run
+--     run-long, run-fits                                 after a block run
 --     run-own                                            the node's cell, after its block run over the whole memory
 --     fits-part                                          the judgement of a part and of what starts there
 --     message-fits                                       after a number message
@@ -24,32 +24,21 @@ use Rattle.leaves.proofs.Patterns.{finite-float}
 use Rattle.leaves.proofs.PhaseStep.{phase-stays, phase-fits}
 use Rattle.nodes.specs.Kind.{cellSize, channelsOf, inBand}
 use Rattle.nodes.specs.Iter.{iter}
-use Rattle.nodes.specs.Rule.{Brought, State, next, leftBy, carryAfter, placeAfter, lineAfter, stateBy}
+use Rattle.nodes.specs.Rule.{Brought, State, next, leftBy, carryAfter, placeAfter, stateBy}
 use Rattle.nodes.specs.Cell.{Cell, valuesOf, cellOf, valueFits, numberFits, carryFits, placeFits, cellFits, putFrame, stepCell, runCell, runValues}
 use Rattle.nodes.specs.Node.{nodeRun}
 use Rattle.nodes.specs.declared.kind.NodeKind.{NodeKind}
 use Rattle.nodes.specs.declared.kind.NodeKind.the-variants.{Pass, Sum, Destination, Balance, Mul, Add, Delay, AllPass, OnePole, Sine}
+use Rattle.nodes.proofs.Arms.{by-line, by-carry}
+use Rattle.nodes.proofs.Unread.{line-after-long}
 use Rattle.nodes.proofs.Iterated.{iter-keeps}
-use Rattle.nodes.proofs.Cells.{samples-long, line-long, length-values, get-number}
+use Rattle.nodes.proofs.Cells.{samples-long, line-long, length-values}
 
 -- ---- the number and the lengths
 
 frame-long : (b : Bool) (l : List ℕ) (i j x y : ℕ) → length (cond b (set (set l i x) j y) (set l i x)) ≡ length l
 frame-long true l i j x y = length-set (set l i x) j y ∙ length-set l i x
 frame-long false l i j x y = length-set l i x
-
-line-after-long : (k : NodeKind) (p x y : ℕ) (l : List ℕ) → length (lineAfter k p x y l) ≡ length l
-unfolding lineAfter
-line-after-long Pass p x y l = refl
-line-after-long Sum p x y l = refl
-line-after-long Destination p x y l = refl
-line-after-long Balance p x y l = refl
-line-after-long (Mul f) p x y l = refl
-line-after-long (Add f) p x y l = refl
-line-after-long (Delay n) p x y l = length-set l p x
-line-after-long (AllPass n f) p x y l = length-set (set l p x) (n + p) y ∙ length-set l p x
-line-after-long (OnePole f) p x y l = refl
-line-after-long (Sine f) p x y l = refl
 
 -- ---- the judged values
 
@@ -101,18 +90,12 @@ stored-phase g p hg hp = rw (ofBits-toBits binary32 (phaseAfter g p) (phase-fits
 
 carry-fits : (k : NodeKind) (s : State) (y : Float) → Judged k s → carryFits k (carryAfter k (ofBits binary32 (s .number)) (s .carry) y) ≡ true
 unfolding carryAfter
-carry-fits Pass s y j = j .carry
-carry-fits Sum s y j = j .carry
-carry-fits Destination s y j = j .carry
-carry-fits Balance s y j = j .carry
-carry-fits (Mul f) s y j = j .carry
-carry-fits (Add f) s y j = j .carry
-carry-fits (Delay n) s y j = j .carry
-carry-fits (AllPass n f) s y j = j .carry
-carry-fits (OnePole f) s y j = unfold carryFits in refl
-carry-fits (Sine f) s y j =
-    unfold numberFits carryFits in
-    is-true _ (stored-phase (ofBits binary32 (s .number)) (ofBits binary32 (s .carry)) (passes _ (sym (in-band (s .number)) ∙ j .number)) (passes _ (j .carry)))
+carry-fits k s y =
+    by-carry (λ j. Judged j s → carryFits j (carryAfter j (ofBits binary32 (s .number)) (s .carry) y) ≡ true)
+    (λ j. j .carry, λ j. j .carry, λ j. j .carry, λ j. j .carry, λ f j. j .carry, λ f j. j .carry, λ n j. j .carry, λ n f j. j .carry)
+    (λ f j. unfold carryFits in refl)
+    (λ f j. unfold numberFits carryFits in
+    is-true _ (stored-phase (ofBits binary32 (s .number)) (ofBits binary32 (s .carry)) (passes _ (sym (in-band (s .number)) ∙ j .number)) (passes _ (j .carry)))) k
 
 next-below : (n p : ℕ) → ltb p n ≡ true → ltb (next n p) n ≡ true
 next-below n p h = go (eqb (suc p) n) refl
@@ -123,16 +106,9 @@ next-below n p h = go (eqb (suc p) n) refl
 
 place-fits : (k : NodeKind) (p : ℕ) → placeFits k p ≡ true → placeFits k (placeAfter k p) ≡ true
 unfolding placeAfter placeFits
-place-fits Pass p h = h
-place-fits Sum p h = h
-place-fits Destination p h = h
-place-fits Balance p h = h
-place-fits (Mul f) p h = h
-place-fits (Add f) p h = h
-place-fits (Delay n) p h = next-below n p h
-place-fits (AllPass n f) p h = next-below n p h
-place-fits (OnePole f) p h = h
-place-fits (Sine f) p h = h
+place-fits k p =
+    by-line (λ j. placeFits j p ≡ true → placeFits j (placeAfter j p) ≡ true)
+    (λ h. h, λ h. h, λ h. h, λ h. h, λ f h. h, λ f h. h, λ f h. h, λ f h. h) (λ n. next-below n p) (λ n f. next-below n p) k
 
 -- ---- after any number of samples
 
@@ -176,10 +152,6 @@ module _ (k : NodeKind) (N : ℕ) (bs : ℕ → Brought) where
   run-long ws long =
       length-values (runCell k N bs (cellOf N k ws))
       ∙ omega (arith, samples-kept N (cellOf N k ws), line-kept N (cellOf N k ws), samples-long N k ws long, line-long N k ws long)
-
-  pub run-number : (ws : List ℕ) → getD (runValues k N bs ws) 0 0 ≡ getD ws 0 0
-  unfolding runCell cellOf
-  run-number ws = get-number (runCell k N bs (cellOf N k ws)) ∙ number-kept N (cellOf N k ws)
 
   pub run-fits : (ws : List ℕ) → cellFits k ws ≡ true → cellFits k (runValues k N bs ws) ≡ true
   unfolding runCell

@@ -1,3 +1,5 @@
+pub mod Answers
+pub mod Arms
 pub mod Iterated
 pub mod Filled
 pub mod Cells
@@ -11,8 +13,6 @@ pub mod Fresh
 pub mod Carried
 pub mod Histories
 pub mod HistoryFrames
-pub mod HistoryBlocks
 pub mod HistoryRules
-pub mod HistoryFits
 pub mod Rings
 pub mod Unread

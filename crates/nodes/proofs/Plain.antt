@@ -13,8 +13,9 @@ use native.Mathlib.Omega.{arith}
 use lib.ListN.{length, set, length-set}
 use lib.Seq.{set-comm, set-getD}
 use lib.Ieee.{Float, binary32, ofBits, toBits, add, mul}
+use Rattle.leaves.specs.Words.{words, length-words}
 use Rattle.leaves.specs.Floats.{floatAt}
-use Rattle.nodes.specs.Kind.{channelsOf, cellSize}
+use Rattle.nodes.specs.Kind.{channelsOf, lineOf, cellSize}
 use Rattle.nodes.specs.Iter.{iter}
 use Rattle.nodes.specs.Rule.{Brought, State, first, operand, keeps, leftOf, leftBy, rightOf, carryAfter, placeAfter, lineAfter, sampleBy, stateBy}
 use Rattle.nodes.specs.Cell.{Cell, valuesOf, cellOf, frameAt, putFrame, stepCell, runCell, runValues}
@@ -124,29 +125,34 @@ module _ (k : NodeKind) (plain : Plain k) (N : ℕ) (bs : ℕ → Brought) (ws :
 pub record Operator (op : Float → Float → Float) (k : NodeKind) : Type 0 where
   pub plain : Plain k
   pub mono : channelsOf k ≡ 1
+  pub lineless : lineOf k ≡ 0
   pub goes : (b : Brought) → keeps k b ≡ false
   pub rule : (s : State) (b : Brought) → leftBy k s b ≡ op (first b) (operand (ofBits binary32 (s .number)) b)
 
 pub mul-operator : (f : Float) → Operator (mul binary32) (Mul f)
 unfolding stateBy carryAfter placeAfter lineAfter keeps leftOf
-mul-operator f = record { plain = λ s b. refl; mono = refl; goes = λ b. refl; rule = λ s b. refl }
+mul-operator f = record { plain = λ s b. refl; mono = refl; lineless = refl; goes = λ b. refl; rule = λ s b. refl }
 
 pub add-operator : (f : Float) → Operator (add binary32) (Add f)
 unfolding stateBy carryAfter placeAfter lineAfter keeps leftOf
-add-operator f = record { plain = λ s b. refl; mono = refl; goes = λ b. refl; rule = λ s b. refl }
+add-operator f = record { plain = λ s b. refl; mono = refl; lineless = refl; goes = λ b. refl; rule = λ s b. refl }
 
--- from the values ws of a cell the loop leaves vs
-module _ {op : Float → Float → Float} {k : NodeKind} (o : Operator op k) (N : ℕ) (two : Bool) (x m : List Float) (ws vs : List ℕ) (long : length ws ≡ cellSize N k) where
-  pub operator-two : two ≡ true → vs ≡ stored (opSources op x m) 3 N ws → vs ≡ runValues k N (given two x m) ws
+-- of a cell that is lent whole the loop leaves vs
+module _ {op : Float → Float → Float} {k : NodeKind} (o : Operator op k) (N : ℕ) (two : Bool) (x m : List Float) (cell vs : List ℕ) (whole : length cell ≡ 4 * (3 + N)) where
+  cell-long : length (words cell) ≡ cellSize N k
+  cell-long = omega (arith, length-words cell, ap (λ (j : ℕ). N * j) (o .mono), o .lineless)
+
+  pub operator-two : two ≡ true → vs ≡ stored (opSources op x m) 3 N (words cell) → vs ≡ runValues k N (given two x m) (words cell)
   operator-two is e =
       e
-      ∙ stored-mono k (o .plain) N (given true x m) ws long (opSources op x m) (o .mono) (λ i h. o .goes _) (λ i h. o .rule _ _)
-      ∙ ap (λ (b : Bool). runValues k N (given b x m) ws) (sym is)
+      ∙ stored-mono k (o .plain) N (given true x m) (words cell) cell-long (opSources op x m) (o .mono) (λ i h. o .goes _) (λ i h. o .rule _ _)
+      ∙ ap (λ (b : Bool). runValues k N (given b x m) (words cell)) (sym is)
 
-  pub operator-one : (g : Float) → two ≡ false → g ≡ floatAt ws 0 → vs ≡ stored (opNumber op x g) 3 N ws → vs ≡ runValues k N (given two x m) ws
+  pub operator-one : {g : Float} → two ≡ false → g ≡ floatAt (words cell) 0 → vs ≡ stored (opNumber op x g) 3 N (words cell)
+      → vs ≡ runValues k N (given two x m) (words cell)
   unfolding cellOf
-  operator-one g is number e =
+  operator-one is number e =
       e
-      ∙ ap (λ (f : Float). stored (opNumber op x f) 3 N ws) number
-      ∙ stored-mono k (o .plain) N (given false x m) ws long (opNumber op x (floatAt ws 0)) (o .mono) (λ i h. o .goes _) (λ i h. o .rule _ _)
-      ∙ ap (λ (b : Bool). runValues k N (given b x m) ws) (sym is)
+      ∙ ap (λ (f : Float). stored (opNumber op x f) 3 N (words cell)) number
+      ∙ stored-mono k (o .plain) N (given false x m) (words cell) cell-long (opNumber op x (floatAt (words cell) 0)) (o .mono) (λ i h. o .goes _) (λ i h. o .rule _ _)
+      ∙ ap (λ (b : Bool). runValues k N (given b x m) (words cell)) (sym is)

@@ -2,7 +2,7 @@
 --     Ringed                        a type with one channel and a ring of n places: delay-ring, all-pass-ring
 --     Held                          what a loop knows of the cell midway
 --     stretch-none, stretch-then    a stretch's loop, for any turn that is the rule's on a cell that is held
---     Reached, reached-none, reached-then, reached-end    a block's loop over stretches
+--     Going, going-none, going-number, going-then, going-end    a block's loop over stretches
 --     delay-reads, all-pass-reads   what a type gives, from what it reads of its line
 --     delay-turn, all-pass-then     the stores of one sample are the rule's
 -- Assumes nothing.
@@ -14,21 +14,23 @@ use native.Mathlib.Nat.{mod-eq-of-lt, mod-self, mod-add-mod, add-assoc}
 use native.Mathlib.Numerals.{add-one}
 use native.Mathlib.Omega.{arith}
 use lib.Dec.{eqb, ltb}
-use lib.ListN.{length, getD, set, take, drop, length-set}
+use lib.ListN.{length, getD, set, take, drop}
 use lib.Seq.{take-at, drop-at}
-use lib.Ieee.{Float, binary32, ofBits, toBits}
+use lib.Ieee.{Float, nan, binary32, ofBits, toBits}
 use borrow.Author.Tests.{lt-ltb, le-ltb, eq-eqb, ne-eqb, eqb-true, eqb-false, ltb-true, ltb-false}
+use Rattle.leaves.specs.Words.{words, length-words}
 use Rattle.leaves.specs.Floats.{floatAt}
 use Rattle.leaves.specs.Floors.{floorOf}
 use Rattle.leaves.specs.Position.{positionOf, restOf}
 use Rattle.nodes.specs.Kind.{channelsOf, cellSize}
 use Rattle.nodes.specs.Iter.{iter, from}
-use Rattle.nodes.specs.Rule.{Brought, Frame, State, first, two, between, leftBy, leftOf, get, xLine, yLine, tap, allPass, next, placeAfter, lineAfter, carryAfter, keeps, sampleBy, stateBy}
-use Rattle.nodes.specs.Cell.{Cell, valuesOf, cellOf, frameAt, putFrame, stepCell, runCell, runValues}
+use Rattle.nodes.specs.Rule.{Brought, State, first, two, between, leftBy, leftOf, get, xLine, yLine, tap, allPass, next, placeAfter, lineAfter, carryAfter, keeps, sampleBy, stateBy}
+use Rattle.nodes.specs.Cell.{Cell, valuesOf, cellOf, putFrame, stepCell, runCell, runValues}
 use Rattle.nodes.specs.Ring.{stretchOf, wrapOf, atPlace, stretchValues}
 use Rattle.nodes.specs.declared.kind.NodeKind.{NodeKind}
 use Rattle.nodes.specs.declared.kind.NodeKind.the-variants.{Delay, AllPass}
 use Rattle.nodes.proofs.Iterated.{iter-join}
+use Rattle.nodes.proofs.Kept.{step-samples}
 use Rattle.nodes.proofs.Cells.{values-cell, samples-long, set-place, set-line, set-sample, get-number, get-place, get-line}
 
 -- ---- the types
@@ -67,12 +69,15 @@ wrap-below n p h = go (ltb p n) refl
     go false e = h
 
 -- a stretch goes on
-pub stretch-some : (place n left : ℕ) → place < n → 0 < left → 0 < stretchOf place n left
+stretch-some : (place n left : ℕ) → place < n → 0 < left → 0 < stretchOf place n left
 stretch-some place n left a b = go (ltb (n - place) left)
   where
     go : (t : Bool) → 0 < cond t (n - place) left
     go true = omega arith
     go false = b
+
+pub stretch-less : (place n size done count : ℕ) → place < n → done < size → count ≡ stretchOf place n (size - done) → size - (done + count) < size - done
+stretch-less place n size done count a b e = omega (arith, stretch-some place n (size - done) a (omega arith))
 
 next-wrap : (n p : ℕ) → p < n → next n p ≡ wrapOf (suc p) n
 next-wrap n p h = go (eqb (suc p) n) refl
@@ -88,14 +93,6 @@ pub record Held (N w p : ℕ) (c : Cell) : Type 0 where
   pub samples : length (c .samples) ≡ N
   pub number : c .state .number ≡ w
   pub place : c .state .place ≡ p
-
-put-long : (channels N i : ℕ) (f : Frame) (l : List ℕ) → length (putFrame channels N i f l) ≡ length l
-unfolding putFrame
-put-long channels N i f l = go (eqb channels 2)
-  where
-    go : (b : Bool) → length (cond b (set (set l i (f .left)) (N + i) (f .right)) (set l i (f .left))) ≡ length l
-    go true = length-set (set l i (f .left)) (N + i) (f .right) ∙ length-set l i (f .left)
-    go false = length-set l i (f .left)
 
 -- the cell that stands in a cell's values
 cell-values : (N : ℕ) (k : NodeKind) (c : Cell) → length (c .samples) ≡ N * channelsOf k → cellOf N k (valuesOf c) ≡ c
@@ -128,7 +125,7 @@ module _ (k : NodeKind) (n : ℕ) (r : Ringed k n) (N : ℕ) (bs : ℕ → Broug
   held-step : (w p i : ℕ) (c : Cell) → Held N w p c → Held N w (next n p) (stepCell k N bs i c)
   unfolding stepCell stateBy
   held-step w p i c h = record {
-    samples = put-long (channelsOf k) N i (sampleBy k (c .state) (frameAt N i (c .samples)) (bs i)) (c .samples) ∙ h .samples;
+    samples = step-samples k N bs i c ∙ h .samples;
     number = h .number;
     place = r .moves (c .state .place) ∙ ap (next n) (h .place);
   }
@@ -173,7 +170,7 @@ pub record Reached (k : NodeKind) (N : ℕ) (bs : ℕ → Brought) (ws : List �
   pub held : Held N (getD ws 0 0) p (iter (stepCell k N bs) done (cellOf N k ws))
 
 module _ (k : NodeKind) (n : ℕ) (r : Ringed k n) (N : ℕ) (bs : ℕ → Brought) (ws : List ℕ) where
-  pub reached-none : (p : ℕ) → p ≡ getD ws 2 0 → length ws ≡ cellSize N k → Reached k N bs ws 0 p ws
+  reached-none : (p : ℕ) → p ≡ getD ws 2 0 → length ws ≡ cellSize N k → Reached k N bs ws 0 p ws
   unfolding iter cellOf
   reached-none p e long = record {
     values = sym (values-cell N k ws long);
@@ -181,10 +178,10 @@ module _ (k : NodeKind) (n : ℕ) (r : Ringed k n) (N : ℕ) (bs : ℕ → Broug
   }
 
   module _ (done p : ℕ) (vs : List ℕ) (h : Reached k N bs ws done p vs) where
-    pub reached-number : getD vs 0 0 ≡ getD ws 0 0
+    reached-number : getD vs 0 0 ≡ getD ws 0 0
     reached-number = ap (λ (l : List ℕ). getD l 0 0) (h .values) ∙ get-number _ ∙ h .held .number
 
-    pub reached-then : (count p′ : ℕ) (vs′ : List ℕ) → vs′ ≡ stretchValues k N bs p done count vs → p′ ≡ wrapOf (p + count) n → p < n → p + count ≤ n
+    reached-then : (count p′ : ℕ) (vs′ : List ℕ) → vs′ ≡ stretchValues k N bs p done count vs → p′ ≡ wrapOf (p + count) n → p < n → p + count ≤ n
         → Reached k N bs ws (done + count) p′ vs′
     unfolding stretchValues
     reached-then count p′ vs′ e e-p a b =
@@ -205,7 +202,7 @@ module _ (k : NodeKind) (n : ℕ) (r : Ringed k n) (N : ℕ) (bs : ℕ → Broug
         }
 
     -- the place is stored after the last sample
-    pub reached-end : (vs′ : List ℕ) → vs′ ≡ set vs 2 p → done ≡ N → vs′ ≡ runValues k N bs ws
+    reached-end : (vs′ : List ℕ) → vs′ ≡ set vs 2 p → done ≡ N → vs′ ≡ runValues k N bs ws
     unfolding runCell
     reached-end vs′ e all =
         let c : Cell = iter (stepCell k N bs) done (cellOf N k ws) in
@@ -214,6 +211,47 @@ module _ (k : NodeKind) (n : ℕ) (r : Ringed k n) (N : ℕ) (bs : ℕ → Broug
         ∙ set-place (atPlace (getD ws 2 0) c) p
         ∙ ap (λ (j : ℕ). valuesOf (atPlace j c)) (sym (h .held .place))
         ∙ ap (λ (j : ℕ). valuesOf (iter (stepCell k N bs) j (cellOf N k ws))) all
+
+-- a block's loop over a cell, for a type whose float may be any: after `done` of N samples the ring of n is at place p
+pub record Going (k : Float → NodeKind) (n N : ℕ) (bs : ℕ → Brought) (cell₀ : List ℕ) (done p : ℕ) (cell : List ℕ) : Type 0 where
+  pub ringed : (f : Float) → Ringed (k f) n
+  pub turns : done ≤ N
+  pub below : p < n
+  pub long : length cell ≡ length cell₀
+  pub reached : (f : Float) → Reached (k f) N bs (words cell₀) done p (words cell)
+
+module _ {k : Float → NodeKind} {n N : ℕ} {bs : ℕ → Brought} {cell₀ : List ℕ} where
+  pub going-none : {p : ℕ} → ((f : Float) → Ringed (k f) n) → ((f : Float) → length cell₀ ≡ 4 * cellSize N (k f))
+      → p ≡ getD (words cell₀) 2 0 → getD (words cell₀) 2 0 < n → Going k n N bs cell₀ 0 p cell₀
+  going-none {p} ringed whole e below = record {
+    ringed = ringed;
+    turns = omega arith;
+    below = omega arith;
+    long = refl;
+    reached = λ f. reached-none (k f) n (ringed f) N bs (words cell₀) p e (omega (arith, length-words cell₀, whole f));
+  }
+
+  module _ {done p : ℕ} {cell : List ℕ} (h : Going k n N bs cell₀ done p cell) where
+    -- the number stays
+    pub going-number : {g : Float} → g ≡ floatAt (words cell₀) 0 → g ≡ floatAt (words cell) 0
+    going-number e = e ∙ ap (ofBits binary32) (sym (reached-number (k nan) n (h .ringed nan) N bs (words cell₀) done p (words cell) (h .reached nan)))
+
+    -- a stretch more
+    pub going-then : (count : ℕ) {p′ : ℕ} {cell′ : List ℕ} → done + count ≤ N → p + count ≤ n → length cell′ ≡ length cell
+        → ((f : Float) → words cell′ ≡ stretchValues (k f) N bs p done count (words cell)) → p′ ≡ wrapOf (p + count) n
+        → Going k n N bs cell₀ (done + count) p′ cell′
+    going-then count {p′} {cell′} most fits long e e-p = record {
+      ringed = h .ringed;
+      turns = most;
+      below = omega (arith, wrap-below n (p + count) (omega arith));
+      long = long ∙ h .long;
+      reached = λ f. reached-then (k f) n (h .ringed f) N bs (words cell₀) done p (words cell) (h .reached f) count p′ (words cell′) (e f) e-p (h .below) fits;
+    }
+
+    -- the place is stored after the last sample
+    pub going-end : {vs : List ℕ} → N ≤ done → vs ≡ set (words cell) 2 p → (f : Float) → vs ≡ runValues (k f) N bs (words cell₀)
+    going-end {vs} all e f =
+        reached-end (k f) n (h .ringed f) N bs (words cell₀) done p (words cell) (h .reached f) vs e (omega arith)
 
 -- ---- one sample
 

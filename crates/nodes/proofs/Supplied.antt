@@ -2,11 +2,11 @@
 -- destination and balance run on the blocks as on what the wires bring (`Supplies`).
 -- Assumes nothing.
 use mathlib.Core.Path.{_≡_, refl, sym, ap, subst, _∙_}
-use mathlib.Core.List.{List}
-use Prim.Native.Nat.{ℕ, _+_, _≤_, _<_}
+use mathlib.Core.List.{List, [], _∷_}
+use Prim.Native.Nat.{ℕ, _+_, _*_, _≤_, _<_}
 use native.Mathlib.Omega.{arith}
 use borrow.Author.Tests.{ltb-true, leb-true, eq-eqb, ne-eqb}
-use lib.Dec.{leb, T}
+use lib.Dec.{leb, ltb, T}
 use lib.ListN.{length, getD}
 use lib.Ieee.{Float}
 use Rattle.leaves.specs.Words.{words, length-words}
@@ -15,10 +15,12 @@ use Rattle.leaves.specs.Floors.{whole, within}
 use Rattle.nodes.specs.Kind.{fewest, most, cellSize}
 use Rattle.nodes.specs.Rule.{Brought, keeps, leftOf, rightOf, carryAfter, placeAfter, lineAfter, stateBy}
 use Rattle.nodes.specs.Cell.{cellOf, numberFits, carryFits, placeFits, runValues}
-use Rattle.nodes.specs.Block.{sample, putBlock}
-use Rattle.nodes.specs.Node.{Supplies, CellReady}
+use Rattle.nodes.specs.Block.{sample, putBlock, alone, given, nothing}
+use Rattle.nodes.specs.Node.{Operands, Supplies, CellReady}
 use Rattle.nodes.specs.declared.kind.NodeKind.{NodeKind}
 use Rattle.nodes.specs.declared.kind.NodeKind.the-variants.{Pass, Sum, Destination, Balance, Delay, AllPass, Sine}
+use Rattle.nodes.proofs.Arms.{Among, arm}
+use Rattle.nodes.proofs.Alike.{ReadsOperands, run-alike, alike-given, alike-alone, alike-nothing}
 use Rattle.nodes.proofs.Kept.{Judged, both, fits-judged, in-band}
 use Rattle.nodes.proofs.Plain.{stored-mono, stored-stereo, block-kept}
 
@@ -37,6 +39,10 @@ module _ {cell : List ℕ} {k : NodeKind} {N n : ℕ} (ready : CellReady cell k 
 
   judged : Judged k (cellOf N k (words cell) .state)
   judged = fits-judged k N (words cell) (ready .judged)
+
+-- the room of two channels
+pub stereo-whole : {cell : List ℕ} {k : NodeKind} {N n : ℕ} → Among (2 ∷ 3 ∷ []) k → CellReady cell k N n → length cell ≡ 4 * (3 + N * 2)
+stereo-whole {cell} {k} {N} {n} o ready = arm (λ j. CellReady cell j N n → length cell ≡ 4 * (3 + N * 2)) (2 ∷ 3 ∷ []) k o (λ r. omega arith, λ r. omega arith) ready
 
 -- the place of a ring is below its length; a frequency and a phase lie within their ranges
 module _ {cell : List ℕ} {N n : ℕ} where
@@ -64,21 +70,26 @@ module _ {cell : List ℕ} {N n : ℕ} {x m : List Float} {vs : List ℕ} where
   sum-runs ready e bs supply =
       e ∙ stored-mono Sum (λ s b. refl) N bs (words cell) (cell-long ready) (sample x) refl (λ i h. refl) (supply .gives)
 
-  pub destination-runs : {us : List ℕ} → CellReady cell Destination N n → us ≡ putBlock x 3 N (words cell) → vs ≡ putBlock m (3 + N) N us → Runs cell N n x m vs Destination
+  -- the two stereo types
+  pub stereo-runs : {k : NodeKind} {us : List ℕ} → Among (2 ∷ 3 ∷ []) k → CellReady cell k N n → us ≡ putBlock x 3 N (words cell) → vs ≡ putBlock m (3 + N) N us → Runs cell N n x m vs k
   unfolding keeps leftOf rightOf stateBy carryAfter placeAfter lineAfter
-  destination-runs ready d e bs supply =
-      e
-      ∙ ap (putBlock m (3 + N) N) d
-      ∙ stored-stereo Destination (λ s b. refl) N bs (words cell) (cell-long ready) (sample x) (sample m) refl (λ i h. refl) (λ i h. supply .gives i h .0) (λ i h. supply .gives i h .1)
+  stereo-runs {k} o ready d e = arm (λ j. CellReady cell j N n → Runs cell N n x m vs j) (2 ∷ 3 ∷ []) k o (destination, balance) ready
+    where
+      both-put : vs ≡ putBlock m (3 + N) N (putBlock x 3 N (words cell))
+      both-put = e ∙ ap (putBlock m (3 + N) N) d
 
-  pub balance-runs : {us : List ℕ} → CellReady cell Balance N n → us ≡ putBlock x 3 N (words cell) → vs ≡ putBlock m (3 + N) N us → Runs cell N n x m vs Balance
-  unfolding keeps leftOf rightOf stateBy carryAfter placeAfter lineAfter
-  balance-runs ready d e bs supply =
-      let two : 2 ≤ n = at-least ready in
-      e
-      ∙ ap (putBlock m (3 + N) N) d
-      ∙ stored-stereo Balance (λ s b. refl) N bs (words cell) (cell-long ready) (sample x) (sample m) refl (λ i h. refl)
-      (λ i h. supply .gives i h .0 (omega arith)) (λ i h. supply .gives i h .1 (omega arith))
+      destination : CellReady cell Destination N n → Runs cell N n x m vs Destination
+      destination r bs supply =
+          both-put
+          ∙ stored-stereo Destination (λ s b. refl) N bs (words cell) (cell-long r) (sample x) (sample m) refl (λ i h. refl)
+          (λ i h. supply .gives i h .0) (λ i h. supply .gives i h .1)
+
+      balance : CellReady cell Balance N n → Runs cell N n x m vs Balance
+      balance r bs supply =
+          let two : 2 ≤ n = at-least r in
+          both-put
+          ∙ stored-stereo Balance (λ s b. refl) N bs (words cell) (cell-long r) (sample x) (sample m) refl (λ i h. refl)
+          (λ i h. supply .gives i h .0 (omega arith)) (λ i h. supply .gives i h .1 (omega arith))
 
   -- with a source, and with none
   pub pass-runs : CellReady cell Pass N n → 0 < n → vs ≡ putBlock x 3 N (words cell) → Runs cell N n x m vs Pass
@@ -92,3 +103,24 @@ module _ {cell : List ℕ} {N n : ℕ} {x m : List Float} {vs : List ℕ} where
   unfolding keeps stateBy carryAfter placeAfter lineAfter
   pass-kept ready none e bs supply =
       e ∙ block-kept Pass (λ s b. refl) N bs (words cell) (cell-long ready) refl (λ i h. eq-eqb _ _ (supply .counted i h ∙ none))
+
+operands : {k : NodeKind} {N n : ℕ} {x m : List Float} {bs : ℕ → Brought} → ReadsOperands k → Supplies k n N x m bs
+    → (i : ℕ) → i < N → Operands n (bs i) (sample x i) (sample m i)
+operands {n = n} {x = x} {m = m} {bs = bs} r supply i h = r .asks n (bs i) (sample x i) (sample m i) (supply .gives i h)
+
+-- a type that reads its operands runs on their blocks as on what the wires bring
+module _ {cell : List ℕ} {k : NodeKind} {N n : ℕ} {x m : List Float} {vs : List ℕ} (r : ReadsOperands k) (ready : CellReady cell k N n) where
+  pub given-runs : 0 < fewest k → vs ≡ runValues k N (given (ltb 1 n) x m) (words cell) → Runs cell N n x m vs k
+  given-runs some e bs supply =
+      e
+      ∙ run-alike r N (given (ltb 1 n) x m) bs (words cell) (λ i h. alike-given (bs i) n i x m (supply .counted i h) (operands r supply i h) (omega (arith, at-least ready)))
+
+  pub alone-runs : fewest k ≡ 1 → most k ≡ 1 → vs ≡ runValues k N (alone x) (words cell) → Runs cell N n x m vs k
+  alone-runs least most-one e bs supply =
+      e
+      ∙ run-alike r N (alone x) bs (words cell)
+      (λ i h. alike-alone (bs i) n i x m (supply .counted i h) (operands r supply i h) (omega (arith, at-least ready, at-most ready)))
+
+  pub nothing-runs : most k ≡ 0 → vs ≡ runValues k N nothing (words cell) → Runs cell N n x m vs k
+  nothing-runs none e bs supply =
+      e ∙ run-alike r N nothing bs (words cell) (λ i h. alike-nothing (bs i) n i x m (supply .counted i h) (operands r supply i h) (omega (arith, at-most ready)))

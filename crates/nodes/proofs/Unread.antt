@@ -1,6 +1,5 @@
 -- What a rule does not read: the second wire's source, unless there are two sources; and what lines keep.
 --     unread                           what wires bring, with nothing for the second source unless there are two
---     same-unread                      two that agree in what is read
 --     sample-unread, state-unread      the rule on what memory holds reads no more
 --     heard-sample-unread, heard-unread    nor does the rule on what the reading knows
 --     line-after-long                  a line keeps its length
@@ -20,20 +19,11 @@ use Rattle.nodes.specs.Kind.{sourcesFit}
 use Rattle.nodes.specs.Rule.{Brought, Frame, State, first, two, allPass, between, tap, leftOf, rightOf, keeps, carryAfter, lineAfter, xLine, yLine, leftBy, sampleBy, stateBy}
 use Rattle.nodes.specs.History.{Heard, leftHeard, sampleHeard, heardAfter}
 use Rattle.nodes.specs.declared.kind.NodeKind.{NodeKind}
+use Rattle.nodes.proofs.Arms.{kinds, by-line}
 use Rattle.nodes.specs.declared.kind.NodeKind.the-variants.{Pass, Sum, Destination, Balance, Mul, Add, Delay, AllPass, OnePole, Sine}
 
 abbrev pub unread : Brought → Brought
 unread b = record { left = b .left; right = b .right; second = cond (two b) (b .second) nan }
-
-pub same-unread : (b d : Brought) → b .left ≡ d .left → b .right ≡ d .right → (two b ≡ true → b .second ≡ d .second) → unread b ≡ unread d
-same-unread b d l r s = λ i. record { left = l i; right = r i; second = second i }
-  where
-    go : (q : Bool) → two b ≡ q → cond q (b .second) nan ≡ cond q (d .second) nan
-    go true e = s e
-    go false e = refl
-
-    second : cond (two b) (b .second) nan ≡ cond (two d) (d .second) nan
-    second = go (two b) refl ∙ ap (λ (x : List Float). cond (two (record { left = x; right = b .right; second = nan })) (d .second) nan) l
 
 -- what is used only where there are two sources
 inner : {A : Type 0} (q : Bool) (f : Float → A) (s : Float) (g : A) → cond q (f s) g ≡ cond q (f (cond q s nan)) g
@@ -62,16 +52,8 @@ left-unread (Sine f) g c x y b = refl
 
 keeps-unread : (k : NodeKind) (b : Brought) → keeps k b ≡ keeps k (unread b)
 unfolding keeps
-keeps-unread Pass b = refl
-keeps-unread Sum b = refl
-keeps-unread Destination b = refl
-keeps-unread Balance b = refl
-keeps-unread (Mul f) b = refl
-keeps-unread (Add f) b = refl
-keeps-unread (Delay n) b = refl
-keeps-unread (AllPass n f) b = refl
-keeps-unread (OnePole f) b = refl
-keeps-unread (Sine f) b = refl
+keeps-unread k b =
+    kinds (λ j. keeps j b ≡ keeps j (unread b)) (refl, refl, refl, refl, λ f. refl, λ f. refl, λ n. refl, λ n f. refl, λ f. refl, λ f. refl) k
 
 -- the one type that always reads it has two sources
 balance-two : (b : Brought) → sourcesFit Balance (length (b .left)) ≡ true → b .second ≡ cond (two b) (b .second) nan
@@ -141,13 +123,6 @@ module _ (k : NodeKind) (b : Brought) where
 
 pub line-after-long : (k : NodeKind) (p x y : ℕ) (l : List ℕ) → length (lineAfter k p x y l) ≡ length l
 unfolding lineAfter
-line-after-long Pass p x y l = refl
-line-after-long Sum p x y l = refl
-line-after-long Destination p x y l = refl
-line-after-long Balance p x y l = refl
-line-after-long (Mul f) p x y l = refl
-line-after-long (Add f) p x y l = refl
-line-after-long (Delay n) p x y l = length-set l p x
-line-after-long (AllPass n f) p x y l = length-set (set l p x) (n + p) y ∙ length-set l p x
-line-after-long (OnePole f) p x y l = refl
-line-after-long (Sine f) p x y l = refl
+line-after-long k p x y l =
+    by-line (λ j. length (lineAfter j p x y l) ≡ length l) (refl, refl, refl, refl, λ f. refl, λ f. refl, λ f. refl, λ f. refl)
+    (λ n. length-set l p x) (λ n f. length-set (set l p x) (n + p) y ∙ length-set l p x) k

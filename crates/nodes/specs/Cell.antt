@@ -1,8 +1,8 @@
 -- A node's cell (document 01, "Memory"), and a block run over it: the rule, sample by sample. Definitions only.
 use Prim.Native.Nat.{ℕ, _+_, _*_}
 use mathlib.Core.Bool.{Bool, true, false, cond, _&&_}
-use mathlib.Core.List.{List, [], _∷_, _++_}
-use lib.ListN.{length, getD, set, take, drop, replicate}
+use mathlib.Core.List.{List, _∷_, _++_}
+use lib.ListN.{getD, set, take, drop, replicate}
 use lib.Dec.{eqb, ltb}
 use lib.Ieee.{Float, binary32, ofBits, toBits}
 use Rattle.leaves.specs.Floors.{whole, zeroF, within, finiteF}

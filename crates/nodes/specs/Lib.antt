@@ -6,6 +6,4 @@ pub mod Block
 pub mod Ring
 pub mod Node
 pub mod History
-pub mod HistoryBlock
 pub mod HistoryRules
-pub mod HistoryFits

@@ -2,7 +2,7 @@
 -- state. Floats are IEEE 754 singles, one rounding for each operation, in the order written; a sample is kept as its pattern, a NaN's as
 -- 7FC00000. Definitions only.
 use Prim.Native.Nat.{ℕ, suc, _+_, _%_}
-use mathlib.Core.Bool.{Bool, true, false, cond}
+use mathlib.Core.Bool.{Bool, false, cond}
 use mathlib.Core.List.{List, [], _∷_}
 use lib.ListN.{length, getD, set}
 use lib.Dec.{eqb, ltb}

@@ -16,16 +16,11 @@ pub fn number_of(kind: NodeKind) -> f32
     ensures { λ r. ⌜ r ≡ numberOf kind ⌝ }
 {
     match kind {
-        NodeKind::Pass => 0.0,
-        NodeKind::Sum => 0.0,
-        NodeKind::Destination => 0.0,
-        NodeKind::Balance => 0.0,
         NodeKind::Mul(f) => f,
         NodeKind::Add(f) => f,
-        NodeKind::Delay(_n) => 0.0,
-        NodeKind::AllPass(_n, f) => f,
-        NodeKind::OnePole(_f) => 0.0,
+        NodeKind::AllPass(_, f) => f,
         NodeKind::Sine(f) => f,
+        _ => 0.0,
     }
 }
 
@@ -34,16 +29,8 @@ pub fn takes_number(kind: NodeKind) -> bool
     ensures { λ r. ⌜ r ≡ takesNumber kind ⌝ }
 {
     match kind {
-        NodeKind::Pass => false,
-        NodeKind::Sum => false,
-        NodeKind::Destination => false,
-        NodeKind::Balance => false,
-        NodeKind::Mul(_f) => true,
-        NodeKind::Add(_f) => true,
-        NodeKind::Delay(_n) => false,
-        NodeKind::AllPass(_n, _f) => true,
-        NodeKind::OnePole(_f) => false,
-        NodeKind::Sine(_f) => true,
+        NodeKind::Mul(_) | NodeKind::Add(_) | NodeKind::AllPass(_, _) | NodeKind::Sine(_) => true,
+        _ => false,
     }
 }
 
@@ -52,16 +39,9 @@ pub fn value_fits(kind: NodeKind, x: f32) -> bool
     ensures { λ r. ⌜ r ≡ valueFits kind x ⌝ }
 {
     match kind {
-        NodeKind::Pass => false,
-        NodeKind::Sum => false,
-        NodeKind::Destination => false,
-        NodeKind::Balance => false,
-        NodeKind::Mul(_f) => finite(x),
-        NodeKind::Add(_f) => finite(x),
-        NodeKind::Delay(_n) => false,
-        NodeKind::AllPass(_n, _f) => finite(x),
-        NodeKind::OnePole(_f) => false,
-        NodeKind::Sine(_f) => within(x, 44100.0),
+        NodeKind::Mul(_) | NodeKind::Add(_) | NodeKind::AllPass(_, _) => finite(x),
+        NodeKind::Sine(_) => within(x, 44100.0),
+        _ => false,
     }
 }
 
@@ -83,16 +63,9 @@ pub fn number_fits(kind: NodeKind, w: u32) -> bool
     ensures { λ r. ⌜ r ≡ numberFits kind w ⌝ }
 {
     match kind {
-        NodeKind::Pass => w == 0,
-        NodeKind::Sum => w == 0,
-        NodeKind::Destination => w == 0,
-        NodeKind::Balance => w == 0,
-        NodeKind::Mul(_f) => finite_bits(w),
-        NodeKind::Add(_f) => finite_bits(w),
-        NodeKind::Delay(_n) => w == 0,
-        NodeKind::AllPass(_n, _f) => finite_bits(w),
-        NodeKind::OnePole(_f) => w == 0,
-        NodeKind::Sine(_f) => in_band(w),
+        NodeKind::Mul(_) | NodeKind::Add(_) | NodeKind::AllPass(_, _) => finite_bits(w),
+        NodeKind::Sine(_) => in_band(w),
+        _ => w == 0,
     }
 }
 
@@ -101,16 +74,9 @@ pub fn carry_fits(kind: NodeKind, w: u32) -> bool
     ensures { λ r. ⌜ r ≡ carryFits kind w ⌝ }
 {
     match kind {
-        NodeKind::Pass => w == 0,
-        NodeKind::Sum => w == 0,
-        NodeKind::Destination => w == 0,
-        NodeKind::Balance => w == 0,
-        NodeKind::Mul(_f) => w == 0,
-        NodeKind::Add(_f) => w == 0,
-        NodeKind::Delay(_n) => w == 0,
-        NodeKind::AllPass(_n, _f) => w == 0,
-        NodeKind::OnePole(_f) => true,
-        NodeKind::Sine(_f) => within(of_bits(w), 1.0),
+        NodeKind::OnePole(_) => true,
+        NodeKind::Sine(_) => within(of_bits(w), 1.0),
+        _ => w == 0,
     }
 }
 
@@ -118,16 +84,9 @@ pub fn place_fits(kind: NodeKind, w: u32) -> bool
     ensures { λ r. ⌜ r ≡ placeFits kind w ⌝ }
 {
     match kind {
-        NodeKind::Pass => w == 0,
-        NodeKind::Sum => w == 0,
-        NodeKind::Destination => w == 0,
-        NodeKind::Balance => w == 0,
-        NodeKind::Mul(_f) => w == 0,
-        NodeKind::Add(_f) => w == 0,
         NodeKind::Delay(n) => w < n,
-        NodeKind::AllPass(n, _f) => w < n,
-        NodeKind::OnePole(_f) => w == 0,
-        NodeKind::Sine(_f) => w == 0,
+        NodeKind::AllPass(n, _) => w < n,
+        _ => w == 0,
     }
 }
 

@@ -97,16 +97,9 @@ pub fn line_of(k: NodeKind) -> usize
     ensures { λ r. ⌜ (r ≡ lineOf k) × (r < 8589934592) ⌝ }
 {
     match k {
-        NodeKind::Pass => 0,
-        NodeKind::Sum => 0,
-        NodeKind::Destination => 0,
-        NodeKind::Balance => 0,
-        NodeKind::Mul(_) => 0,
-        NodeKind::Add(_) => 0,
         NodeKind::Delay(n) => n as usize,
         NodeKind::AllPass(n, _) => n as usize * 2,
-        NodeKind::OnePole(_) => 0,
-        NodeKind::Sine(_) => 0,
+        _ => 0,
     }
 }
 
@@ -115,16 +108,8 @@ pub fn channels_of(k: NodeKind) -> usize
     ensures { λ r. ⌜ r ≡ channelsOf k ⌝ }
 {
     match k {
-        NodeKind::Pass => 1,
-        NodeKind::Sum => 1,
-        NodeKind::Destination => 2,
-        NodeKind::Balance => 2,
-        NodeKind::Mul(_) => 1,
-        NodeKind::Add(_) => 1,
-        NodeKind::Delay(_) => 1,
-        NodeKind::AllPass(_, _) => 1,
-        NodeKind::OnePole(_) => 1,
-        NodeKind::Sine(_) => 1,
+        NodeKind::Destination | NodeKind::Balance => 2,
+        _ => 1,
     }
 }
 
@@ -141,16 +126,8 @@ pub fn is_destination(k: NodeKind) -> bool
     ensures { λ r. ⌜ r ≡ isDestination k ⌝ }
 {
     match k {
-        NodeKind::Pass => false,
-        NodeKind::Sum => false,
         NodeKind::Destination => true,
-        NodeKind::Balance => false,
-        NodeKind::Mul(_) => false,
-        NodeKind::Add(_) => false,
-        NodeKind::Delay(_) => false,
-        NodeKind::AllPass(_, _) => false,
-        NodeKind::OnePole(_) => false,
-        NodeKind::Sine(_) => false,
+        _ => false,
     }
 }
 
@@ -160,15 +137,7 @@ pub fn is_pass(k: NodeKind) -> bool
 {
     match k {
         NodeKind::Pass => true,
-        NodeKind::Sum => false,
-        NodeKind::Destination => false,
-        NodeKind::Balance => false,
-        NodeKind::Mul(_) => false,
-        NodeKind::Add(_) => false,
-        NodeKind::Delay(_) => false,
-        NodeKind::AllPass(_, _) => false,
-        NodeKind::OnePole(_) => false,
-        NodeKind::Sine(_) => false,
+        _ => false,
     }
 }
 
@@ -177,16 +146,9 @@ fn fewest(k: NodeKind) -> usize
     ensures { λ r. ⌜ r ≡ fewest k ⌝ }
 {
     match k {
-        NodeKind::Pass => 0,
-        NodeKind::Sum => 0,
-        NodeKind::Destination => 0,
         NodeKind::Balance => 2,
-        NodeKind::Mul(_) => 1,
-        NodeKind::Add(_) => 1,
-        NodeKind::Delay(_) => 1,
-        NodeKind::AllPass(_, _) => 1,
-        NodeKind::OnePole(_) => 1,
-        NodeKind::Sine(_) => 0,
+        NodeKind::Pass | NodeKind::Sum | NodeKind::Destination | NodeKind::Sine(_) => 0,
+        _ => 1,
     }
 }
 
@@ -195,16 +157,10 @@ fn most(k: NodeKind) -> usize
     ensures { λ r. ⌜ r ≡ most k ⌝ }
 {
     match k {
-        NodeKind::Pass => 1,
-        NodeKind::Sum => 8,
-        NodeKind::Destination => 8,
-        NodeKind::Balance => 2,
-        NodeKind::Mul(_) => 2,
-        NodeKind::Add(_) => 2,
-        NodeKind::Delay(_) => 1,
-        NodeKind::AllPass(_, _) => 2,
-        NodeKind::OnePole(_) => 1,
+        NodeKind::Sum | NodeKind::Destination => 8,
+        NodeKind::Pass | NodeKind::Delay(_) | NodeKind::OnePole(_) => 1,
         NodeKind::Sine(_) => 0,
+        _ => 2,
     }
 }
 

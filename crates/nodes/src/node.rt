@@ -12,7 +12,6 @@ ghost use Rattle.nodes.specs.Node.{broughtAt, nodeRun, Supplies, CellRea
 use crate::apfmsgain::all_pass;
 use crate::block::fetch;
 use crate::block::put;
-use crate::block::wide;
 use crate::delayn::delay;
 use crate::kind::NodeKind;
 use crate::kind::NodeRecord;
@@ -22,6 +21,7 @@ use crate::operator::add::add;
 use crate::operator::mul::mul;
 use crate::sin_osc::sin_osc;
 use crate::sum::total;
+use leaves::bytes::wide;
 
 // The first wire's source, and the second's where there are two sources.
 fn operands(
@@ -71,14 +71,7 @@ fn bring(
             total(memory, list, lefts, size, x);
             total(memory, list, rights, size, m);
         }
-        NodeKind::Pass => operands(memory, size, list, second, lefts, x, m),
-        NodeKind::Balance => operands(memory, size, list, second, lefts, x, m),
-        NodeKind::Mul(_f) => operands(memory, size, list, second, lefts, x, m),
-        NodeKind::Add(_f) => operands(memory, size, list, second, lefts, x, m),
-        NodeKind::Delay(_n) => operands(memory, size, list, second, lefts, x, m),
-        NodeKind::AllPass(_n, _f) => operands(memory, size, list, second, lefts, x, m),
-        NodeKind::OnePole(_f) => operands(memory, size, list, second, lefts, x, m),
-        NodeKind::Sine(_f) => operands(memory, size, list, second, lefts, x, m),
+        _ => operands(memory, size, list, second, lefts, x, m),
     }
 }
 
@@ -102,11 +95,7 @@ fn run_cell(
             }
         }
         NodeKind::Sum => put(cell, 3, size, x),
-        NodeKind::Destination => {
-            put(cell, 3, size, x);
-            put(cell, 3 + size, size, m);
-        }
-        NodeKind::Balance => {
+        NodeKind::Destination | NodeKind::Balance => {
             put(cell, 3, size, x);
             put(cell, 3 + size, size, m);
         }

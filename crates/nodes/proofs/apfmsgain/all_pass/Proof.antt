@@ -15,25 +15,10 @@ chosen : (n size : ℕ) (f : Float) (x m : List Float) (ws vs : List ℕ) (two b
     → vs ≡ runValues (AllPass n f) size (given b x m) ws → vs ≡ runValues (AllPass n f) size (given two x m) ws
 chosen n size f x m ws vs two b e h = rw e h
 
-load-requires : tie.Need-load-requires
-load-requires c κs = search needs
-
-run-modulated-requires : tie.Need-run-modulated-requires
-run-modulated-requires c κs = search needs
-
-run-requires : tie.Need-run-requires
-run-requires c κs = search needs
-
-same-length : tie.Need-same-length
-same-length c = search needs
-
 returns : tie.Need-returns
 returns c f =
     let a = c .before .before .before .before .before .before .before .before .args in
     chosen _ _ f (a .x .now) (a .m .now) _ _ _ true (c .before .before .before .before .if1 .taken) (c .before .before .run-modulated .ensures f)
-
-same-length-2 : tie.Need-same-length-2
-same-length-2 c = search needs
 
 returns-2 : tie.Need-returns-2
 returns-2 c f =
@@ -41,13 +26,5 @@ returns-2 c f =
     chosen _ _ f (a .x .now) (a .m .now) _ _ _ false (c .before .before .before .before .if1 .left) (c .before .before .run .ensures f)
 
 pub all-pass-spec : {M : Type 1} → statement M
-all-pass-spec =
-    tie.close
-    (tie.spec
-    load-requires
-    run-modulated-requires
-    run-requires
-    same-length
-    returns
-    same-length-2
-    returns-2)
+all-pass-spec = tie.close
+    (tie.spec (λ c κs. search needs) (λ c κs. search needs) (λ c κs. search needs) (λ c. search needs) returns (λ c. search needs) returns-2)

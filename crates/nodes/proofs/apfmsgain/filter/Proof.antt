@@ -13,6 +13,7 @@ use Rattle.nodes.specs.Block.{sample, alone}
 use Rattle.nodes.specs.Ring.{stretchValues}
 use Rattle.nodes.specs.declared.kind.NodeKind.the-variants.{AllPass}
 use Rattle.nodes.proofs.Rings.{all-pass-ring, stretch-none, float-at, tap-one, all-pass-reads, all-pass-then}
+use Rattle.nodes.proofs.Answers.{next2, next3, next10}
 use Rattle.nodes.proofs.apfmsgain.filter.Statement.{statement}
 use Rattle.nodes.proofs.apfmsgain.filter.Tie as tie
 
@@ -46,84 +47,9 @@ turn n size place done i f x ws vs us ts rs g a b o y e e-a e-b e-o e-y e-us e-t
     (e-o ∙ all-pass-reads n f (c .state) (alone x (done + i)) g a b (e-g ∙ ap (ofBits binary32) (sym (h .number))) old-x old-y))
     long in-ring in-block refl (omega arith) (omega arith) (omega arith)
 
-add-at : tie.Need-add-at Inv-loop μ-loop
-add-at c = omega arith
-
-add-at-2 : tie.Need-add-at-2 Inv-loop μ-loop
-add-at-2 c = omega arith
-
 loop-holds : tie.Need-loop-holds Inv-loop μ-loop
 loop-holds c =
     (omega arith, refl, λ f. stretch-none (AllPass _ f) _ (all-pass-ring _ f) _ _ _ (omega (arith, length-words (c .before .args .cell .now))) _ _)
-
-add-output : tie.Need-add-output Inv-loop μ-loop
-add-output c = omega arith
-
-mul-output : tie.Need-mul-output Inv-loop μ-loop
-mul-output c = omega arith
-
-element-copy-out-output : tie.Need-element-copy-out-output Inv-loop μ-loop
-element-copy-out-output c = omega arith
-
-add-load : tie.Need-add-load Inv-loop μ-loop
-add-load c = omega arith
-
-load-requires : tie.Need-load-requires Inv-loop μ-loop
-load-requires c κs = omega arith
-
-add-load-2 : tie.Need-add-load-2 Inv-loop μ-loop
-add-load-2 c = omega arith
-
-add-load-3 : tie.Need-add-load-3 Inv-loop μ-loop
-add-load-3 c = omega arith
-
-load-requires-2 : tie.Need-load-requires-2 Inv-loop μ-loop
-load-requires-2 c κs = omega arith
-
-output-requires : tie.Need-output-requires Inv-loop μ-loop
-output-requires c κs = tt
-
-to-bits-requires : tie.Need-to-bits-requires Inv-loop μ-loop
-to-bits-requires c κs = tt
-
-add-store : tie.Need-add-store Inv-loop μ-loop
-add-store c = omega arith
-
-add-store-2 : tie.Need-add-store-2 Inv-loop μ-loop
-add-store-2 c = omega arith
-
-mul-store : tie.Need-mul-store Inv-loop μ-loop
-mul-store c = omega arith
-
-element-copy-out-store : tie.Need-element-copy-out-store Inv-loop μ-loop
-element-copy-out-store c = omega arith
-
-store-requires : tie.Need-store-requires Inv-loop μ-loop
-store-requires c κs = omega arith
-
-add-put-word : tie.Need-add-put-word Inv-loop μ-loop
-add-put-word c = omega arith
-
-add-put-word-2 : tie.Need-add-put-word-2 Inv-loop μ-loop
-add-put-word-2 c = omega arith
-
-put-word-requires : tie.Need-put-word-requires Inv-loop μ-loop
-put-word-requires c κs = omega arith
-
-add-put-word-3 : tie.Need-add-put-word-3 Inv-loop μ-loop
-add-put-word-3 c = omega arith
-
-add-put-word-4 : tie.Need-add-put-word-4 Inv-loop μ-loop
-add-put-word-4 c = omega arith
-
-put-word-requires-2 : tie.Need-put-word-requires-2 Inv-loop μ-loop
-put-word-requires-2 c κs = omega arith
-
-add-i : tie.Need-add-i Inv-loop μ-loop
-add-i c = omega arith
-
-loop-less : tie.Need-loop-less Inv-loop μ-loop
-loop-less c = omega arith
 
 loop-again : tie.Need-loop-again Inv-loop μ-loop
 loop-again c =
@@ -142,9 +68,6 @@ loop-again c =
           (l .before .before .pre .5) (omega (arith, length-words (a .cell .now), u)) (omega (arith, u)) (omega (arith, u)),
     )
 
-same-length : tie.Need-same-length Inv-loop μ-loop
-same-length c = omega arith
-
 returns : tie.Need-returns Inv-loop μ-loop
 returns c f =
     let l = c .before .loop in
@@ -153,37 +76,4 @@ returns c f =
     l .inv .2 f ∙ ap (λ (j : ℕ). stretchValues (AllPass (a .n) f) (a .size) (alone (a .x .now)) (a .place) (a .done) j (words (a .cell .now))) done
 
 pub filter-spec : {M : Type 1} → statement M
-filter-spec =
-    tie.close
-    (tie.spec
-    Inv-loop
-    μ-loop
-    add-at
-    add-at-2
-    loop-holds
-    add-output
-    mul-output
-    element-copy-out-output
-    add-load
-    load-requires
-    add-load-2
-    add-load-3
-    load-requires-2
-    output-requires
-    to-bits-requires
-    add-store
-    add-store-2
-    mul-store
-    element-copy-out-store
-    store-requires
-    add-put-word
-    add-put-word-2
-    put-word-requires
-    add-put-word-3
-    add-put-word-4
-    put-word-requires-2
-    add-i
-    loop-less
-    loop-again
-    same-length
-    returns)
+filter-spec = tie.close (next3 (next10 (next10 (next2 (tie.spec Inv-loop μ-loop) (omega arith) loop-holds) (omega arith)) (omega arith)) (omega arith) loop-again (λ c. omega arith) returns)

@@ -16,7 +16,7 @@ use Rattle.nodes.specs.Block.{sample, pair}
 use Rattle.nodes.specs.Ring.{wrapOf, stretchValues}
 use Rattle.nodes.specs.declared.kind.NodeKind.the-variants.{AllPass}
 use Rattle.nodes.proofs.Rings.{wrap-below, all-pass-ring, stretch-none, float-at, tap-two, all-pass-reads, all-pass-then}
-use borrow.Author.Needs.{needs}
+use Rattle.nodes.proofs.Answers.{next2, next3, next4, next10}
 use Rattle.nodes.proofs.apfmsgain.modulate.Statement.{statement}
 use Rattle.nodes.proofs.apfmsgain.modulate.Tie as tie
 
@@ -54,33 +54,15 @@ sample-by n size place i f x m ws us ts rs g a b o pos rest index older newer y 
     (read 0 (3 + size) a (omega arith) e-a) (read n (3 + size + n) b refl e-b)))
     long (omega arith) in-block (omega arith) (omega arith) (omega arith) refl
 
-mul-split : tie.Need-mul-split
-mul-split c = search needs
-
-element-copy-out-split : tie.Need-element-copy-out-split
-element-copy-out-split c = search needs
-
 split-requires : tie.Need-split-requires
 split-requires c κs =
     let s = c .before .before in
     upto-more (s .args .n) (2 ^ 24) (sample (s .args .p .now) (s .args .i)) (omega arith) (s .pre .6)
 
-cast-wrapped : tie.Need-cast-wrapped
-cast-wrapped c = search needs
-
 wrapped-requires : tie.Need-wrapped-requires
 wrapped-requires c κs =
     let s = c .before .before .before .before in
     (omega arith, omega (arith, c .before .split .ensures .0, floor-le (sample (s .args .p .now) (s .args .i)) (s .args .n) (s .pre .6)))
-
-add-wrap : tie.Need-add-wrap
-add-wrap c = search needs
-
-wrap-requires : tie.Need-wrap-requires
-wrap-requires c κs = search needs
-
-add-ring : tie.Need-add-ring
-add-ring c = search needs
 
 between-requires : tie.Need-between-requires
 between-requires c κs =
@@ -88,56 +70,11 @@ between-requires c κs =
     let newer = wrap-below (a .n) (c .before .before .wrapped .result + 1) (omega arith) in
     (omega arith, omega (arith, c .before .wrap .ensures, newer))
 
-add-between : tie.Need-add-between
-add-between c = search needs
-
 between-requires-2 : tie.Need-between-requires-2
 between-requires-2 c κs =
     let a = c .before .before .before .before .before .before .before .before .before .args in
     let newer = wrap-below (a .n) (c .before .before .before .before .wrapped .result + 1) (omega arith) in
     (omega arith, omega (arith, c .before .before .before .wrap .ensures, newer))
-
-mul-output : tie.Need-mul-output
-mul-output c = search needs
-
-element-copy-out-output : tie.Need-element-copy-out-output
-element-copy-out-output c = search needs
-
-output-requires : tie.Need-output-requires
-output-requires c κs = search needs
-
-to-bits-requires : tie.Need-to-bits-requires
-to-bits-requires c κs = search needs
-
-add-store : tie.Need-add-store
-add-store c = search needs
-
-mul-store : tie.Need-mul-store
-mul-store c = search needs
-
-element-copy-out-store : tie.Need-element-copy-out-store
-element-copy-out-store c = search needs
-
-store-requires : tie.Need-store-requires
-store-requires c κs = search needs
-
-add-put-word : tie.Need-add-put-word
-add-put-word c = search needs
-
-add-put-word-2 : tie.Need-add-put-word-2
-add-put-word-2 c = search needs
-
-put-word-requires : tie.Need-put-word-requires
-put-word-requires c κs = search needs
-
-add-put-word-3 : tie.Need-add-put-word-3
-add-put-word-3 c = search needs
-
-put-word-requires-2 : tie.Need-put-word-requires-2
-put-word-requires-2 c κs = search needs
-
-same-length : tie.Need-same-length
-same-length c = search needs
 
 returns : tie.Need-returns
 returns c f m e =
@@ -155,30 +92,5 @@ returns c f m e =
 pub modulate-spec : {M : Type 1} → statement M
 modulate-spec =
     tie.close
-    (tie.spec
-    mul-split
-    element-copy-out-split
-    split-requires
-    cast-wrapped
-    wrapped-requires
-    add-wrap
-    wrap-requires
-    add-ring
-    between-requires
-    add-between
-    between-requires-2
-    mul-output
-    element-copy-out-output
-    output-requires
-    to-bits-requires
-    add-store
-    mul-store
-    element-copy-out-store
-    store-requires
-    add-put-word
-    add-put-word-2
-    put-word-requires
-    add-put-word-3
-    put-word-requires-2
-    same-length
-    returns)
+    (next4 (next10 (next3 (next2 tie.spec (omega arith) split-requires (λ c. omega arith) wrapped-requires)
+    (omega arith) between-requires (λ c. omega arith) between-requires-2) (omega arith)) (omega arith) returns)

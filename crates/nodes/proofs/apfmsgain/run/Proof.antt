@@ -1,124 +1,37 @@
 -- `nodes::apfmsgain::run` meets its contract: the stretches so far are the samples so far. Assumes nothing.
-use mathlib.Core.Path.{_≡_, refl, sym, ap, _∙_}
-use Prim.Native.Nat.{_+_, _≤_, _<_, _-_}
+use Prim.Native.Nat.{_-_}
 use native.Mathlib.Omega.{arith}
-use lib.ListN.{length}
-use lib.Ieee.{Float, nan, binary32, ofBits}
-use Rattle.leaves.specs.Words.{words, length-words}
 use Rattle.nodes.specs.Block.{alone}
 use Rattle.nodes.specs.declared.kind.NodeKind.the-variants.{AllPass}
-use Rattle.nodes.proofs.Rings.{all-pass-ring, stretch-some, wrap-below, Reached, reached-none, reached-number, reached-then, reached-end}
+use Rattle.nodes.proofs.Answers.{next2, next3}
+use Rattle.nodes.proofs.Rings.{all-pass-ring, stretch-less, Going, going-none, going-number, going-then, going-end}
 use Rattle.nodes.proofs.apfmsgain.run.Statement.{statement}
 use Rattle.nodes.proofs.apfmsgain.run.Tie as tie
 
 abbrev Inv-loop : tie.InvT-loop
-Inv-loop cell₀ n size g x place₀ done₀ cell place done =
-    (done ≤ size) × (place < n) × (length cell ≡ length cell₀)
-    × ((f : Float) → Reached (AllPass n f) size (alone x) (words cell₀) done place (words cell))
+Inv-loop cell₀ n size g x place₀ done₀ cell place done = Going (AllPass n) n size (alone x) cell₀ done place cell
 
 abbrev μ-loop : tie.MeasureT-loop
 μ-loop cell₀ n size g x place₀ done₀ cell place done = size - done
 
-word-at-requires : tie.Need-word-at-requires Inv-loop μ-loop
-word-at-requires c κs = omega arith
-
-cast-place : tie.Need-cast-place Inv-loop μ-loop
-cast-place c = omega arith
-
-loop-holds : tie.Need-loop-holds Inv-loop μ-loop
-loop-holds c =
-    let a = c .before .before .before .args in (
-      omega arith,
-      omega (arith, c .word-at .ensures),
-      refl,
-      λ f.
-          reached-none (AllPass (a .n) f) (a .n) (all-pass-ring (a .n) f) (a .size) (alone (a .x .now)) (words (a .cell .now))
-          _ (c .word-at .ensures) (omega (arith, length-words (a .cell .now))),
-    )
-
-sub-stretch : tie.Need-sub-stretch Inv-loop μ-loop
-sub-stretch c = omega arith
-
-stretch-requires : tie.Need-stretch-requires Inv-loop μ-loop
-stretch-requires c κs = omega arith
-
 filter-requires : tie.Need-filter-requires Inv-loop μ-loop
 filter-requires c κs =
-    let l = c .before .before .before .loop in
-    let s = c .before .before .before .before .before .before .before in
-    let a = s .args in (
-      omega arith,
-      omega arith,
-      omega arith,
-      omega arith,
-      omega arith,
-      s .pre .4 ∙ ap (ofBits binary32)
-          (sym (reached-number (AllPass (a .n) nan) (a .n) (all-pass-ring (a .n) nan) (a .size) (alone (a .x .now)) (words (a .cell .now))
-          (l .done) (l .place) (words (l .cell)) (l .inv .3 nan))),
-    )
-
-add-done : tie.Need-add-done Inv-loop μ-loop
-add-done c = omega arith
-
-add-wrap : tie.Need-add-wrap Inv-loop μ-loop
-add-wrap c = omega arith
-
-wrap-requires : tie.Need-wrap-requires Inv-loop μ-loop
-wrap-requires c κs = omega arith
-
-loop-less : tie.Need-loop-less Inv-loop μ-loop
-loop-less c =
-    let a = c .before .before .before .before .before .before .before .before .before .before .before .args in
-    let l = c .before .before .before .before .before .before .before .loop in
-    let some = stretch-some (l .place) (a .n) (a .size - l .done) (omega arith) (omega arith) in
-    omega (arith, some, c .before .before .before .before .before .stretch .ensures .0)
+    let l = c .before .before .before in
+    (omega arith, omega arith, omega arith, omega arith, omega arith, going-number (l .loop .inv) (l .before .before .before .before .pre .4))
 
 loop-again : tie.Need-loop-again Inv-loop μ-loop
 loop-again c =
-    let a = c .before .before .before .before .before .before .before .before .before .before .before .args in
-    let l = c .before .before .before .before .before .before .before .loop in (
-      omega arith,
-      omega (arith, c .wrap .ensures, wrap-below (a .n) (l .place + c .before .before .before .before .before .stretch .result) (omega arith)),
-      omega arith,
-      λ f.
-          reached-then (AllPass (a .n) f) (a .n) (all-pass-ring (a .n) f) (a .size) (alone (a .x .now)) (words (a .cell .now))
-          (l .done) (l .place) (words (l .cell)) (l .inv .3 f) _ _ _ (c .before .before .before .filter .ensures f) (c .wrap .ensures) (omega arith) (omega arith),
-    )
-
-cast-put-word : tie.Need-cast-put-word Inv-loop μ-loop
-cast-put-word c = omega arith
-
-put-word-requires : tie.Need-put-word-requires Inv-loop μ-loop
-put-word-requires c κs = omega arith
-
-same-length : tie.Need-same-length Inv-loop μ-loop
-same-length c = omega arith
-
-returns : tie.Need-returns Inv-loop μ-loop
-returns c f =
-    let a = c .before .before .before .before .before .before .before .before .before .args in
-    let l = c .before .before .before .before .before .loop in
-    reached-end (AllPass (a .n) f) (a .n) (all-pass-ring (a .n) f) (a .size) (alone (a .x .now)) (words (a .cell .now))
-    (l .done) (l .place) (words (l .cell)) (l .inv .3 f) _ (c .before .before .put-word .ensures) (omega arith)
+    let p = c .before .before .before in
+    going-then (p .before .before .before .before .loop .inv) _ (omega arith) (omega arith) (p .filter .kept .0) (p .filter .ensures) (c .wrap .ensures)
 
 pub run-spec : {M : Type 1} → statement M
 run-spec =
     tie.close
-    (tie.spec
-    Inv-loop
-    μ-loop
-    word-at-requires
-    cast-place
-    loop-holds
-    sub-stretch
-    stretch-requires
-    filter-requires
-    add-done
-    add-wrap
-    wrap-requires
-    loop-less
-    loop-again
-    cast-put-word
-    put-word-requires
-    same-length
-    returns)
+    (next3 (next3 (next2 (next2 (tie.spec Inv-loop μ-loop) (omega arith)
+    (λ c. going-none (all-pass-ring _) (λ f. omega arith) (c .word-at .ensures) (omega arith)))
+    (omega arith) filter-requires)
+    (omega arith)
+    (λ c. let t = c .before .before .before .before .before .before in stretch-less _ _ _ _ _ (t .before .loop .inv .below) (t .loop-test .taken) (c .before .before .before .before .before .stretch .ensures .0))
+    loop-again)
+    (omega arith)
+    (λ c. let l = c .before .before .before .before in going-end (l .before .loop .inv) (l .loop-test .left) (c .before .before .put-word .ensures)))

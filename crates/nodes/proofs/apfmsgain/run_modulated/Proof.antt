@@ -1,46 +1,29 @@
 -- `nodes::apfmsgain::run_modulated` meets its contract: each sample is a stretch of one. Assumes nothing.
-use mathlib.Core.Path.{_≡_, refl, sym, ap, _∙_, subst}
-use Prim.Native.Nat.{ℕ, _+_, _≤_, _<_, _-_}
+use mathlib.Core.Path.{_≡_, sym, subst}
+use Prim.Native.Nat.{ℕ, _-_, _<_}
 use native.Mathlib.Omega.{arith}
-use lib.ListN.{length, length-replicate}
-use lib.Ieee.{Float, nan, binary32, ofBits}
-use Rattle.leaves.specs.Words.{words, length-words}
+use lib.ListN.{length-replicate}
 use Rattle.leaves.specs.Floors.{zeroF, Upto}
 use Rattle.leaves.proofs.Place.{position-upto}
 use Rattle.nodes.specs.Block.{sample, positioned, pair}
 use Rattle.nodes.specs.declared.kind.NodeKind.the-variants.{AllPass}
+use Rattle.nodes.proofs.Answers.{next3, next4}
 use Rattle.nodes.proofs.Filled.{fill-at}
-use Rattle.nodes.proofs.Rings.{all-pass-ring, wrap-below, Reached, reached-none, reached-number, reached-then, reached-end}
+use Rattle.nodes.proofs.Rings.{all-pass-ring, Going, going-none, going-number, going-then, going-end}
 use Rattle.nodes.proofs.apfmsgain.run_modulated.Statement.{statement}
 use Rattle.nodes.proofs.apfmsgain.run_modulated.Tie as tie
 
 abbrev Inv-loop : tie.InvT-loop
 Inv-loop cell₀ n size g x m p place₀ i₀ cell place i =
-    (i ≤ size) × (place < n) × (length cell ≡ length cell₀)
-    × ((f : Float) → Reached (AllPass n f) size (pair x m) (words cell₀) i place (words cell))
-    × ((j : ℕ) → j < size → sample p j ≡ positioned m n j)
+    Going (AllPass n) n size (pair x m) cell₀ i place cell × ((j : ℕ) → j < size → sample p j ≡ positioned m n j)
 
 abbrev μ-loop : tie.MeasureT-loop
 μ-loop cell₀ n size g x m p place₀ i₀ cell place i = size - i
 
-positions-requires : tie.Need-positions-requires Inv-loop μ-loop
-positions-requires c κs = omega arith
-
-word-at-requires : tie.Need-word-at-requires Inv-loop μ-loop
-word-at-requires c κs = omega arith
-
-cast-place : tie.Need-cast-place Inv-loop μ-loop
-cast-place c = omega arith
-
 loop-holds : tie.Need-loop-holds Inv-loop μ-loop
 loop-holds c =
     let a = c .before .before .before .before .before .args in (
-      omega arith,
-      omega (arith, c .word-at .ensures),
-      refl,
-      λ f.
-          reached-none (AllPass (a .n) f) (a .n) (all-pass-ring (a .n) f) (a .size) (pair (a .x .now) (a .m .now)) (words (a .cell .now))
-          _ (c .word-at .ensures) (omega (arith, length-words (a .cell .now))),
+      going-none (all-pass-ring _) (λ f. omega arith) (c .word-at .ensures) (omega arith),
       λ j h. rw (c .before .before .positions .ensures) (fill-at (positioned (a .m .now) (a .n)) (a .size) _ (omega (arith, length-replicate 128 zeroF)) j h),
     )
 
@@ -54,70 +37,24 @@ modulate-requires c κs =
       omega arith,
       omega arith,
       omega arith,
-      s .pre .4 ∙ ap (ofBits binary32)
-          (sym (reached-number (AllPass (a .n) nan) (a .n) (all-pass-ring (a .n) nan) (a .size) (pair (a .x .now) (a .m .now)) (words (a .cell .now))
-          (l .i) (l .place) (words (l .cell)) (l .inv .3 nan))),
-      subst (Upto (a .n)) (sym (l .inv .4 (l .i) (omega arith))) (position-upto (sample (a .m .now) (l .i)) (a .n) (omega arith)),
+      going-number (l .inv .0) (s .pre .4),
+      subst (Upto (a .n)) (sym (l .inv .1 (l .i) (omega arith))) (position-upto (sample (a .m .now) (l .i)) (a .n) (omega arith)),
     )
-
-add-wrap : tie.Need-add-wrap Inv-loop μ-loop
-add-wrap c = omega arith
-
-wrap-requires : tie.Need-wrap-requires Inv-loop μ-loop
-wrap-requires c κs = omega arith
-
-add-i : tie.Need-add-i Inv-loop μ-loop
-add-i c = omega arith
-
-loop-less : tie.Need-loop-less Inv-loop μ-loop
-loop-less c = omega arith
 
 loop-again : tie.Need-loop-again Inv-loop μ-loop
 loop-again c =
-    let a = c .before .before .before .before .before .before .before .before .before .before .before .before .before .args in
-    let l = c .before .before .before .before .before .before .before .loop in (
-      omega arith,
-      omega (arith, c .wrap .ensures, wrap-below (a .n) (l .place + 1) (omega arith)),
-      omega arith,
-      λ f.
-          reached-then (AllPass (a .n) f) (a .n) (all-pass-ring (a .n) f) (a .size) (pair (a .x .now) (a .m .now)) (words (a .cell .now))
-          (l .i) (l .place) (words (l .cell)) (l .inv .3 f) _ _ _ (c .before .before .before .modulate .ensures f (a .m .now) (l .inv .4 (l .i) (omega arith))) (c .wrap .ensures) (omega arith) (omega arith),
-      l .inv .4,
+    let h = c .before .before .before .before .before .before .before in
+    let given = h .before .before .before .before .before .before .args in
+    let l = h .loop in
+    let m = c .before .before .before .modulate in (
+      going-then (l .inv .0) _ (omega arith) (omega arith) (m .kept .0) (λ f. m .ensures f (given .m .now) (l .inv .1 (l .i) (omega arith))) (c .wrap .ensures),
+      l .inv .1,
     )
-
-cast-put-word : tie.Need-cast-put-word Inv-loop μ-loop
-cast-put-word c = omega arith
-
-put-word-requires : tie.Need-put-word-requires Inv-loop μ-loop
-put-word-requires c κs = omega arith
-
-same-length : tie.Need-same-length Inv-loop μ-loop
-same-length c = omega arith
-
-returns : tie.Need-returns Inv-loop μ-loop
-returns c f =
-    let a = c .before .before .before .before .before .before .before .before .before .before .before .args in
-    let l = c .before .before .before .before .before .loop in
-    reached-end (AllPass (a .n) f) (a .n) (all-pass-ring (a .n) f) (a .size) (pair (a .x .now) (a .m .now)) (words (a .cell .now))
-    (l .i) (l .place) (words (l .cell)) (l .inv .3 f) _ (c .before .before .put-word .ensures) (omega arith)
 
 pub run-modulated-spec : {M : Type 1} → statement M
 run-modulated-spec =
     tie.close
-    (tie.spec
-    Inv-loop
-    μ-loop
-    positions-requires
-    word-at-requires
-    cast-place
-    loop-holds
-    modulate-requires
-    add-wrap
-    wrap-requires
-    add-i
-    loop-less
-    loop-again
-    cast-put-word
-    put-word-requires
-    same-length
-    returns)
+    (next3 (next4 (next3 (tie.spec Inv-loop μ-loop) (omega arith) loop-holds modulate-requires)
+    (omega arith) loop-again)
+    (omega arith)
+    (λ c. let l = c .before .before .before .before in going-end (l .before .loop .inv .0) (l .loop-test .left) (c .before .before .put-word .ensures)))

@@ -1,5 +1,5 @@
 -- `nodes::cell::cell_fits` meets its contract. Assumes nothing.
-use borrow.Author.Needs.{needs}
+use native.Mathlib.Omega.{arith}
 use mathlib.Core.Path.{_≡_, sym, ap, _∙_}
 use mathlib.Core.Bool.{Bool, _&&_}
 use mathlib.Core.List.{List}
@@ -10,6 +10,7 @@ use lib.Seq.{getD-drop}
 use Rattle.leaves.specs.Words.{words}
 use Rattle.nodes.specs.Cell.{numberFits, carryFits, placeFits, cellFits}
 use Rattle.nodes.specs.declared.kind.NodeKind.{NodeKind}
+use Rattle.nodes.proofs.Answers.{next8}
 use Rattle.nodes.proofs.cell.cell_fits.Statement.{statement}
 use Rattle.nodes.proofs.cell.cell_fits.Tie as tie
 
@@ -22,30 +23,6 @@ judged k ws at a b p x y z ea eb ep ex ey ez =
     let gp : getD (drop at ws) 2 0 ≡ p = getD-drop at ws 2 0 ∙ sym ep in
     cc
 
-word-at-requires : tie.Need-word-at-requires
-word-at-requires c κs = search needs
-
-number-fits-requires : tie.Need-number-fits-requires
-number-fits-requires c κs = search needs
-
-add-word-at : tie.Need-add-word-at
-add-word-at c = search needs
-
-word-at-requires-2 : tie.Need-word-at-requires-2
-word-at-requires-2 c κs = search needs
-
-carry-fits-requires : tie.Need-carry-fits-requires
-carry-fits-requires c κs = search needs
-
-add-word-at-2 : tie.Need-add-word-at-2
-add-word-at-2 c = search needs
-
-word-at-requires-3 : tie.Need-word-at-requires-3
-word-at-requires-3 c κs = search needs
-
-place-fits-requires : tie.Need-place-fits-requires
-place-fits-requires c κs = search needs
-
 returns : tie.Need-returns
 returns c =
     let given = c .before .before .before .before .before .before .before .args in
@@ -54,15 +31,4 @@ returns c =
     (c .before .before .before .before .number-fits .ensures) (c .before .before .carry-fits .ensures) (c .place-fits .ensures)
 
 pub cell-fits-spec : {M : Type 1} → statement M
-cell-fits-spec =
-    tie.close
-    (tie.spec
-    word-at-requires
-    number-fits-requires
-    add-word-at
-    word-at-requires-2
-    carry-fits-requires
-    add-word-at-2
-    word-at-requires-3
-    place-fits-requires
-    returns)
+cell-fits-spec = tie.close (next8 tie.spec (omega arith) returns)

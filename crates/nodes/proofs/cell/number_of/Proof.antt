@@ -1,101 +1,22 @@
--- `nodes::cell::number_of` meets its contract: each arm knows the kind. Assumes nothing.
+-- `nodes::cell::number_of` meets its contract. Assumes nothing.
+use mathlib.Core.Path.{_≡_}
+use mathlib.Core.List.{[], _∷_}
 use borrow.Author.Needs.{needs}
 use lib.Ieee.{ofBits}
+use Rattle.leaves.specs.Floors.{zeroF}
 use Rattle.nodes.specs.Cell.{numberOf}
+use Rattle.nodes.proofs.Answers.{next4}
+use Rattle.nodes.proofs.Arms.{arm}
 use Rattle.nodes.proofs.cell.number_of.Statement.{statement}
 use Rattle.nodes.proofs.cell.number_of.Tie as tie
 
-enum-told : tie.Need-enum-told
-enum-told c = search needs
-
-enum-told-2 : tie.Need-enum-told-2
-enum-told-2 c = search needs
-
-enum-told-3 : tie.Need-enum-told-3
-enum-told-3 c = search needs
-
-enum-told-4 : tie.Need-enum-told-4
-enum-told-4 c = search needs
-
-enum-known-kind : tie.Need-enum-known-kind
-enum-known-kind c = search needs
-
-enum-known-kind-2 : tie.Need-enum-known-kind-2
-enum-known-kind-2 c = search needs
-
-enum-known-kind-3 : tie.Need-enum-known-kind-3
-enum-known-kind-3 c = search needs
-
-enum-known-kind-4 : tie.Need-enum-known-kind-4
-enum-known-kind-4 c = search needs
-
-enum-known-kind-5 : tie.Need-enum-known-kind-5
-enum-known-kind-5 c = search needs
-
-enum-known-kind-6 : tie.Need-enum-known-kind-6
-enum-known-kind-6 c = search needs
-
-returns : tie.Need-returns
-unfolding numberOf ofBits
-returns c = simp (c .enum-told .given .1)
-
-returns-2 : tie.Need-returns-2
-unfolding numberOf ofBits
-returns-2 c = simp (c .enum-told2 .given .1)
-
-returns-3 : tie.Need-returns-3
-unfolding numberOf ofBits
-returns-3 c = simp (c .enum-told3 .given .1)
-
-returns-4 : tie.Need-returns-4
-unfolding numberOf ofBits
-returns-4 c = simp (c .enum-told4 .given .1)
-
-returns-5 : tie.Need-returns-5
-unfolding numberOf
-returns-5 c = search needs
-
-returns-6 : tie.Need-returns-6
-unfolding numberOf
-returns-6 c = search needs
-
-returns-7 : tie.Need-returns-7
-unfolding numberOf ofBits
-returns-7 c = simp (c .before .kind3 .given .1)
-
-returns-8 : tie.Need-returns-8
-unfolding numberOf
-returns-8 c = search needs
-
-returns-9 : tie.Need-returns-9
-unfolding numberOf ofBits
-returns-9 c = simp (c .before .kind5 .given .1)
-
-returns-10 : tie.Need-returns-10
-unfolding numberOf
-returns-10 c = search needs
-
 pub number-of-spec : {M : Type 1} → statement M
+unfolding numberOf ofBits
 number-of-spec =
     tie.close
-    (tie.spec
-    enum-told
-    enum-told-2
-    enum-told-3
-    enum-told-4
-    enum-known-kind
-    enum-known-kind-2
-    enum-known-kind-3
-    enum-known-kind-4
-    enum-known-kind-5
-    enum-known-kind-6
-    returns
-    returns-2
-    returns-3
-    returns-4
-    returns-5
-    returns-6
-    returns-7
-    returns-8
-    returns-9
-    returns-10)
+    (next4 tie.spec (search needs)
+    (λ c. search needs)
+    (λ c. search needs)
+    (λ c. search needs)
+    (λ c. search needs)
+    (λ c. arm (λ k. zeroF ≡ numberOf k) (0 ∷ 1 ∷ 2 ∷ 3 ∷ 6 ∷ 8 ∷ []) (c .before .args .kind) (c .match .keys5) (search needs)))

@@ -1,100 +1,20 @@
--- `nodes::cell::place_fits` meets its contract: each arm knows the kind. Assumes nothing.
+-- `nodes::cell::place_fits` meets its contract. Assumes nothing.
+use mathlib.Core.Path.{_≡_}
+use mathlib.Core.List.{[], _∷_}
+use lib.Dec.{eqb}
 use borrow.Author.Needs.{needs}
 use Rattle.nodes.specs.Cell.{placeFits}
+use Rattle.nodes.proofs.Arms.{arm}
 use Rattle.nodes.proofs.cell.place_fits.Statement.{statement}
 use Rattle.nodes.proofs.cell.place_fits.Tie as tie
 
-enum-told : tie.Need-enum-told
-enum-told c = search needs
-
-enum-told-2 : tie.Need-enum-told-2
-enum-told-2 c = search needs
-
-enum-told-3 : tie.Need-enum-told-3
-enum-told-3 c = search needs
-
-enum-told-4 : tie.Need-enum-told-4
-enum-told-4 c = search needs
-
-enum-known-kind : tie.Need-enum-known-kind
-enum-known-kind c = search needs
-
-enum-known-kind-2 : tie.Need-enum-known-kind-2
-enum-known-kind-2 c = search needs
-
-enum-known-kind-3 : tie.Need-enum-known-kind-3
-enum-known-kind-3 c = search needs
-
-enum-known-kind-4 : tie.Need-enum-known-kind-4
-enum-known-kind-4 c = search needs
-
-enum-known-kind-5 : tie.Need-enum-known-kind-5
-enum-known-kind-5 c = search needs
-
-enum-known-kind-6 : tie.Need-enum-known-kind-6
-enum-known-kind-6 c = search needs
-
-returns : tie.Need-returns
-unfolding placeFits
-returns c = simp (c .enum-told .given .1)
-
-returns-2 : tie.Need-returns-2
-unfolding placeFits
-returns-2 c = simp (c .enum-told2 .given .1)
-
-returns-3 : tie.Need-returns-3
-unfolding placeFits
-returns-3 c = simp (c .enum-told3 .given .1)
-
-returns-4 : tie.Need-returns-4
-unfolding placeFits
-returns-4 c = simp (c .enum-told4 .given .1)
-
-returns-5 : tie.Need-returns-5
-unfolding placeFits
-returns-5 c = simp (c .before .kind .given .1)
-
-returns-6 : tie.Need-returns-6
-unfolding placeFits
-returns-6 c = simp (c .before .kind2 .given .1)
-
-returns-7 : tie.Need-returns-7
-unfolding placeFits
-returns-7 c = simp (c .before .kind3 .given .1)
-
-returns-8 : tie.Need-returns-8
-unfolding placeFits
-returns-8 c = simp (c .before .kind4 .given .1)
-
-returns-9 : tie.Need-returns-9
-unfolding placeFits
-returns-9 c = simp (c .before .kind5 .given .1)
-
-returns-10 : tie.Need-returns-10
-unfolding placeFits
-returns-10 c = simp (c .before .kind6 .given .1)
-
 pub place-fits-spec : {M : Type 1} → statement M
+unfolding placeFits
 place-fits-spec =
     tie.close
     (tie.spec
-    enum-told
-    enum-told-2
-    enum-told-3
-    enum-told-4
-    enum-known-kind
-    enum-known-kind-2
-    enum-known-kind-3
-    enum-known-kind-4
-    enum-known-kind-5
-    enum-known-kind-6
-    returns
-    returns-2
-    returns-3
-    returns-4
-    returns-5
-    returns-6
-    returns-7
-    returns-8
-    returns-9
-    returns-10)
+    (search needs)
+    (search needs)
+    (λ c. simp (c .before .kind .given .1))
+    (λ c. simp (c .before .kind2 .given .1))
+    (λ c. arm (λ k. eqb (c .before .args .w) 0 ≡ placeFits k (c .before .args .w)) (0 ∷ 1 ∷ 2 ∷ 3 ∷ 4 ∷ 5 ∷ 8 ∷ 9 ∷ []) (c .before .args .kind) (c .match .keys3) (search needs)))

@@ -1,100 +1,17 @@
--- `nodes::cell::takes_number` meets its contract: each arm knows the kind. Assumes nothing.
+-- `nodes::cell::takes_number` meets its contract. Assumes nothing.
+use mathlib.Core.Path.{_≡_}
+use mathlib.Core.Bool.{true, false}
+use mathlib.Core.List.{[], _∷_}
 use borrow.Author.Needs.{needs}
 use Rattle.nodes.specs.Cell.{takesNumber}
+use Rattle.nodes.proofs.Arms.{arm}
 use Rattle.nodes.proofs.cell.takes_number.Statement.{statement}
 use Rattle.nodes.proofs.cell.takes_number.Tie as tie
 
-enum-told : tie.Need-enum-told
-enum-told c = search needs
-
-enum-told-2 : tie.Need-enum-told-2
-enum-told-2 c = search needs
-
-enum-told-3 : tie.Need-enum-told-3
-enum-told-3 c = search needs
-
-enum-told-4 : tie.Need-enum-told-4
-enum-told-4 c = search needs
-
-enum-known-kind : tie.Need-enum-known-kind
-enum-known-kind c = search needs
-
-enum-known-kind-2 : tie.Need-enum-known-kind-2
-enum-known-kind-2 c = search needs
-
-enum-known-kind-3 : tie.Need-enum-known-kind-3
-enum-known-kind-3 c = search needs
-
-enum-known-kind-4 : tie.Need-enum-known-kind-4
-enum-known-kind-4 c = search needs
-
-enum-known-kind-5 : tie.Need-enum-known-kind-5
-enum-known-kind-5 c = search needs
-
-enum-known-kind-6 : tie.Need-enum-known-kind-6
-enum-known-kind-6 c = search needs
-
-returns : tie.Need-returns
-unfolding takesNumber
-returns c = search needs
-
-returns-2 : tie.Need-returns-2
-unfolding takesNumber
-returns-2 c = search needs
-
-returns-3 : tie.Need-returns-3
-unfolding takesNumber
-returns-3 c = search needs
-
-returns-4 : tie.Need-returns-4
-unfolding takesNumber
-returns-4 c = search needs
-
-returns-5 : tie.Need-returns-5
-unfolding takesNumber
-returns-5 c = search needs
-
-returns-6 : tie.Need-returns-6
-unfolding takesNumber
-returns-6 c = search needs
-
-returns-7 : tie.Need-returns-7
-unfolding takesNumber
-returns-7 c = search needs
-
-returns-8 : tie.Need-returns-8
-unfolding takesNumber
-returns-8 c = search needs
-
-returns-9 : tie.Need-returns-9
-unfolding takesNumber
-returns-9 c = search needs
-
-returns-10 : tie.Need-returns-10
-unfolding takesNumber
-returns-10 c = search needs
-
 pub takes-number-spec : {M : Type 1} → statement M
+unfolding takesNumber
 takes-number-spec =
     tie.close
     (tie.spec
-    enum-told
-    enum-told-2
-    enum-told-3
-    enum-told-4
-    enum-known-kind
-    enum-known-kind-2
-    enum-known-kind-3
-    enum-known-kind-4
-    enum-known-kind-5
-    enum-known-kind-6
-    returns
-    returns-2
-    returns-3
-    returns-4
-    returns-5
-    returns-6
-    returns-7
-    returns-8
-    returns-9
-    returns-10)
+    (λ c. arm (λ k. true ≡ takesNumber k) (4 ∷ 5 ∷ 7 ∷ 9 ∷ []) (c .before .args .kind) (c .match .keys1) (search needs))
+    (λ c. arm (λ k. false ≡ takesNumber k) (0 ∷ 1 ∷ 2 ∷ 3 ∷ 6 ∷ 8 ∷ []) (c .before .args .kind) (c .match .keys2) (search needs)))

@@ -1,109 +1,33 @@
 -- `nodes::delayn::delay` meets its contract: the stretches so far are the samples so far. Assumes nothing.
-use mathlib.Core.Path.{_≡_, refl}
-use Prim.Native.Nat.{_+_, _≤_, _<_, _-_}
+use Prim.Native.Nat.{_-_}
 use native.Mathlib.Omega.{arith}
-use lib.ListN.{length}
-use Rattle.leaves.specs.Words.{words, length-words}
+use lib.Ieee.{nan}
 use Rattle.nodes.specs.Block.{alone}
 use Rattle.nodes.specs.declared.kind.NodeKind.the-variants.{Delay}
-use Rattle.nodes.proofs.Rings.{delay-ring, stretch-some, wrap-below, Reached, reached-none, reached-then, reached-end}
+use Rattle.nodes.proofs.Answers.{next2, next3, next6}
+use Rattle.nodes.proofs.Rings.{delay-ring, stretch-less, Going, going-none, going-then, going-end}
 use Rattle.nodes.proofs.delayn.delay.Statement.{statement}
 use Rattle.nodes.proofs.delayn.delay.Tie as tie
 
 abbrev Inv-loop : tie.InvT-loop
-Inv-loop cell₀ n size x place₀ done₀ cell place done =
-    (done ≤ size) × (place < n) × (length cell ≡ length cell₀) × Reached (Delay n) size (alone x) (words cell₀) done place (words cell)
+Inv-loop cell₀ n size x place₀ done₀ cell place done = Going (λ f. Delay n) n size (alone x) cell₀ done place cell
 
 abbrev μ-loop : tie.MeasureT-loop
 μ-loop cell₀ n size x place₀ done₀ cell place done = size - done
 
-word-at-requires : tie.Need-word-at-requires Inv-loop μ-loop
-word-at-requires c κs = omega arith
-
-cast-place : tie.Need-cast-place Inv-loop μ-loop
-cast-place c = omega arith
-
-loop-holds : tie.Need-loop-holds Inv-loop μ-loop
-loop-holds c =
-    let a = c .before .before .before .args in (
-      omega arith,
-      omega (arith, c .word-at .ensures),
-      refl,
-      reached-none (Delay (a .n)) (a .n) (delay-ring (a .n)) (a .size) (alone (a .x .now)) (words (a .cell .now)) _ (c .word-at .ensures)
-          (omega (arith, length-words (a .cell .now))),
-    )
-
-sub-stretch : tie.Need-sub-stretch Inv-loop μ-loop
-sub-stretch c = omega arith
-
-stretch-requires : tie.Need-stretch-requires Inv-loop μ-loop
-stretch-requires c κs = omega arith
-
-push-requires : tie.Need-push-requires Inv-loop μ-loop
-push-requires c κs = omega arith
-
-add-done : tie.Need-add-done Inv-loop μ-loop
-add-done c = omega arith
-
-add-wrap : tie.Need-add-wrap Inv-loop μ-loop
-add-wrap c = omega arith
-
-wrap-requires : tie.Need-wrap-requires Inv-loop μ-loop
-wrap-requires c κs = omega arith
-
-loop-less : tie.Need-loop-less Inv-loop μ-loop
-loop-less c =
-    let a = c .before .before .before .before .before .before .before .before .before .before .before .args in
-    let l = c .before .before .before .before .before .before .before .loop in
-    let some = stretch-some (l .place) (a .n) (a .size - l .done) (omega arith) (omega arith) in
-    omega (arith, some, c .before .before .before .before .before .stretch .ensures .0)
-
 loop-again : tie.Need-loop-again Inv-loop μ-loop
 loop-again c =
-    let a = c .before .before .before .before .before .before .before .before .before .before .before .args in
-    let l = c .before .before .before .before .before .before .before .loop in
-    let pushed = c .before .before .before .push .ensures (a .n) (omega arith) in (
-      omega arith,
-      omega (arith, c .wrap .ensures, wrap-below (a .n) (l .place + c .before .before .before .before .before .stretch .result) (omega arith)),
-      omega arith,
-      reached-then (Delay (a .n)) (a .n) (delay-ring (a .n)) (a .size) (alone (a .x .now)) (words (a .cell .now)) (l .done) (l .place) (words (l .cell)) (l .inv .3)
-          _ _ _ pushed (c .wrap .ensures) (omega arith) (omega arith),
-    )
-
-cast-put-word : tie.Need-cast-put-word Inv-loop μ-loop
-cast-put-word c = omega arith
-
-put-word-requires : tie.Need-put-word-requires Inv-loop μ-loop
-put-word-requires c κs = omega arith
-
-same-length : tie.Need-same-length Inv-loop μ-loop
-same-length c = omega arith
-
-returns : tie.Need-returns Inv-loop μ-loop
-returns c =
-    let a = c .before .before .before .before .before .before .before .before .before .args in
-    let l = c .before .before .before .before .before .loop in
-    reached-end (Delay (a .n)) (a .n) (delay-ring (a .n)) (a .size) (alone (a .x .now)) (words (a .cell .now)) (l .done) (l .place) (words (l .cell)) (l .inv .3)
-    _ (c .before .before .put-word .ensures) (omega arith)
+    let p = c .before .before .before in
+    let l = p .before .before .before .before in
+    going-then (l .loop .inv) _ (omega arith) (omega arith) (p .push .kept .0) (λ f. p .push .ensures (l .before .before .before .before .args .n) (omega arith)) (c .wrap .ensures)
 
 pub delay-spec : {M : Type 1} → statement M
 delay-spec =
     tie.close
-    (tie.spec
-    Inv-loop
-    μ-loop
-    word-at-requires
-    cast-place
-    loop-holds
-    sub-stretch
-    stretch-requires
-    push-requires
-    add-done
-    add-wrap
-    wrap-requires
-    loop-less
-    loop-again
-    cast-put-word
-    put-word-requires
-    same-length
-    returns)
+    (next3 (next6 (next2 (tie.spec Inv-loop μ-loop) (omega arith)
+    (λ c. going-none (λ f. delay-ring _) (λ f. omega arith) (c .word-at .ensures) (omega arith)))
+    (omega arith)
+    (λ c. let t = c .before .before .before .before .before .before in stretch-less _ _ _ _ _ (t .before .loop .inv .below) (t .loop-test .taken) (c .before .before .before .before .before .stretch .ensures .0))
+    loop-again)
+    (omega arith)
+    (λ c. let l = c .before .before .before .before in going-end (l .before .loop .inv) (l .loop-test .left) (c .before .before .put-word .ensures) nan))

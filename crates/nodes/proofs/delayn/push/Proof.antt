@@ -11,6 +11,7 @@ use Rattle.nodes.specs.Block.{sample, alone}
 use Rattle.nodes.specs.Ring.{stretchValues}
 use Rattle.nodes.specs.declared.kind.NodeKind.the-variants.{Delay}
 use Rattle.nodes.proofs.Rings.{delay-ring, stretch-none, stretch-then, delay-reads, line-at, delay-turn}
+use Rattle.nodes.proofs.Answers.{next2, next3, next10}
 use Rattle.nodes.proofs.delayn.push.Statement.{statement}
 use Rattle.nodes.proofs.delayn.push.Tie as tie
 
@@ -42,53 +43,8 @@ turn n size place done i x ws vs us ts old out e e-old e-us e-out e-ts long a b 
     ∙ delay-turn size q c (h .samples) vs v (alone x) (done + i) b _ _ at to n _ out refl
     (e-out ∙ ap (toBits binary32) (ap (ofBits binary32) reads ∙ gives)))
 
-add-at : tie.Need-add-at Inv-loop μ-loop
-add-at c = omega arith
-
-add-at-2 : tie.Need-add-at-2 Inv-loop μ-loop
-add-at-2 c = omega arith
-
 loop-holds : tie.Need-loop-holds Inv-loop μ-loop
 loop-holds c = (omega arith, refl, λ n e. stretch-none (Delay n) n (delay-ring n) _ _ _ (omega (arith, length-words (c .before .args .cell .now), e)) _ _)
-
-add-word-at : tie.Need-add-word-at Inv-loop μ-loop
-add-word-at c = omega arith
-
-word-at-requires : tie.Need-word-at-requires Inv-loop μ-loop
-word-at-requires c κs = omega arith
-
-add-store : tie.Need-add-store Inv-loop μ-loop
-add-store c = omega arith
-
-add-store-2 : tie.Need-add-store-2 Inv-loop μ-loop
-add-store-2 c = omega arith
-
-mul-store : tie.Need-mul-store Inv-loop μ-loop
-mul-store c = omega arith
-
-element-copy-out-store : tie.Need-element-copy-out-store Inv-loop μ-loop
-element-copy-out-store c = omega arith
-
-store-requires : tie.Need-store-requires Inv-loop μ-loop
-store-requires c κs = omega arith
-
-add-put-word : tie.Need-add-put-word Inv-loop μ-loop
-add-put-word c = omega arith
-
-add-put-word-2 : tie.Need-add-put-word-2 Inv-loop μ-loop
-add-put-word-2 c = omega arith
-
-canonical-requires : tie.Need-canonical-requires Inv-loop μ-loop
-canonical-requires c κs = tt
-
-put-word-requires : tie.Need-put-word-requires Inv-loop μ-loop
-put-word-requires c κs = omega arith
-
-add-i : tie.Need-add-i Inv-loop μ-loop
-add-i c = omega arith
-
-loop-less : tie.Need-loop-less Inv-loop μ-loop
-loop-less c = omega arith
 
 loop-again : tie.Need-loop-again Inv-loop μ-loop
 loop-again c =
@@ -104,9 +60,6 @@ loop-again c =
           (omega (arith, length-words (a .cell .now), e)) (omega arith) (omega arith),
     )
 
-same-length : tie.Need-same-length Inv-loop μ-loop
-same-length c = omega arith
-
 returns : tie.Need-returns Inv-loop μ-loop
 returns c n e =
     let l = c .before .loop in
@@ -115,27 +68,4 @@ returns c n e =
     l .inv .2 n e ∙ ap (λ (j : ℕ). stretchValues (Delay n) (s .size) (alone (s .x .now)) (s .place) (s .done) j (words (s .cell .now))) done
 
 pub push-spec : {M : Type 1} → statement M
-push-spec =
-    tie.close
-    (tie.spec
-    Inv-loop
-    μ-loop
-    add-at
-    add-at-2
-    loop-holds
-    add-word-at
-    word-at-requires
-    add-store
-    add-store-2
-    mul-store
-    element-copy-out-store
-    store-requires
-    add-put-word
-    add-put-word-2
-    canonical-requires
-    put-word-requires
-    add-i
-    loop-less
-    loop-again
-    same-length
-    returns)
+push-spec = tie.close (next3 (next10 (next2 (tie.spec Inv-loop μ-loop) (omega arith) loop-holds) (omega arith)) (omega arith) loop-again (λ c. omega arith) returns)

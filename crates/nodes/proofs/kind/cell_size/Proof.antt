@@ -4,40 +4,24 @@ use Prim.Native.Nat.{ℕ, _*_, _≤_}
 use native.Mathlib.Omega.{arith}
 use native.Mathlib.Nat.{mul-le-mul}
 use mathlib.Core.Path.{_≡_, sym, subst}
-use lib.Dec.{lit≤}
 use Rattle.nodes.specs.Kind.{channelsOf}
 use Rattle.nodes.specs.declared.kind.NodeKind.{NodeKind}
-use Rattle.nodes.specs.declared.kind.NodeKind.the-variants.{Pass, Sum, Destination, Balance, Mul, Add, Delay, AllPass, OnePole, Sine}
+use Rattle.nodes.proofs.Arms.{kinds}
 use Rattle.nodes.proofs.kind.cell_size.Statement.{statement}
 use Rattle.nodes.proofs.kind.cell_size.Tie as tie
 
 channels-two : (k : NodeKind) → channelsOf k ≤ 2
-channels-two Pass = lit≤ tt
-channels-two Sum = lit≤ tt
-channels-two Destination = lit≤ tt
-channels-two Balance = lit≤ tt
-channels-two (Mul f) = lit≤ tt
-channels-two (Add f) = lit≤ tt
-channels-two (Delay n) = lit≤ tt
-channels-two (AllPass n f) = lit≤ tt
-channels-two (OnePole f) = lit≤ tt
-channels-two (Sine f) = lit≤ tt
+channels-two = kinds (λ k. channelsOf k ≤ 2) (omega arith)
 
 -- the samples of a cell
 room : (k : NodeKind) (size channels : ℕ) → size ≤ 128 → channels ≡ channelsOf k → size * channels ≤ 256
 room k size channels h e = mul-le-mul h (subst (λ (n : ℕ). n ≤ 2) (sym e) (channels-two k))
-
-channels-of-requires : tie.Need-channels-of-requires
-channels-of-requires c κs = search needs
 
 mul-result : tie.Need-mul-result
 mul-result c = omega (arith, room (c .before .args .k) (c .before .args .size) (c .channels-of .result) (search needs) (c .channels-of .ensures))
 
 add-result : tie.Need-add-result
 add-result c = omega (arith, room (c .before .args .k) (c .before .args .size) (c .channels-of .result) (search needs) (c .channels-of .ensures))
-
-line-of-requires : tie.Need-line-of-requires
-line-of-requires c κs = search needs
 
 add-result-2 : tie.Need-add-result-2
 add-result-2 c =
@@ -47,6 +31,4 @@ returns : tie.Need-returns
 returns c = simp (c .before .channels-of .ensures, c .line-of .ensures .0)
 
 pub cell-size-spec : {M : Type 1} → statement M
-cell-size-spec =
-    tie.close
-    (tie.spec channels-of-requires mul-result add-result line-of-requires add-result-2 returns)
+cell-size-spec = tie.close (tie.spec (λ c κs. search needs) mul-result add-result (λ c κs. search needs) add-result-2 returns)

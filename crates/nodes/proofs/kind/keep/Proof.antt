@@ -6,8 +6,5 @@ use Rattle.nodes.proofs.kind.keep.Tie as tie
 returns : tie.Need-returns
 returns c = simp (c .if1 .taken)
 
-returns-2 : tie.Need-returns-2
-returns-2 c = search needs
-
 pub keep-spec : {M : Type 1} → statement M
-keep-spec = tie.close (tie.spec returns returns-2)
+keep-spec = tie.close (tie.spec returns (λ c. search needs))

@@ -3,177 +3,36 @@ use borrow.Author.Needs.{needs}
 use borrow.Author.Tests.{ne-eqb}
 use mathlib.Core.Path.{_∙_}
 use Rattle.nodes.specs.Kind.{ruleOf}
+use Rattle.nodes.proofs.Answers.{next5, next10}
 use Rattle.nodes.proofs.kind.rule_of.Statement.{statement}
 use Rattle.nodes.proofs.kind.rule_of.Tie as tie
 
-plain-fields-requires : tie.Need-plain-fields-requires
-plain-fields-requires c κs = search needs
-
-keep-requires : tie.Need-keep-requires
-keep-requires c κs = search needs
-
-plain-fields-requires-2 : tie.Need-plain-fields-requires-2
-plain-fields-requires-2 c κs = search needs
-
-keep-requires-2 : tie.Need-keep-requires-2
-keep-requires-2 c κs = search needs
-
-plain-fields-requires-3 : tie.Need-plain-fields-requires-3
-plain-fields-requires-3 c κs = search needs
-
-keep-requires-3 : tie.Need-keep-requires-3
-keep-requires-3 c κs = search needs
-
-plain-fields-requires-4 : tie.Need-plain-fields-requires-4
-plain-fields-requires-4 c κs = search needs
-
-keep-requires-4 : tie.Need-keep-requires-4
-keep-requires-4 c κs = search needs
-
-float-fields-requires : tie.Need-float-fields-requires
-float-fields-requires c κs = search needs
-
-of-bits-requires : tie.Need-of-bits-requires
-of-bits-requires c κs = search needs
-
-keep-requires-5 : tie.Need-keep-requires-5
-keep-requires-5 c κs = search needs
-
-float-fields-requires-2 : tie.Need-float-fields-requires-2
-float-fields-requires-2 c κs = search needs
-
-of-bits-requires-2 : tie.Need-of-bits-requires-2
-of-bits-requires-2 c κs = search needs
-
-keep-requires-6 : tie.Need-keep-requires-6
-keep-requires-6 c κs = search needs
-
-delay-fields-requires : tie.Need-delay-fields-requires
-delay-fields-requires c κs = search needs
-
-keep-requires-7 : tie.Need-keep-requires-7
-keep-requires-7 c κs = search needs
-
-all-pass-fields-requires : tie.Need-all-pass-fields-requires
-all-pass-fields-requires c κs = search needs
-
-of-bits-requires-3 : tie.Need-of-bits-requires-3
-of-bits-requires-3 c κs = search needs
-
-keep-requires-8 : tie.Need-keep-requires-8
-keep-requires-8 c κs = search needs
-
-float-fields-requires-3 : tie.Need-float-fields-requires-3
-float-fields-requires-3 c κs = search needs
-
-of-bits-requires-4 : tie.Need-of-bits-requires-4
-of-bits-requires-4 c κs = search needs
-
-keep-requires-9 : tie.Need-keep-requires-9
-keep-requires-9 c κs = search needs
-
-sine-fields-requires : tie.Need-sine-fields-requires
-sine-fields-requires c κs = search needs
-
-of-bits-requires-5 : tie.Need-of-bits-requires-5
-of-bits-requires-5 c κs = search needs
-
-keep-requires-10 : tie.Need-keep-requires-10
-keep-requires-10 c κs = search needs
-
-returns : tie.Need-returns
-unfolding ruleOf
-returns c = c .keep .ensures ∙ simp (c .before .plain-fields .ensures, c .before .before .match .keys1)
-
-returns-2 : tie.Need-returns-2
-unfolding ruleOf
-returns-2 c = c .keep2 .ensures ∙ simp (c .before .plain-fields2 .ensures, c .before .before .match .keys2)
-
-returns-3 : tie.Need-returns-3
-unfolding ruleOf
-returns-3 c = c .keep3 .ensures ∙ simp (c .before .plain-fields3 .ensures, c .before .before .match .keys3)
-
-returns-4 : tie.Need-returns-4
-unfolding ruleOf
-returns-4 c = c .keep4 .ensures ∙ simp (c .before .plain-fields4 .ensures, c .before .before .match .keys4)
-
-returns-5 : tie.Need-returns-5
-unfolding ruleOf
-returns-5 c = c .keep5 .ensures ∙ simp (c .before .of-bits .ensures, c .before .before .float-fields .ensures, c .before .before .before .match .keys5)
-
-returns-6 : tie.Need-returns-6
-unfolding ruleOf
-returns-6 c = c .keep6 .ensures ∙ simp (c .before .of-bits2 .ensures, c .before .before .float-fields2 .ensures, c .before .before .before .match .keys6)
-
-returns-7 : tie.Need-returns-7
-unfolding ruleOf
-returns-7 c = c .keep7 .ensures ∙ simp (c .before .delay-fields .ensures, c .before .before .match .keys7)
-
-returns-8 : tie.Need-returns-8
-unfolding ruleOf
-returns-8 c = c .keep8 .ensures ∙ simp (c .before .of-bits3 .ensures, c .before .before .all-pass-fields .ensures, c .before .before .before .match .keys8)
-
-returns-9 : tie.Need-returns-9
-unfolding ruleOf
-returns-9 c = c .keep9 .ensures ∙ simp (c .before .of-bits4 .ensures, c .before .before .float-fields3 .ensures, c .before .before .before .match .keys9)
-
-returns-10 : tie.Need-returns-10
-unfolding ruleOf
-returns-10 c = c .keep10 .ensures ∙ simp (c .before .of-bits5 .ensures, c .before .before .sine-fields .ensures, c .before .before .before .match .keys10)
-
-returns-11 : tie.Need-returns-11
-unfolding ruleOf
-returns-11 c =
-    simp (
-      ne-eqb _ _ (c .match .rest .0 .0 .0 .0 .0 .0 .0 .0 .0 .1),
-      ne-eqb _ _ (c .match .rest .0 .0 .0 .0 .0 .0 .0 .0 .1),
-      ne-eqb _ _ (c .match .rest .0 .0 .0 .0 .0 .0 .0 .1),
-      ne-eqb _ _ (c .match .rest .0 .0 .0 .0 .0 .0 .1),
-      ne-eqb _ _ (c .match .rest .0 .0 .0 .0 .0 .1),
-      ne-eqb _ _ (c .match .rest .0 .0 .0 .0 .1),
-      ne-eqb _ _ (c .match .rest .0 .0 .0 .1),
-      ne-eqb _ _ (c .match .rest .0 .0 .1),
-      ne-eqb _ _ (c .match .rest .0 .1),
-      ne-eqb _ _ (c .match .rest .1),
-    )
-
 pub rule-of-spec : {M : Type 1} → statement M
+unfolding ruleOf
 rule-of-spec =
     tie.close
-    (tie.spec
-    plain-fields-requires
-    keep-requires
-    plain-fields-requires-2
-    keep-requires-2
-    plain-fields-requires-3
-    keep-requires-3
-    plain-fields-requires-4
-    keep-requires-4
-    float-fields-requires
-    of-bits-requires
-    keep-requires-5
-    float-fields-requires-2
-    of-bits-requires-2
-    keep-requires-6
-    delay-fields-requires
-    keep-requires-7
-    all-pass-fields-requires
-    of-bits-requires-3
-    keep-requires-8
-    float-fields-requires-3
-    of-bits-requires-4
-    keep-requires-9
-    sine-fields-requires
-    of-bits-requires-5
-    keep-requires-10
-    returns
-    returns-2
-    returns-3
-    returns-4
-    returns-5
-    returns-6
-    returns-7
-    returns-8
-    returns-9
-    returns-10
-    returns-11)
+    (next5 (next10 (next10 tie.spec (search needs)) (search needs)) (search needs)
+    (λ c. c .keep .ensures ∙ simp (c .before .plain-fields .ensures, c .before .before .match .keys1))
+    (λ c. c .keep2 .ensures ∙ simp (c .before .plain-fields2 .ensures, c .before .before .match .keys2))
+    (λ c. c .keep3 .ensures ∙ simp (c .before .plain-fields3 .ensures, c .before .before .match .keys3))
+    (λ c. c .keep4 .ensures ∙ simp (c .before .plain-fields4 .ensures, c .before .before .match .keys4))
+    (λ c. c .keep5 .ensures ∙ simp (c .before .of-bits .ensures, c .before .before .float-fields .ensures, c .before .before .before .match .keys5))
+    (λ c. c .keep6 .ensures ∙ simp (c .before .of-bits2 .ensures, c .before .before .float-fields2 .ensures, c .before .before .before .match .keys6))
+    (λ c. c .keep7 .ensures ∙ simp (c .before .delay-fields .ensures, c .before .before .match .keys7))
+    (λ c. c .keep8 .ensures ∙ simp (c .before .of-bits3 .ensures, c .before .before .all-pass-fields .ensures, c .before .before .before .match .keys8))
+    (λ c. c .keep9 .ensures ∙ simp (c .before .of-bits4 .ensures, c .before .before .float-fields3 .ensures, c .before .before .before .match .keys9))
+    (λ c. c .keep10 .ensures ∙ simp (c .before .of-bits5 .ensures, c .before .before .sine-fields .ensures, c .before .before .before .match .keys10))
+    (λ c.
+    let r = c .match .rest in
+    simp (
+      ne-eqb _ _ (r .0 .0 .0 .0 .0 .0 .0 .0 .0 .1),
+      ne-eqb _ _ (r .0 .0 .0 .0 .0 .0 .0 .0 .1),
+      ne-eqb _ _ (r .0 .0 .0 .0 .0 .0 .0 .1),
+      ne-eqb _ _ (r .0 .0 .0 .0 .0 .0 .1),
+      ne-eqb _ _ (r .0 .0 .0 .0 .0 .1),
+      ne-eqb _ _ (r .0 .0 .0 .0 .1),
+      ne-eqb _ _ (r .0 .0 .0 .1),
+      ne-eqb _ _ (r .0 .0 .1),
+      ne-eqb _ _ (r .0 .1),
+      ne-eqb _ _ (r .1),
+    )))

@@ -3,11 +3,8 @@ use borrow.Author.Needs.{needs}
 use Rattle.nodes.proofs.kind.sine_fields.Statement.{statement}
 use Rattle.nodes.proofs.kind.sine_fields.Tie as tie
 
-of-bits-requires : tie.Need-of-bits-requires
-of-bits-requires c κs = search needs
-
 returns : tie.Need-returns
 returns c = simp (c .of-bits .ensures)
 
 pub sine-fields-spec : {M : Type 1} → statement M
-sine-fields-spec = tie.close (tie.spec of-bits-requires returns)
+sine-fields-spec = tie.close (tie.spec (λ c κs. search needs) returns)

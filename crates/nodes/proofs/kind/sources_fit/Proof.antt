@@ -1,16 +1,11 @@
 -- `nodes::kind::sources_fit` meets its contract. Assumes nothing.
 use borrow.Author.Needs.{needs}
+use Rattle.nodes.proofs.Answers.{next2}
 use Rattle.nodes.proofs.kind.sources_fit.Statement.{statement}
 use Rattle.nodes.proofs.kind.sources_fit.Tie as tie
-
-fewest-requires : tie.Need-fewest-requires
-fewest-requires c κs = search needs
-
-most-requires : tie.Need-most-requires
-most-requires c κs = search needs
 
 returns : tie.Need-returns
 returns c = simp (c .before .fewest .ensures, c .most .ensures)
 
 pub sources-fit-spec : {M : Type 1} → statement M
-sources-fit-spec = tie.close (tie.spec fewest-requires most-requires returns)
+sources-fit-spec = tie.close (next2 tie.spec (search needs) returns)

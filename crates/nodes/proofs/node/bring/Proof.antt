@@ -1,6 +1,6 @@
 -- `nodes::node::bring` meets its contract: in each arm the kind is known, and its blocks are sums or the operands. Assumes nothing.
 use mathlib.Core.Path.{_≡_, refl, ap, _∙_}
-use mathlib.Core.List.{List}
+use mathlib.Core.List.{List, [], _∷_}
 use Prim.Native.Nat.{ℕ, _<_}
 use native.Mathlib.Omega.{arith}
 use denote.Ref.{now}
@@ -15,6 +15,7 @@ use Rattle.nodes.specs.declared.kind.NodeKind.{NodeKind}
 use Rattle.nodes.proofs.Filled.{length-fill, fetch-long}
 use Rattle.nodes.proofs.Brought.{total-brought, operands-brought, supplies}
 use borrow.Author.Needs.{needs}
+use Rattle.nodes.proofs.Arms.{Among, arm}
 use Rattle.nodes.proofs.node.bring.Statement.{statement}
 use Rattle.nodes.proofs.node.bring.Tie as tie
 
@@ -58,71 +59,15 @@ module _ (s : tie.Start) where
         operands-brought ws lefts (now (s .args .rights)) list (s .args .second) size (now (s .args .x)) (now (s .args .m)) y z
         (omega (arith, s .pre .0)) (omega (arith, s .pre .0)) (p .0) (p .1)
 
+    -- to every type but the sum and the destination
+    given : (k : NodeKind) → Among (0 ∷ 3 ∷ 4 ∷ 5 ∷ 6 ∷ 7 ∷ 8 ∷ 9 ∷ []) k → (i : ℕ) → i < size → Gives k (length list) (brings i) (sample y i) (sample z i)
+    given k o =
+        let f = fetched in
+        arm (λ j. (i : ℕ) → i < size → Gives j (length list) (brings i) (sample y i) (sample z i)) (0 ∷ 3 ∷ 4 ∷ 5 ∷ 6 ∷ 7 ∷ 8 ∷ 9 ∷ []) k o
+        (f, (f, (λ _. f, (λ _. f, (λ _. f, (λ _ _. f, (λ _. f, λ _. f)))))))
+
     fetched-long : (length y ≡ length (now (s .args .x))) × (length z ≡ length (now (s .args .m)))
     fetched-long = (fetch-long _ _ _ _ _ _ (p .0), fetch-long _ _ _ _ _ _ (p .1))
-
-enum-told : tie.Need-enum-told
-enum-told c = search needs
-
-total-requires : tie.Need-total-requires
-total-requires c κs = search needs
-
-enum-told-2 : tie.Need-enum-told-2
-enum-told-2 c = search needs
-
-total-requires-2 : tie.Need-total-requires-2
-total-requires-2 c κs = search needs
-
-total-requires-3 : tie.Need-total-requires-3
-total-requires-3 c κs = search needs
-
-enum-told-3 : tie.Need-enum-told-3
-enum-told-3 c = search needs
-
-operands-requires : tie.Need-operands-requires
-operands-requires c κs = search needs
-
-enum-told-4 : tie.Need-enum-told-4
-enum-told-4 c = search needs
-
-operands-requires-2 : tie.Need-operands-requires-2
-operands-requires-2 c κs = search needs
-
-enum-known-kind : tie.Need-enum-known-kind
-enum-known-kind c = search needs
-
-operands-requires-3 : tie.Need-operands-requires-3
-operands-requires-3 c κs = search needs
-
-enum-known-kind-2 : tie.Need-enum-known-kind-2
-enum-known-kind-2 c = search needs
-
-operands-requires-4 : tie.Need-operands-requires-4
-operands-requires-4 c κs = search needs
-
-enum-known-kind-3 : tie.Need-enum-known-kind-3
-enum-known-kind-3 c = search needs
-
-operands-requires-5 : tie.Need-operands-requires-5
-operands-requires-5 c κs = search needs
-
-enum-known-kind-4 : tie.Need-enum-known-kind-4
-enum-known-kind-4 c = search needs
-
-operands-requires-6 : tie.Need-operands-requires-6
-operands-requires-6 c κs = search needs
-
-enum-known-kind-5 : tie.Need-enum-known-kind-5
-enum-known-kind-5 c = search needs
-
-operands-requires-7 : tie.Need-operands-requires-7
-operands-requires-7 c κs = search needs
-
-enum-known-kind-6 : tie.Need-enum-known-kind-6
-enum-known-kind-6 c = search needs
-
-operands-requires-8 : tie.Need-operands-requires-8
-operands-requires-8 c κs = search needs
 
 returns : tie.Need-returns
 returns c =
@@ -145,84 +90,20 @@ returns-2 c =
 
 returns-3 : tie.Need-returns-3
 returns-3 c =
-    let s = c .before .before .before .before .before .before .before in
+    let s = c .before .before .before .before .before .before in
     let p = c .operands .ensures in
-    done s (c .before .before .before .enum-told3 .given .1) (fetched s p) (fetched-long s p)
-
-returns-4 : tie.Need-returns-4
-returns-4 c =
-    let s = c .before .before .before .before .before .before .before in
-    let p = c .operands2 .ensures in
-    done s (c .before .before .before .enum-told4 .given .1) (fetched s p) (fetched-long s p)
-
-returns-5 : tie.Need-returns-5
-returns-5 c =
-    let s = c .before .before .before .before .before .before .before .before in
-    let p = c .operands3 .ensures in
-    done s (c .before .before .before .before .kind .given .1) (fetched s p) (fetched-long s p)
-
-returns-6 : tie.Need-returns-6
-returns-6 c =
-    let s = c .before .before .before .before .before .before .before .before in
-    let p = c .operands4 .ensures in
-    done s (c .before .before .before .before .kind2 .given .1) (fetched s p) (fetched-long s p)
-
-returns-7 : tie.Need-returns-7
-returns-7 c =
-    let s = c .before .before .before .before .before .before .before .before in
-    let p = c .operands5 .ensures in
-    done s (c .before .before .before .before .kind3 .given .1) (fetched s p) (fetched-long s p)
-
-returns-8 : tie.Need-returns-8
-returns-8 c =
-    let s = c .before .before .before .before .before .before .before .before in
-    let p = c .operands6 .ensures in
-    done s (c .before .before .before .before .kind4 .given .1) (fetched s p) (fetched-long s p)
-
-returns-9 : tie.Need-returns-9
-returns-9 c =
-    let s = c .before .before .before .before .before .before .before .before in
-    let p = c .operands7 .ensures in
-    done s (c .before .before .before .before .kind5 .given .1) (fetched s p) (fetched-long s p)
-
-returns-10 : tie.Need-returns-10
-returns-10 c =
-    let s = c .before .before .before .before .before .before .before .before in
-    let p = c .operands8 .ensures in
-    done s (c .before .before .before .before .kind6 .given .1) (fetched s p) (fetched-long s p)
+    done s refl (given s p (s .args .kind) (c .before .before .before .match .keys3)) (fetched-long s p)
 
 pub bring-spec : {M : Type 1} → statement M
 bring-spec =
     tie.close
     (tie.spec
-    enum-told
-    total-requires
-    enum-told-2
-    total-requires-2
-    total-requires-3
-    enum-told-3
-    operands-requires
-    enum-told-4
-    operands-requires-2
-    enum-known-kind
-    operands-requires-3
-    enum-known-kind-2
-    operands-requires-4
-    enum-known-kind-3
-    operands-requires-5
-    enum-known-kind-4
-    operands-requires-6
-    enum-known-kind-5
-    operands-requires-7
-    enum-known-kind-6
-    operands-requires-8
+    (search needs)
+    (λ c κs. search needs)
+    (search needs)
+    (λ c κs. search needs)
+    (λ c κs. search needs)
+    (λ c κs. search needs)
     returns
     returns-2
-    returns-3
-    returns-4
-    returns-5
-    returns-6
-    returns-7
-    returns-8
-    returns-9
-    returns-10)
+    returns-3)

@@ -10,15 +10,9 @@ use lib.ListN.{length, getD}
 use Rattle.leaves.specs.Words.{words}
 use Rattle.nodes.specs.Block.{fetched, fetchedIf, fill}
 use Rattle.nodes.proofs.Filled.{fetch-asked, fetch-not}
-use borrow.Author.Needs.{needs}
+use Rattle.nodes.proofs.Answers.{next2, next3}
 use Rattle.nodes.proofs.node.operands.Statement.{statement}
 use Rattle.nodes.proofs.node.operands.Tie as tie
-
-shared-slice-read-wide : tie.Need-shared-slice-read-wide
-shared-slice-read-wide c = search needs
-
-wide-requires : tie.Need-wide-requires
-wide-requires c κs = search needs
 
 -- the first source is a node, whose block lies in the memory
 source : (c : tie.After-wide)
@@ -47,15 +41,6 @@ element-copy-out-fetch c = omega (arith, source c)
 fetch-requires : tie.Need-fetch-requires
 fetch-requires c κs = (c .before .before .before .before .before .before .before .pre .0 .0, source (c .before .before) .1)
 
-mul-fetch-2 : tie.Need-mul-fetch-2
-mul-fetch-2 c = search needs
-
-element-copy-out-fetch-2 : tie.Need-element-copy-out-fetch-2
-element-copy-out-fetch-2 c = search needs
-
-fetch-requires-2 : tie.Need-fetch-requires-2
-fetch-requires-2 c κs = search needs
-
 returns : tie.Need-returns
 returns c = (first-fetched (c .before .before .before .before), fetch-asked _ _ _ _ _ _ (lt-ltb _ _ (c .before .before .before .if2 .taken)) (c .fetch2 .ensures))
 
@@ -63,16 +48,4 @@ returns-2 : tie.Need-returns-2
 returns-2 c = (first-fetched (c .before), fetch-not _ _ _ _ _ _ (le-ltb _ _ (c .if2 .left)) refl)
 
 pub operands-spec : {M : Type 1} → statement M
-operands-spec =
-    tie.close
-    (tie.spec
-    shared-slice-read-wide
-    wide-requires
-    mul-fetch
-    element-copy-out-fetch
-    fetch-requires
-    mul-fetch-2
-    element-copy-out-fetch-2
-    fetch-requires-2
-    returns
-    returns-2)
+operands-spec = tie.close (next3 (next2 tie.spec (omega arith) mul-fetch element-copy-out-fetch fetch-requires) (omega arith) returns returns-2)

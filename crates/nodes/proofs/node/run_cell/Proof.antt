@@ -5,247 +5,72 @@ use mathlib.Core.List.{List}
 use Prim.Native.Nat.{ℕ}
 use native.Mathlib.Omega.{arith}
 use denote.Ref.{now}
-use Rattle.leaves.specs.Words.{words}
 use Rattle.nodes.specs.Node.{CellReady}
 use Rattle.nodes.specs.declared.kind.NodeKind.{NodeKind}
-use Rattle.nodes.proofs.Alike.{mul-reads, add-reads, delay-reads, all-pass-reads, one-pole-reads, sine-reads, given-run, alone-run, nothing-run}
-use Rattle.nodes.proofs.Supplied.{Runs, at-least, at-most, delay-place, all-pass-place, sine-ranges, sum-runs, destination-runs, balance-runs, pass-runs, pass-kept}
+use Rattle.nodes.proofs.Alike.{mul-reads, add-reads, delay-reads, all-pass-reads, one-pole-reads, sine-reads}
+use Rattle.nodes.proofs.Supplied.{Runs, stereo-whole, delay-place, all-pass-place, sine-ranges, sum-runs, stereo-runs, pass-runs, pass-kept, given-runs, alone-runs, nothing-runs}
 use borrow.Author.Needs.{needs}
 use Rattle.nodes.proofs.node.run_cell.Statement.{statement}
 use Rattle.nodes.proofs.node.run_cell.Tie as tie
 
--- what is required, and what is to be shown, at the arm's kind
-ready : (s : tie.Start) {k : NodeKind} → s .args .kind ≡ k → CellReady (now (s .args .cell)) k (s .args .size) (s .args .count)
-ready s e = subst (λ (k : NodeKind). CellReady (now (s .args .cell)) k (s .args .size) (s .args .count)) e (s .pre)
+-- what is required of a cell, and what is to be shown of what is left of it, at the type k
+abbrev asked : tie.Start → NodeKind → Type 0
+asked s k = CellReady (now (s .args .cell)) k (s .args .size) (s .args .count)
 
 abbrev runs : tie.Start → List ℕ → NodeKind → Type 0
-runs s vs = Runs (now (s .args .cell)) (s .args .size) (s .args .count) (now (s .args .x)) (now (s .args .m)) vs
+runs s vs k = Runs (now (s .args .cell)) (s .args .size) (s .args .count) (now (s .args .x)) (now (s .args .m)) vs k
 
-arm : (s : tie.Start) {k : NodeKind} {vs : List ℕ} → s .args .kind ≡ k → runs s vs k → runs s vs (s .args .kind)
-arm s {k} {vs} e r = subst (runs s vs) (sym e) r
+-- the same in the arm of the type k
+module _ (s : tie.Start) {k : NodeKind} (e : s .args .kind ≡ k) where
+  ready : asked s k
+  ready = subst (asked s) e (s .pre)
 
-enum-told : tie.Need-enum-told
-enum-told c = search needs
-
-put-requires : tie.Need-put-requires
-put-requires c κs = let r = ready (c .before .before .before .before .before) (c .before .before .enum-told .given .1) in omega arith
-
-enum-told-2 : tie.Need-enum-told-2
-enum-told-2 c = search needs
-
-put-requires-2 : tie.Need-put-requires-2
-put-requires-2 c κs = let r = ready (c .before .before .before .before) (c .before .enum-told2 .given .1) in omega arith
-
-enum-told-3 : tie.Need-enum-told-3
-enum-told-3 c = search needs
-
-put-requires-3 : tie.Need-put-requires-3
-put-requires-3 c κs = let r = ready (c .before .before .before .before) (c .before .enum-told3 .given .1) in omega arith
-
-add-put : tie.Need-add-put
-add-put c = search needs
-
-put-requires-4 : tie.Need-put-requires-4
-put-requires-4 c κs = let r = ready (c .before .before .before .before .before .before .before .before) (c .before .before .before .before .before .enum-told3 .given .1) in omega arith
-
-enum-told-4 : tie.Need-enum-told-4
-enum-told-4 c = search needs
-
-put-requires-5 : tie.Need-put-requires-5
-put-requires-5 c κs = let r = ready (c .before .before .before .before) (c .before .enum-told4 .given .1) in omega arith
-
-add-put-2 : tie.Need-add-put-2
-add-put-2 c = search needs
-
-put-requires-6 : tie.Need-put-requires-6
-put-requires-6 c κs = let r = ready (c .before .before .before .before .before .before .before .before) (c .before .before .before .before .before .enum-told4 .given .1) in omega arith
-
-enum-known-kind : tie.Need-enum-known-kind
-enum-known-kind c = search needs
-
-mul-requires : tie.Need-mul-requires
-mul-requires c κs = let r = ready (c .before .before .before .before .before) (c .before .before .kind .given .1) in omega arith
-
-enum-known-kind-2 : tie.Need-enum-known-kind-2
-enum-known-kind-2 c = search needs
-
-add-requires : tie.Need-add-requires
-add-requires c κs = let r = ready (c .before .before .before .before .before) (c .before .before .kind2 .given .1) in omega arith
-
-enum-known-kind-3 : tie.Need-enum-known-kind-3
-enum-known-kind-3 c = search needs
-
-cast-delay : tie.Need-cast-delay
-cast-delay c = search needs
-
-delay-requires : tie.Need-delay-requires
-delay-requires c κs = let r = ready (c .before .before .before .before .before) (c .before .before .kind3 .given .1) in omega (arith, delay-place r)
-
-enum-known-kind-4 : tie.Need-enum-known-kind-4
-enum-known-kind-4 c = search needs
-
-cast-all-pass : tie.Need-cast-all-pass
-cast-all-pass c = search needs
-
-all-pass-requires : tie.Need-all-pass-requires
-all-pass-requires c κs = let r = ready (c .before .before .before .before .before) (c .before .before .kind4 .given .1) in omega (arith, all-pass-place r)
-
-enum-known-kind-5 : tie.Need-enum-known-kind-5
-enum-known-kind-5 c = search needs
-
-one-pole-requires : tie.Need-one-pole-requires
-one-pole-requires c κs = let r = ready (c .before .before .before .before .before) (c .before .before .kind5 .given .1) in omega arith
-
-enum-known-kind-6 : tie.Need-enum-known-kind-6
-enum-known-kind-6 c = search needs
-
-sin-osc-requires : tie.Need-sin-osc-requires
-sin-osc-requires c κs = let r = ready (c .before .before .before .before .before) (c .before .before .kind6 .given .1) in (omega arith, sine-ranges r)
-
-same-length : tie.Need-same-length
-same-length c = search needs
-
-returns : tie.Need-returns
-returns c =
-    let s = c .before .before .before .before .before .before .before .before in
-    let e = c .before .before .before .before .before .enum-told .given .1 in
-    arm s e (pass-runs (ready s e) (c .before .before .before .before .if1 .taken) (c .before .before .put .ensures))
-
-returns-2 : tie.Need-returns-2
-returns-2 c =
-    let s = c .before .before .before .before in
-    let e = c .before .enum-told .given .1 in
-    arm s e (pass-kept (ready s e) (omega (arith, c .if1 .left)) refl)
-
-same-length-2 : tie.Need-same-length-2
-same-length-2 c = search needs
-
-returns-3 : tie.Need-returns-3
-returns-3 c =
-    let s = c .before .before .before .before .before .before .before in
-    let e = c .before .before .before .before .enum-told2 .given .1 in
-    arm s e (sum-runs (ready s e) (c .before .before .put2 .ensures))
-
-same-length-3 : tie.Need-same-length-3
-same-length-3 c = search needs
-
-returns-4 : tie.Need-returns-4
-returns-4 c =
-    let s = c .before .before .before .before .before .before .before .before .before .before .before in
-    let e = c .before .before .before .before .before .before .before .before .enum-told3 .given .1 in
-    arm s e (destination-runs (ready s e) (c .before .before .before .before .before .before .put3 .ensures) (c .before .before .put4 .ensures))
-
-same-length-4 : tie.Need-same-length-4
-same-length-4 c = search needs
-
-returns-5 : tie.Need-returns-5
-returns-5 c =
-    let s = c .before .before .before .before .before .before .before .before .before .before .before in
-    let e = c .before .before .before .before .before .before .before .before .enum-told4 .given .1 in
-    arm s e (balance-runs (ready s e) (c .before .before .before .before .before .before .put5 .ensures) (c .before .before .put6 .ensures))
-
-same-length-5 : tie.Need-same-length-5
-same-length-5 c = search needs
-
-returns-6 : tie.Need-returns-6
-returns-6 c =
-    let s = c .before .before .before .before .before .before .before .before in
-    let e = c .before .before .before .before .before .kind .given .1 in
-    arm s e (λ bs supply. given-run (mul-reads _) (s .args .size) (s .args .count) (now (s .args .x)) (now (s .args .m)) bs (words (now (s .args .cell))) _ (supply .counted) (supply .gives) (at-least (ready s e)) (c .before .before .mul .ensures _))
-
-same-length-6 : tie.Need-same-length-6
-same-length-6 c = search needs
-
-returns-7 : tie.Need-returns-7
-returns-7 c =
-    let s = c .before .before .before .before .before .before .before .before in
-    let e = c .before .before .before .before .before .kind2 .given .1 in
-    arm s e (λ bs supply. given-run (add-reads _) (s .args .size) (s .args .count) (now (s .args .x)) (now (s .args .m)) bs (words (now (s .args .cell))) _ (supply .counted) (supply .gives) (at-least (ready s e)) (c .before .before .add .ensures _))
-
-same-length-7 : tie.Need-same-length-7
-same-length-7 c = search needs
-
-returns-8 : tie.Need-returns-8
-returns-8 c =
-    let s = c .before .before .before .before .before .before .before .before in
-    let e = c .before .before .before .before .before .kind3 .given .1 in
-    arm s e (λ bs supply. alone-run (delay-reads _) (s .args .size) (s .args .count) (now (s .args .x)) (now (s .args .m)) bs (words (now (s .args .cell))) _ (supply .counted) (supply .gives) (omega (arith, at-least (ready s e), at-most (ready s e))) (c .before .before .delay .ensures))
-
-same-length-8 : tie.Need-same-length-8
-same-length-8 c = search needs
-
-returns-9 : tie.Need-returns-9
-returns-9 c =
-    let s = c .before .before .before .before .before .before .before .before in
-    let e = c .before .before .before .before .before .kind4 .given .1 in
-    arm s e (λ bs supply. given-run (all-pass-reads _ _) (s .args .size) (s .args .count) (now (s .args .x)) (now (s .args .m)) bs (words (now (s .args .cell))) _ (supply .counted) (supply .gives) (at-least (ready s e)) (c .before .before .all-pass .ensures _))
-
-same-length-9 : tie.Need-same-length-9
-same-length-9 c = search needs
-
-returns-10 : tie.Need-returns-10
-returns-10 c =
-    let s = c .before .before .before .before .before .before .before .before in
-    let e = c .before .before .before .before .before .kind5 .given .1 in
-    arm s e (λ bs supply. alone-run (one-pole-reads _) (s .args .size) (s .args .count) (now (s .args .x)) (now (s .args .m)) bs (words (now (s .args .cell))) _ (supply .counted) (supply .gives) (omega (arith, at-least (ready s e), at-most (ready s e))) (c .before .before .one-pole .ensures))
-
-same-length-10 : tie.Need-same-length-10
-same-length-10 c = search needs
-
-returns-11 : tie.Need-returns-11
-returns-11 c =
-    let s = c .before .before .before .before .before .before .before .before in
-    let e = c .before .before .before .before .before .kind6 .given .1 in
-    arm s e (λ bs supply. nothing-run (sine-reads _) (s .args .size) (s .args .count) (now (s .args .x)) (now (s .args .m)) bs (words (now (s .args .cell))) _ (supply .counted) (supply .gives) (omega (arith, at-most (ready s e))) (c .before .before .sin-osc .ensures _))
+  shown : {vs : List ℕ} → (asked s k → runs s vs k) → runs s vs (s .args .kind)
+  shown {vs} r = subst (runs s vs) (sym e) (r ready)
 
 pub run-cell-spec : {M : Type 1} → statement M
 run-cell-spec =
     tie.close
     (tie.spec
-    enum-told
-    put-requires
-    enum-told-2
-    put-requires-2
-    enum-told-3
-    put-requires-3
-    add-put
-    put-requires-4
-    enum-told-4
-    put-requires-5
-    add-put-2
-    put-requires-6
-    enum-known-kind
-    mul-requires
-    enum-known-kind-2
-    add-requires
-    enum-known-kind-3
-    cast-delay
-    delay-requires
-    enum-known-kind-4
-    cast-all-pass
-    all-pass-requires
-    enum-known-kind-5
-    one-pole-requires
-    enum-known-kind-6
-    sin-osc-requires
-    same-length
-    returns
-    returns-2
-    same-length-2
-    returns-3
-    same-length-3
-    returns-4
-    same-length-4
-    returns-5
-    same-length-5
-    returns-6
-    same-length-6
-    returns-7
-    same-length-7
-    returns-8
-    same-length-8
-    returns-9
-    same-length-9
-    returns-10
-    same-length-10
-    returns-11)
+    -- what the calls require, arm by arm: pass, sum, the stereo types, mul, add, delay, all-pass, one-pole, sine
+    (λ c. search needs)
+    (λ c κs. let t = c .before .before in let r = ready (t .before .before .before) (t .enum-told .given .1) in omega arith)
+    (λ c. search needs)
+    (λ c κs. let t = c .before in let r = ready (t .before .before .before) (t .enum-told2 .given .1) in omega arith)
+    (λ c κs. let t = c .before in let w = stereo-whole (t .match .keys3) (t .before .before .pre) in omega arith)
+    (λ c. search needs)
+    (λ c κs. let t = c .before .before .before .before .before in let w = stereo-whole (t .match .keys3) (t .before .before .pre) in omega arith)
+    (λ c. search needs)
+    (λ c κs. let t = c .before .before in let r = ready (t .before .before .before) (t .kind .given .1) in omega arith)
+    (λ c. search needs)
+    (λ c κs. let t = c .before .before in let r = ready (t .before .before .before) (t .kind2 .given .1) in omega arith)
+    (λ c. search needs)
+    (λ c. search needs)
+    (λ c κs. let t = c .before .before in let r = ready (t .before .before .before) (t .kind3 .given .1) in omega (arith, delay-place r))
+    (λ c. search needs)
+    (λ c. search needs)
+    (λ c κs. let t = c .before .before in let r = ready (t .before .before .before) (t .kind4 .given .1) in omega (arith, all-pass-place r))
+    (λ c. search needs)
+    (λ c κs. let t = c .before .before in let r = ready (t .before .before .before) (t .kind5 .given .1) in omega arith)
+    (λ c. search needs)
+    (λ c κs. let t = c .before .before in let r = ready (t .before .before .before) (t .kind6 .given .1) in (omega arith, sine-ranges r))
+    -- what the arms leave: the length, and the run
+    (λ c. search needs)
+    (λ c. let t = c .before .before .before .before .before in shown (t .before .before .before) (t .enum-told .given .1) (λ r. pass-runs r (c .before .before .before .before .if1 .taken) (c .before .before .put .ensures)))
+    (λ c. let t = c .before in shown (t .before .before .before) (t .enum-told .given .1) (λ r. pass-kept r (omega (arith, c .if1 .left)) refl))
+    (λ c. search needs)
+    (λ c. let t = c .before .before .before .before in shown (t .before .before .before) (t .enum-told2 .given .1) (λ r. sum-runs r (c .before .before .put2 .ensures)))
+    (λ c. search needs)
+    (λ c. let p = c .before .before .before .before .before .before in let t = p .before .before in stereo-runs (t .match .keys3) (t .before .before .pre) (p .put3 .ensures) (c .before .before .put4 .ensures))
+    (λ c. search needs)
+    (λ c. let t = c .before .before .before .before .before in shown (t .before .before .before) (t .kind .given .1) (λ r. given-runs (mul-reads _) r (omega arith) (c .before .before .mul .ensures _)))
+    (λ c. search needs)
+    (λ c. let t = c .before .before .before .before .before in shown (t .before .before .before) (t .kind2 .given .1) (λ r. given-runs (add-reads _) r (omega arith) (c .before .before .add .ensures _)))
+    (λ c. search needs)
+    (λ c. let t = c .before .before .before .before .before in shown (t .before .before .before) (t .kind3 .given .1) (λ r. alone-runs (delay-reads _) r refl refl (c .before .before .delay .ensures)))
+    (λ c. search needs)
+    (λ c. let t = c .before .before .before .before .before in shown (t .before .before .before) (t .kind4 .given .1) (λ r. given-runs (all-pass-reads _ _) r (omega arith) (c .before .before .all-pass .ensures _)))
+    (λ c. search needs)
+    (λ c. let t = c .before .before .before .before .before in shown (t .before .before .before) (t .kind5 .given .1) (λ r. alone-runs (one-pole-reads _) r refl refl (c .before .before .one-pole .ensures)))
+    (λ c. search needs)
+    (λ c. let t = c .before .before .before .before .before in shown (t .before .before .before) (t .kind6 .given .1) (λ r. nothing-runs (sine-reads _) r refl (c .before .before .sin-osc .ensures _))))

@@ -11,32 +11,9 @@ use Rattle.nodes.specs.Kind.{cellSize}
 use Rattle.nodes.specs.Cell.{cellFits, runValues}
 use Rattle.nodes.specs.Node.{broughtAt, nodeRun}
 use borrow.Author.Needs.{needs}
+use Rattle.nodes.proofs.Answers.{next7}
 use Rattle.nodes.proofs.node.step.Statement.{statement}
 use Rattle.nodes.proofs.node.step.Tie as tie
-
-bring-requires : tie.Need-bring-requires
-bring-requires c κs = search needs
-
-mul-start : tie.Need-mul-start
-mul-start c = search needs
-
-cell-size-requires : tie.Need-cell-size-requires
-cell-size-requires c κs = search needs
-
-mul-end : tie.Need-mul-end
-mul-end c = search needs
-
-add-end : tie.Need-add-end
-add-end c = search needs
-
-sub-run-cell : tie.Need-sub-run-cell
-sub-run-cell c = search needs
-
-part-run-cell-start : tie.Need-part-run-cell-start
-part-run-cell-start c = search needs
-
-part-run-cell-end : tie.Need-part-run-cell-end
-part-run-cell-end c = search needs
 
 run-cell-requires : tie.Need-run-cell-requires
 run-cell-requires c κs =
@@ -56,9 +33,6 @@ run-cell-requires c κs =
       counted = ready .counted;
     }
 
-same-length : tie.Need-same-length
-same-length c = search needs
-
 returns : tie.Need-returns
 unfolding nodeRun
 returns c =
@@ -73,17 +47,4 @@ returns c =
     )
 
 pub step-spec : {M : Type 1} → statement M
-step-spec =
-    tie.close
-    (tie.spec
-    bring-requires
-    mul-start
-    cell-size-requires
-    mul-end
-    add-end
-    sub-run-cell
-    part-run-cell-start
-    part-run-cell-end
-    run-cell-requires
-    same-length
-    returns)
+step-spec = tie.close (next7 (tie.spec (λ c κs. search needs)) (search needs) run-cell-requires (λ c. search needs) returns)

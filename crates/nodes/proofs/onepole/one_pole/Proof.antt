@@ -18,6 +18,7 @@ use Rattle.nodes.specs.Cell.{Cell, putFrame, frameAt, stepCell}
 use Rattle.nodes.specs.Block.{sample, alone}
 use Rattle.nodes.specs.declared.kind.NodeKind.the-variants as kinds
 use Rattle.nodes.proofs.Carried.{carried, Carrying, carrying-none, carrying-more, carrying-end}
+use Rattle.nodes.proofs.Answers.{next2, next7}
 use Rattle.nodes.proofs.onepole.one_pole.Statement.{statement}
 use Rattle.nodes.proofs.onepole.one_pole.Tie as tie
 
@@ -65,38 +66,11 @@ Inv-loop cell₀ b size x pole₀ i₀ cell pole i =
 abbrev μ-loop : tie.MeasureT-loop
 μ-loop cell₀ b size x pole₀ i₀ cell pole i = size - i
 
-load-requires : tie.Need-load-requires Inv-loop μ-loop
-load-requires c κs = search needs
-
-new-requires : tie.Need-new-requires Inv-loop μ-loop
-new-requires c κs = search needs
-
 loop-holds : tie.Need-loop-holds Inv-loop μ-loop
 loop-holds c =
     let given = c .before .before .before .before .args in
     let ws = words (given .cell .now) in
     (search needs, refl, runs-none (given .b) (given .size) (given .x .now) ws (omega (arith, length-words (given .cell .now))) _ (c .new .result) (c .before .load .ensures) (c .new .ensures))
-
-mul-step : tie.Need-mul-step Inv-loop μ-loop
-mul-step c = search needs
-
-element-copy-out-step : tie.Need-element-copy-out-step Inv-loop μ-loop
-element-copy-out-step c = search needs
-
-step-requires : tie.Need-step-requires Inv-loop μ-loop
-step-requires c κs = search needs
-
-add-store : tie.Need-add-store Inv-loop μ-loop
-add-store c = search needs
-
-store-requires : tie.Need-store-requires Inv-loop μ-loop
-store-requires c κs = search needs
-
-add-i : tie.Need-add-i Inv-loop μ-loop
-add-i c = search needs
-
-loop-less : tie.Need-loop-less Inv-loop μ-loop
-loop-less c = search needs
 
 loop-again : tie.Need-loop-again Inv-loop μ-loop
 loop-again c =
@@ -111,12 +85,6 @@ loop-again c =
           (c .before .before .before .before .step .ensures) (c .before .before .store .ensures) (here .loop .inv .2),
     )
 
-store-requires-2 : tie.Need-store-requires-2 Inv-loop μ-loop
-store-requires-2 c κs = search needs
-
-same-length : tie.Need-same-length Inv-loop μ-loop
-same-length c = search needs
-
 returns : tie.Need-returns Inv-loop μ-loop
 returns c =
     let here = c .before .before .before .before .before in
@@ -126,22 +94,4 @@ returns c =
     (omega arith) (omega arith) (here .loop .inv .2 .1)
 
 pub one-pole-spec : {M : Type 1} → statement M
-one-pole-spec =
-    tie.close
-    (tie.spec
-    Inv-loop
-    μ-loop
-    load-requires
-    new-requires
-    loop-holds
-    mul-step
-    element-copy-out-step
-    step-requires
-    add-store
-    store-requires
-    add-i
-    loop-less
-    loop-again
-    store-requires-2
-    same-length
-    returns)
+one-pole-spec = tie.close (next2 (next7 (next2 (tie.spec Inv-loop μ-loop) (omega arith) loop-holds) (omega arith) loop-again) (omega arith) returns)

@@ -19,6 +19,7 @@ use Rattle.nodes.specs.Cell.{Cell, putFrame, frameAt, stepCell}
 use Rattle.nodes.specs.Block.{nothing}
 use Rattle.nodes.specs.declared.kind.NodeKind.the-variants.{Sine}
 use Rattle.nodes.proofs.Carried.{carried, Carrying, carrying-none, carrying-more, carrying-end}
+use Rattle.nodes.proofs.Answers.{next2, next3}
 use Rattle.nodes.proofs.sin_osc.sin_osc.Statement.{statement}
 use Rattle.nodes.proofs.sin_osc.sin_osc.Tie as tie
 
@@ -59,38 +60,11 @@ Inv-loop cell₀ size by phase₀ i₀ cell phase i = (i ≤ size) × (length ce
 abbrev μ-loop : tie.MeasureT-loop
 μ-loop cell₀ size by phase₀ i₀ cell phase i = size - i
 
-load-requires : tie.Need-load-requires Inv-loop μ-loop
-load-requires c κs = search needs
-
-increment-requires : tie.Need-increment-requires Inv-loop μ-loop
-increment-requires c κs = search needs
-
-load-requires-2 : tie.Need-load-requires-2 Inv-loop μ-loop
-load-requires-2 c κs = search needs
-
 loop-holds : tie.Need-loop-holds Inv-loop μ-loop
 loop-holds c =
     let start = c .before .before .before .before .before .before in
     let cell = start .args .cell .now in
     (search needs, refl, runs-none (start .args .size) (words cell) (λ f. omega (arith, length-words cell)) (c .load2 .result) (c .load2 .ensures) (start .pre .1 .1))
-
-add-store : tie.Need-add-store Inv-loop μ-loop
-add-store c = search needs
-
-sine-requires : tie.Need-sine-requires Inv-loop μ-loop
-sine-requires c κs = search needs
-
-store-requires : tie.Need-store-requires Inv-loop μ-loop
-store-requires c κs = search needs
-
-advance-requires : tie.Need-advance-requires Inv-loop μ-loop
-advance-requires c κs = search needs
-
-add-i : tie.Need-add-i Inv-loop μ-loop
-add-i c = search needs
-
-loop-less : tie.Need-loop-less Inv-loop μ-loop
-loop-less c = search needs
 
 loop-again : tie.Need-loop-again Inv-loop μ-loop
 loop-again c =
@@ -108,12 +82,6 @@ loop-again c =
           (c .before .before .before .before .sine .ensures) (c .before .before .before .store .ensures) (c .advance .ensures) (here .loop .inv .2),
     )
 
-store-requires-2 : tie.Need-store-requires-2 Inv-loop μ-loop
-store-requires-2 c κs = search needs
-
-same-length : tie.Need-same-length Inv-loop μ-loop
-same-length c = search needs
-
 returns : tie.Need-returns Inv-loop μ-loop
 returns c f =
     let here = c .before .before .before .before .before in
@@ -125,20 +93,5 @@ returns c f =
 pub sin-osc-spec : {M : Type 1} → statement M
 sin-osc-spec =
     tie.close
-    (tie.spec
-    Inv-loop
-    μ-loop
-    load-requires
-    increment-requires
-    load-requires-2
-    loop-holds
-    add-store
-    sine-requires
-    store-requires
-    advance-requires
-    add-i
-    loop-less
-    loop-again
-    store-requires-2
-    same-length
-    returns)
+    (next2 (next2 (next3 (tie.spec Inv-loop μ-loop) (search needs) loop-holds (λ c. search needs) (λ c κs. search needs) (λ c κs. search needs) (λ c κs. search needs)) (search needs) loop-again)
+    (search needs) returns)

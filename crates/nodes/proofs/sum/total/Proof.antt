@@ -7,6 +7,7 @@ use lib.ListN.{length, getD, take}
 use Rattle.leaves.specs.Words.{words}
 use Rattle.nodes.specs.Block.{fill, totalAt}
 use Rattle.nodes.proofs.Totals.{sum-none, sum-more, sum-all}
+use Rattle.nodes.proofs.Answers.{next2}
 use Rattle.nodes.proofs.sum.total.Statement.{statement}
 use Rattle.nodes.proofs.sum.total.Tie as tie
 
@@ -16,20 +17,11 @@ Inv-loop memory list starts size x₀ k₀ x k = (k ≤ length list) × (x ≡ f
 abbrev μ-loop : tie.MeasureT-loop
 μ-loop memory list starts size x₀ k₀ x k = length list - k
 
-clear-requires : tie.Need-clear-requires Inv-loop μ-loop
-clear-requires c κs = omega arith
-
 loop-holds : tie.Need-loop-holds Inv-loop μ-loop
 loop-holds c =
     let s = c .before .before .before .before in
     let cleared = c .clear in
     (omega arith, sum-none (words (now (s .args .memory))) (now (s .args .starts)) (now (s .args .list)) (s .args .size) (cleared .last .0) (now (s .args .x)) (omega (arith, s .pre .0)) (cleared .ensures))
-
-shared-slice-read-wide : tie.Need-shared-slice-read-wide Inv-loop μ-loop
-shared-slice-read-wide c = omega arith
-
-wide-requires : tie.Need-wide-requires Inv-loop μ-loop
-wide-requires c κs = omega arith
 
 -- the source is a node, whose block lies in the memory
 source : (c : tie.After-wide Inv-loop μ-loop)
@@ -47,12 +39,6 @@ element-copy-out-accumulate c = omega (arith, source c)
 
 accumulate-requires : tie.Need-accumulate-requires Inv-loop μ-loop
 accumulate-requires c κs = (c .before .before .before .before .before .before .before .before .before .before .pre .0 .0, source (c .before .before) .1)
-
-add-k : tie.Need-add-k Inv-loop μ-loop
-add-k c = omega arith
-
-loop-less : tie.Need-loop-less Inv-loop μ-loop
-loop-less c = omega arith
 
 loop-again : tie.Need-loop-again Inv-loop μ-loop
 loop-again c =
@@ -73,19 +59,4 @@ returns c =
     (l .loop .k) _ (omega arith) (l .loop .inv .1)
 
 pub total-spec : {M : Type 1} → statement M
-total-spec =
-    tie.close
-    (tie.spec
-    Inv-loop
-    μ-loop
-    clear-requires
-    loop-holds
-    shared-slice-read-wide
-    wide-requires
-    mul-accumulate
-    element-copy-out-accumulate
-    accumulate-requires
-    add-k
-    loop-less
-    loop-again
-    returns)
+total-spec = tie.close (next2 (next2 (tie.spec Inv-loop μ-loop (λ c κs. omega arith) loop-holds) (omega arith) mul-accumulate element-copy-out-accumulate accumulate-requires) (omega arith) loop-again returns)

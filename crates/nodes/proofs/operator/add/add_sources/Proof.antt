@@ -1,77 +1,23 @@
 -- `nodes::operator::add::add_sources` meets its contract: after i turns the first i sums are stored. Assumes nothing.
-use mathlib.Core.Path.{_≡_, refl}
-use Prim.Native.Nat.{_≤_, _-_}
+use Prim.Native.Nat.{_-_}
 use native.Mathlib.Omega.{arith}
-use lib.ListN.{length}
-use Rattle.leaves.specs.Words.{words}
-use Rattle.nodes.specs.Block.{stored, opSources}
-use Rattle.nodes.proofs.Iterated.{iter-none, iter-then, iter-end}
 use lib.Ieee.{binary32, add}
+use Rattle.nodes.specs.Block.{opSources}
+use Rattle.nodes.proofs.Answers.{next8}
+use Rattle.nodes.proofs.Filled.{Storing, storing-none, storing-then, storing-end}
 use Rattle.nodes.proofs.operator.add.add_sources.Statement.{statement}
 use Rattle.nodes.proofs.operator.add.add_sources.Tie as tie
 
 abbrev Inv-loop : tie.InvT-loop
-Inv-loop cell₀ size x m i₀ cell i = (i ≤ size) × (length cell ≡ length cell₀) × (words cell ≡ stored (opSources (add binary32) x m) 3 i (words cell₀))
+Inv-loop cell₀ size x m i₀ cell i = Storing (opSources (add binary32) x m) 3 size cell₀ i cell
 
 abbrev μ-loop : tie.MeasureT-loop
 μ-loop cell₀ size x m i₀ cell i = size - i
 
-loop-holds : tie.Need-loop-holds Inv-loop μ-loop
-unfolding stored
-loop-holds c = (omega arith, refl, iter-none _ _)
-
-add-store : tie.Need-add-store Inv-loop μ-loop
-add-store c = omega arith
-
-mul-store : tie.Need-mul-store Inv-loop μ-loop
-mul-store c = omega arith
-
-element-copy-out-store : tie.Need-element-copy-out-store Inv-loop μ-loop
-element-copy-out-store c = omega arith
-
-mul-store-2 : tie.Need-mul-store-2 Inv-loop μ-loop
-mul-store-2 c = omega arith
-
-element-copy-out-store-2 : tie.Need-element-copy-out-store-2 Inv-loop μ-loop
-element-copy-out-store-2 c = omega arith
-
-store-requires : tie.Need-store-requires Inv-loop μ-loop
-store-requires c κs = omega arith
-
-add-i : tie.Need-add-i Inv-loop μ-loop
-add-i c = omega arith
-
-loop-less : tie.Need-loop-less Inv-loop μ-loop
-loop-less c = omega arith
-
-loop-again : tie.Need-loop-again Inv-loop μ-loop
-unfolding stored
-loop-again c =
-    let l = c .before .before .before .before .before .before .before in
-    (omega arith, omega arith, iter-then _ _ _ _ _ (l .loop .inv .2) (c .before .before .store .ensures))
-
-same-length : tie.Need-same-length Inv-loop μ-loop
-same-length c = omega arith
-
-returns : tie.Need-returns Inv-loop μ-loop
-unfolding stored
-returns c = iter-end _ _ _ _ _ (c .before .loop .inv .2) (omega arith)
-
 pub add-sources-spec : {M : Type 1} → statement M
 add-sources-spec =
     tie.close
-    (tie.spec
-    Inv-loop
-    μ-loop
-    loop-holds
-    add-store
-    mul-store
-    element-copy-out-store
-    mul-store-2
-    element-copy-out-store-2
-    store-requires
-    add-i
-    loop-less
-    loop-again
-    same-length
-    returns)
+    (next8 (tie.spec Inv-loop μ-loop (λ c. storing-none)) (omega arith)
+    (λ c. let t = c .before .before .before .before .before .before in storing-then (t .before .loop .inv) (t .loop-test .taken) (c .before .before .store .kept .0) (c .before .before .store .ensures))
+    (omega arith)
+    (λ c. storing-end (c .before .loop .inv) (c .loop-test .left)))
