@@ -12,7 +12,7 @@ use Rattle.nodes.specs.Kind.{cellSize, fewest, most}
 use Rattle.nodes.specs.declared.kind.NodeRecord.{NodeRecord}
 use Rattle.reading.specs.Table.{mem}
 use Rattle.reading.specs.Order.{Wire, Each, sources}
-use Rattle.graph.specs.Board.{Parsed, refused, whole, cellsOf}
+use Rattle.graph.specs.Board.{Parsed, blank, refused, whole, cellsOf}
 use Rattle.graph.specs.Sources.{addNew, addAll, distinct, distinctSources}
 use Rattle.graph.specs.Wires.{wiresOf}
 use Rattle.graph.specs.Judge.{readBoard}
@@ -22,7 +22,7 @@ use Rattle.graph.specs.Write.{WireObeys}
 use Rattle.graph.specs.declared.board.Board.{Board}
 use Rattle.graph.proofs.Choice.{pick, both}
 use Rattle.graph.proofs.Answers.{or-accepts, or-refuses}
-use Rattle.graph.proofs.Six.{most-few, blank}
+use Rattle.graph.proofs.Six.{most-few}
 use Rattle.graph.proofs.Formed.{snoc-each, whole-formed}
 
 -- ---- cells stand one after the other

@@ -28,8 +28,8 @@ pub mod RoundObeys
 pub mod RoundSources
 pub mod RoundSix
 pub mod Round
+pub mod JudgeCases
 pub mod RoundWorked
 pub mod Ending
 pub mod Formed
 pub mod Accepted
-pub mod JudgeCases

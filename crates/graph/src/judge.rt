@@ -8,7 +8,7 @@ ghost use Rattle.graph.specs.Read.{parsedOf, Sound, Read};
 use crate::answer::Answer;
 use crate::board::Board;
 use crate::board::read_records;
-use crate::sources::wide;
+use leaves::bytes::wide;
 use nodes::kind::is_pass;
 use nodes::kind::sources_fit;
 

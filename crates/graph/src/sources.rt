@@ -5,6 +5,7 @@ ghost use Rattle.graph.specs.Sources.{Tabled};
 ghost use Rattle.graph.specs.Gather.{among, countWith, listWith, secondWith};
 ghost use Rattle.graph.specs.Phases.{Within};
 ghost use Rattle.graph.specs.Wires.{wiresOf};
+use leaves::bytes::wide;
 
 // For each node: how many distinct sources it has, nine standing for more than eight; the first
 // eight of them by first wire, from 8 * node on; and the source of the second wire.
@@ -12,12 +13,6 @@ pub struct Table {
     pub counts: [u8; 64],
     pub lists: [u8; 512],
     pub seconds: [u8; 64],
-}
-
-pub fn wide(x: u8) -> usize
-    ensures { λ r. ⌜ r ≡ x ⌝ }
-{
-    x as usize
 }
 
 // Whether x is one of the n numbers from `start` on.

@@ -11,7 +11,7 @@ use crate::graph::late_count;
 use crate::graph::places;
 use crate::graph::visiting_list;
 use crate::judge::read_board;
-use crate::sources::wide;
+use leaves::bytes::wide;
 use nodes::kind::NodeKind;
 use nodes::kind::NodeRecord;
 use nodes::kind::line_of;

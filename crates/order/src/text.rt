@@ -15,7 +15,7 @@ use graph::graph::is_late;
 use graph::graph::places;
 use graph::graph::visiting_list;
 use graph::judge::read_board;
-use graph::sources::wide;
+use leaves::bytes::wide;
 
 fn put(out: &mut [u8], at: usize, byte: u8) -> usize
     requires { ⌜ at < length (now out) ⌝ }
