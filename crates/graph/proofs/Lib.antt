@@ -18,7 +18,6 @@ pub mod Wired
 pub mod Late
 pub mod Placing
 pub mod Lines
-pub mod VisitCases
 pub mod RoundRule
 pub mod RoundBytes
 pub mod RoundRecords
@@ -28,7 +27,6 @@ pub mod RoundObeys
 pub mod RoundSources
 pub mod RoundSix
 pub mod Round
-pub mod JudgeCases
 pub mod RoundWorked
 pub mod Ending
 pub mod Formed

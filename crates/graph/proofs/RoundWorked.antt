@@ -9,7 +9,7 @@ use Rattle.graph.specs.Write.{NodeCard, Card, writeBoard, Obeys}
 use Rattle.graph.specs.declared.answer.Answer.{Answer}
 use Rattle.graph.proofs.RoundBytes.{board-bytes}
 use Rattle.graph.proofs.Round.{judge-exact}
-use Rattle.graph.proofs.JudgeCases.{printed, printed-judged}
+use Rattle.graph.specs.JudgeCases.{printed, printed-judged}
 
 abbrev node : ℕ → ℕ → ℕ → NodeCard
 node t n f = record { type = t; n = n; f = f }
