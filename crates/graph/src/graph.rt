@@ -48,6 +48,8 @@ pub struct Order {
 }
 
 // The visiting list of the wires whose sources are gathered in the two arrays.
+// Ruled out, and tried by must-fail edits: a node listed before its sources (lists_before_sources), the
+// newest wire first (newest_wire_first).
 pub fn visiting_list<'a>(counts: &'a [u8; 64], lists: &'a [u8; 512]) -> Order
     requires { ⌜ Table (now counts) (now lists) ⌝ }
     ensures { λ r. ⌜ ((ws : List Wire) → Gathered ws (now (counts .entry)) (now (lists .entry)) → Lists (visitingList ws) (r .nodes) (r .count)) ⌝ }
@@ -74,6 +76,8 @@ pub fn places(nodes: &[u8; 64], count: usize) -> [u8; 64]
 }
 
 // Whether a wire is late in the list of `count` nodes whose places are given.
+// Ruled out, and tried by must-fail edits: late for on time (late_inverted), the plate's loop broken at
+// fb2 to wet7 (plate_loop_elsewhere).
 pub fn is_late(places: &[u8; 64], count: usize, source: usize, target: usize) -> bool
     requires { ⌜ (source < 64) × (target < 64) ⌝ }
     ensures { λ r. ⌜ ((l : List ℕ) → length l ≡ count → Placed l (now (places .entry)) → r ≡ isLate l (wire source target)) ⌝ }

@@ -56,6 +56,8 @@ fn second(n: u8, old: u8, x: u8) -> u8
 }
 
 // The table of the wires, each into a node below 64.
+// Ruled out, and tried by must-fail edits: a repeated wire that counts twice (repeat_counts), sources
+// from the newest wire on (newest_wire_first).
 pub fn table_of(sources: &[u8; 128], targets: &[u8; 128], wires: usize) -> Table
     requires { ⌜ (wires ≤ 128) × Within 64 (now targets) wires ⌝ }
     ensures { λ r. ⌜ Tabled (wiresOf (now (sources .entry)) (now (targets .entry)) wires) (r .counts) (r .lists) (r .seconds) ⌝ }
