@@ -10,7 +10,7 @@ use Rattle.nodes.specs.declared.kind.Rule.{Rule}
 use Rattle.nodes.specs.declared.kind.Rule.the-variants as rule
 use Rattle.graph.specs.Record.{foundAt}
 use Rattle.graph.specs.Board.{Parsed, Reading, going, refused, linesOf, withNode, withWire, nodeFits, wireFits, nodeBy, endBy, takeFound, stepOf}
-use Rattle.graph.specs.Phases.{nodeBody, nodeRead, wireRead, HeadRead}
+use Rattle.graph.specs.Parts.{nodeBody, nodeRead, wireRead, HeadRead}
 use Rattle.graph.specs.declared.record.Found.{Found}
 use Rattle.graph.specs.declared.record.Found.the-variants.{Head, Node, Wire, End, Refused}
 use Rattle.graph.specs.declared.board.Head as head-type

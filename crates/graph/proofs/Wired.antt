@@ -8,8 +8,7 @@ use mathlib.Core.List.{List}
 use Rattle.reading.specs.Order.{Wire, Each}
 use Rattle.reading.proofs.Order.{each-source}
 use Rattle.graph.specs.Judge.{readBoard}
-use Rattle.graph.specs.Phases.{Within}
-use Rattle.graph.specs.Wires.{wiresFrom, wiresOf}
+use Rattle.graph.specs.Wires.{Within, wiresFrom, wiresOf}
 use Rattle.graph.specs.Read.{parsedOf, Read}
 use Rattle.graph.specs.Write.{WireObeys}
 use Rattle.graph.specs.Visit.{visitingList, Lists}

@@ -14,7 +14,7 @@ pub mod Tail
 pub mod VisitCases
 -- the same in arrays, as the code has it
 pub mod Wires
-pub mod Phases
+pub mod Parts
 pub mod Gather
 pub mod Read
 pub mod Formed

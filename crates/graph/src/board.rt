@@ -6,7 +6,7 @@ ghost use lib.ListN.{length};
 ghost use Rattle.leaves.specs.Bytes.{u16At};
 ghost use Rattle.graph.specs.Record.{foundAt};
 ghost use Rattle.graph.specs.Board.{Parsed, going, refused, whole, headed, placed, nodeFits, wireFits, headBy, endBy, stepOf, readRecords};
-ghost use Rattle.graph.specs.Phases.{orRefused, nodeRead, wireRead, madeOf, HeadRead, NodesRead, WiresRead};
+ghost use Rattle.graph.specs.Parts.{orRefused, nodeRead, wireRead, madeOf, HeadRead, NodesRead, WiresRead};
 ghost use Rattle.graph.specs.Read.{Read};
 use crate::answer::Answer;
 use crate::reader::read_record;

@@ -3,7 +3,7 @@ ghost use mathlib.Core.Path.{_≡_};
 ghost use lib.ListN.{take};
 ghost use Rattle.graph.specs.Board.{whole};
 ghost use Rattle.graph.specs.Judge.{inputFits, checkSources, checkSix, readBoard, judgeOf};
-ghost use Rattle.graph.specs.Phases.{orRefused};
+ghost use Rattle.graph.specs.Parts.{orRefused};
 ghost use Rattle.graph.specs.Read.{parsedOf, Sound, Read};
 use crate::answer::Answer;
 use crate::board::Board;

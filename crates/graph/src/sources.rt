@@ -3,8 +3,7 @@ ghost use mathlib.Core.Path.{_≡_};
 ghost use Prim.Native.Nat.{_+_, _≤_};
 ghost use Rattle.graph.specs.Sources.{Tabled};
 ghost use Rattle.graph.specs.Gather.{among, countWith, listWith, secondWith};
-ghost use Rattle.graph.specs.Phases.{Within};
-ghost use Rattle.graph.specs.Wires.{wiresOf};
+ghost use Rattle.graph.specs.Wires.{Within, wiresOf};
 use leaves::bytes::wide;
 
 // For each node: how many distinct sources it has, nine standing for more than eight; the first

@@ -3,7 +3,7 @@ use Prim.Native.Nat.{ℕ, suc, _+_, _*_, _≤_, _<_}
 use mathlib.Core.Path.{_≡_}
 use mathlib.Core.List.{List, []}
 use mathlib.Core.Bool.{cond}
-use lib.ListN.{length, getD, take}
+use lib.ListN.{length, take}
 use lib.Dec.{eqb}
 use Rattle.leaves.specs.Bytes.{u16At, u32At}
 use Rattle.nodes.specs.Kind.{ruleOf}
@@ -12,7 +12,7 @@ use Rattle.nodes.specs.declared.kind.Rule.{Rule}
 use Rattle.nodes.specs.declared.kind.Rule.the-variants as rule
 use Rattle.reading.specs.Order.{Wire}
 use Rattle.graph.specs.Board.{Parsed, Reading, going, refused, headed, cellsOf, nodeFits, wireFits, endBy, stepOf, run}
-use Rattle.graph.specs.Wires.{wiresOf}
+use Rattle.graph.specs.Wires.{Within, wiresOf}
 use Rattle.graph.specs.declared.answer.Answer.{Answer}
 use Rattle.graph.specs.declared.record.Found.{Found}
 use Rattle.graph.specs.declared.record.Found.the-variants as found
@@ -80,10 +80,6 @@ pub record NodesRead (s : List ℕ) (N : ℕ) (r : Nodes) : Type 0 where
   pub small : r .values ≤ 278720
   pub next-is : r .next ≡ 8 + 14 * r .count
   pub inside : r .next ≤ length s
-
--- the wires join nodes below n
-abbrev pub Within : ℕ → List ℕ → ℕ → Type 0
-Within n l w = (j : ℕ) → j < w → getD l j 0 < n
 
 -- from a board of n nodes: so many wires, and then the end record
 pub record WiresRead (s : List ℕ) (start n : ℕ) (r : Wires) : Type 0 where
