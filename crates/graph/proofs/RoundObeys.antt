@@ -1,4 +1,4 @@
--- The rules that a card must obey against what the reader asks: of each node and wire in turn, and in check 6. Assumes nothing.
+-- The rules that a card must obey against what the reader asks, of each node and of each wire in turn. Assumes nothing.
 use Prim.Native.Nat.{ℕ, zero, suc, _+_, _≤_, _<_}
 use mathlib.Core.Path.{_≡_, refl, ap, subst}
 use mathlib.Core.Logic.{_↔_}

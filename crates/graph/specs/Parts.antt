@@ -40,28 +40,28 @@ wired p ws = record { size = p .size; input = p .input; nodes = p .nodes; wires 
 abbrev pub madeOf : Head → Nodes → Wires → Parsed
 madeOf h n w = wired (noded (h .size) (h .input) (take (n .count) (n .nodes))) (wiresOf (w .sources) (w .targets) (w .count))
 
--- ---- one record of each part: what it says, or that the part is over, or a refusal's number
+-- ---- one record of each part: what it says, or the number that ends the part, 0 where another kind follows and else the refusal's
 
 abbrev pub nodeBody : ℕ → ℕ → Rule → NodeRead
-nodeBody i lines rule.Broken = node.Refused 4
-nodeBody i lines (rule.Is k) = cond (nodeFits i lines k) (node.Is k) (node.Refused 4)
+nodeBody i lines rule.Broken = node.Ends 4
+nodeBody i lines (rule.Is k) = cond (nodeFits i lines k) (node.Is k) (node.Ends 4)
 
 unfoldable pub nodeRead : List ℕ → ℕ → ℕ → ℕ → Found → NodeRead
-nodeRead s at i lines found.Head = node.Over
+nodeRead s at i lines found.Head = node.Ends 0
 nodeRead s at i lines found.Node = nodeBody i lines (ruleOf (u16At s (at + 4)) (u32At s (at + 6)) (u32At s (at + 10)))
-nodeRead s at i lines found.Wire = node.Over
-nodeRead s at i lines found.End = node.Over
-nodeRead s at i lines (found.Refused n) = node.Refused n
+nodeRead s at i lines found.Wire = node.Ends 0
+nodeRead s at i lines found.End = node.Ends 0
+nodeRead s at i lines (found.Refused n) = node.Ends n
 
 abbrev pub wireBody : ℕ → ℕ → ℕ → ℕ → WireRead
-wireBody i w a t = cond (wireFits i w a t) (wire.Is a t) (wire.Refused 5)
+wireBody i w a t = cond (wireFits i w a t) (wire.Is a t) (wire.Ends 5)
 
 unfoldable pub wireRead : List ℕ → ℕ → ℕ → ℕ → Found → WireRead
-wireRead s at i w found.Head = wire.Over
-wireRead s at i w found.Node = wire.Over
+wireRead s at i w found.Head = wire.Ends 0
+wireRead s at i w found.Node = wire.Ends 0
 wireRead s at i w found.Wire = wireBody i w (u16At s (at + 4)) (u16At s (at + 6))
-wireRead s at i w found.End = wire.Over
-wireRead s at i w (found.Refused n) = wire.Refused n
+wireRead s at i w found.End = wire.Ends 0
+wireRead s at i w (found.Refused n) = wire.Ends n
 
 -- ---- what each part gives
 
