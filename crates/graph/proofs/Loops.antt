@@ -12,9 +12,9 @@ use Rattle.nodes.specs.declared.kind.NodeRecord.{NodeRecord}
 use Rattle.reading.specs.Order.{Wire}
 use Rattle.graph.specs.Answer.{answer}
 use Rattle.graph.specs.Record.{foundAt}
-use Rattle.graph.specs.Board.{Parsed, going, refused, headed, linesOf, cellsOf, endBy, stepOf, run}
+use Rattle.graph.specs.Board.{Parsed, going, refused, headed, linesOf, cellsOf, stepOf, run}
 use Rattle.graph.specs.Wires.{Within, wiresOf}
-use Rattle.graph.specs.Parts.{orRefused, noded, wired, nodeRead, wireRead, NodesRead, WiresRead}
+use Rattle.graph.specs.Parts.{noded, wired, nodeRead, wireRead, NodesRead, WiresRead}
 use Rattle.graph.specs.declared.answer.Answer.{Answer}
 use Rattle.graph.specs.declared.board.NodeRead.{NodeRead}
 use Rattle.graph.specs.declared.board.NodeRead.the-variants as node
