@@ -10,14 +10,14 @@ use lib.ListN.{length, take}
 use lib.Seq.{getD-take, take-length}
 use Rattle.nodes.specs.Kind.{cellSize}
 use Rattle.nodes.specs.declared.kind.NodeRecord.{NodeRecord}
-use Rattle.graph.specs.Board.{Parsed, cellsOf}
+use Rattle.graph.specs.Board.{Parsed, blank, cellsOf}
 use Rattle.context.specs.Memory.{nodeAt, kindAt}
 use Rattle.graph.specs.Read.{parsedOf, Sound}
 use Rattle.context.specs.Fine.{Fine}
 use Rattle.context.specs.Parts.{nodeIn, CellsIn}
 use Rattle.graph.specs.declared.board.Board.{Board}
 use Rattle.graph.proofs.Accepted.{cells-apart}
-use Rattle.graph.proofs.Six.{blank, counted}
+use Rattle.graph.proofs.Six.{counted}
 
 -- ---- the cells of a fine board
 

@@ -22,7 +22,7 @@ use Rattle.nodes.specs.declared.kind.NodeKind.{NodeKind}
 use Rattle.nodes.specs.declared.kind.NodeRecord.{NodeRecord}
 use Rattle.nodes.proofs.Fresh.{fresh-long}
 use Rattle.graph.specs.Answer.{answer}
-use Rattle.graph.specs.Board.{Parsed, Reading, cellsOf, memoryLength}
+use Rattle.graph.specs.Board.{Parsed, Reading, blank, cellsOf, memoryLength}
 use Rattle.graph.specs.Judge.{readBoard}
 use Rattle.context.specs.Memory.{passed, freshFrom, freshValues}
 use Rattle.context.specs.Calls.{checkNeeded, checkLength, freshBy, freshOf}
@@ -33,7 +33,7 @@ use Rattle.graph.specs.declared.answer.Answer.{Answer}
 use Rattle.graph.specs.declared.board.Board.{Board}
 use Rattle.graph.proofs.Accepted.{refused-board, accepted-board}
 use Rattle.context.proofs.FineBoard.{fine-board}
-use Rattle.graph.proofs.Six.{blank, node-here}
+use Rattle.graph.proofs.Six.{node-here}
 use Rattle.context.proofs.CallChecks.{none-left}
 
 module _ (nodes : List NodeRecord) (n : ℕ) (fits : n ≤ length nodes) (ws : List ℕ) where

@@ -10,7 +10,7 @@ use lib.ListN.{length, set, take, length-set}
 use lib.Seq.{take-suc, take-suc-set}
 use Rattle.nodes.specs.declared.kind.NodeRecord.{NodeRecord}
 use Rattle.context.specs.Parts.{nodeIn, Starts}
-use Rattle.graph.proofs.Six.{blank}
+use Rattle.graph.specs.Board.{blank}
 
 map-snoc : (f : NodeRecord → ℕ) (l : List NodeRecord) (r : NodeRecord) → map f (l ++ (r ∷ [])) ≡ map f l ++ (f r ∷ [])
 map-snoc f [] r = refl

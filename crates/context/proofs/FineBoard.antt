@@ -14,7 +14,7 @@ use Rattle.reading.specs.Order as order
 use Rattle.graph.specs.Board.{Parsed, whole, cellsOf}
 use Rattle.graph.specs.Judge.{readBoard}
 use Rattle.context.specs.Memory.{nodeAt}
-use Rattle.graph.specs.Write.{NodeCard, Card, kindOf, recordsFrom, parsedOf, WireObeys, Obeys, noNode, noWire}
+use Rattle.graph.specs.Write.{NodeCard, Card, kindOf, recordsFrom, asRead as parsedOf, WireObeys, Obeys, noNode, noWire}
 use Rattle.context.specs.Fine.{NodeFine, Fine}
 use Rattle.graph.proofs.RoundRule.{kind-kept}
 use Rattle.graph.proofs.RoundObeys.{EachFrom, each-from}

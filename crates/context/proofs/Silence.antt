@@ -28,7 +28,7 @@ use Rattle.reading.proofs.Table.{getD-tab}
 use Rattle.reading.proofs.Order.{each-source}
 use Rattle.reading.proofs.Tail.{tail}
 use Rattle.graph.specs.Answer.{answer}
-use Rattle.graph.specs.Board.{Parsed, Reading, going, refused, whole}
+use Rattle.graph.specs.Board.{Parsed, Reading, blank, going, refused, whole}
 use Rattle.graph.specs.Judge.{readBoard, answerBy}
 use Rattle.graph.specs.Late.{isLate, lateWires}
 use Rattle.context.specs.Memory.{kindAt}
@@ -37,10 +37,10 @@ use Rattle.context.specs.Reading.{Call, block, message, Reply, Timed, si
 use Rattle.context.specs.Claim.{Claim}
 use Rattle.context.specs.Instance.{sent, boardOf}
 use Rattle.context.specs.Fine.{Fine}
-use Rattle.graph.specs.Tail.{delays, onlyDelays, blank, listedLines, endless, tailOf, tailAnswer}
+use Rattle.graph.specs.Tail.{delays, onlyDelays, listedLines, endless, tailOf, tailAnswer}
 use Rattle.context.specs.Silence.{QuietInput, played, outputAt, Silent, Tailed}
 use Rattle.graph.specs.declared.answer.Answer.{Answer}
-use Rattle.graph.proofs.RoundRefused.{Numbered, read-numbered}
+use Rattle.graph.proofs.Ending.{Ended as Numbered, board-ends as read-numbered}
 use Rattle.graph.proofs.Lines.{tail-late, tail-on-time}
 use Rattle.context.proofs.ShownBytes.{words-unwords}
 use Rattle.context.proofs.FineBoard.{fine-board}

@@ -15,7 +15,7 @@ use graph::board::Board;
 use graph::graph::Order;
 use graph::graph::visiting_list;
 use graph::judge::read_board;
-use graph::sources::wide;
+use leaves::bytes::wide;
 use leaves::bytes::word_at;
 use leaves::float::store;
 use nodes::cell::cell_fits;

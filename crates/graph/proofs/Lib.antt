@@ -11,7 +11,6 @@ pub mod Loops
 pub mod Tabling
 pub mod Joined
 pub mod Six
--- Laws that the proofs of `graph` cite, and theorems for its callers.
 pub mod Repeats
 pub mod Going
 pub mod Listed
@@ -19,7 +18,6 @@ pub mod Wired
 pub mod Late
 pub mod Placing
 pub mod Lines
-pub mod VisitCases
 pub mod RoundRule
 pub mod RoundBytes
 pub mod RoundRecords
@@ -28,10 +26,8 @@ pub mod RoundBack
 pub mod RoundObeys
 pub mod RoundSources
 pub mod RoundSix
-pub mod RoundRefused
 pub mod Round
 pub mod RoundWorked
 pub mod Ending
 pub mod Formed
 pub mod Accepted
-pub mod JudgeCases

@@ -4,7 +4,7 @@ use Prim.Native.Nat.{ℕ, zero, suc, _+_, _<_, _≤_}
 use native.Mathlib.Nat.{add-zero, zero-add, add-assoc, le-trans}
 use native.Mathlib.Numerals.{add-one}
 use native.Mathlib.Omega.{arith}
-use mathlib.Core.Bool.{Bool, true, false, cond, _&&_}
+use mathlib.Core.Bool.{Bool, true, false, cond, _&&_, and-assoc}
 use mathlib.Core.List.{List, [], _∷_, _++_}
 use lib.Dec.{eqb}
 use lib.ListN.{length, getD, take, drop}
@@ -14,23 +14,19 @@ use Rattle.nodes.specs.declared.kind.NodeRecord.{NodeRecord}
 use Rattle.reading.specs.Table.{mem}
 use Rattle.reading.specs.Order.{Wire}
 use Rattle.reading.proofs.Table.{mem-head, or-right}
-use Rattle.graph.specs.Board.{Parsed, linesOf}
+use Rattle.graph.specs.Board.{Parsed, blank, linesOf}
 use Rattle.graph.specs.Visit.{visitingList}
 use Rattle.graph.specs.Listed.{SourcesBelow}
 use Rattle.graph.specs.Late.{lateWires}
-use Rattle.graph.specs.Tail.{delays, blank, kindAt, onlyDelays, listedLines, endless, tailBy, tailOf, LinesFit}
+use Rattle.graph.specs.Tail.{delays, kindAt, onlyDelays, listedLines, endless, tailBy, tailOf, LinesFit}
 use Rattle.graph.proofs.Listed.{lists-reached}
 
 -- ---- one listed node more
 
-both-assoc : (a b c : Bool) → ((a && b) && c) ≡ (a && (b && c))
-both-assoc true b c = refl
-both-assoc false b c = refl
-
 only-append : (ns : List NodeRecord) (a b : List ℕ) → onlyDelays ns (a ++ b) ≡ (onlyDelays ns a && onlyDelays ns b)
 only-append ns [] b = refl
 only-append ns (k ∷ a) b =
-    ap (λ (t : Bool). delays (kindAt ns k) && t) (only-append ns a b) ∙ sym (both-assoc (delays (kindAt ns k)) (onlyDelays ns a) (onlyDelays ns b))
+    ap (λ (t : Bool). delays (kindAt ns k) && t) (only-append ns a b) ∙ sym (and-assoc (delays (kindAt ns k)) (onlyDelays ns a) (onlyDelays ns b))
 
 lines-append : (ns : List NodeRecord) (a b : List ℕ) → listedLines ns (a ++ b) ≡ listedLines ns a + listedLines ns b
 lines-append ns [] b = sym (zero-add (listedLines ns b))

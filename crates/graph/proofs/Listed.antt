@@ -15,7 +15,7 @@ use Rattle.reading.specs.Order.{Wire, sources}
 use Rattle.reading.specs.Visit.{markNode, each, go, Reached, start, along}
 use Rattle.reading.proofs.Table.{mem-head, or-right}
 use Rattle.reading.proofs.Visit.{visiting-once, visiting-input-first, visiting-closed, reached-listed, listed-reached}
-use Rattle.graph.specs.Phases.{Within}
+use Rattle.graph.specs.Wires.{Within}
 use Rattle.graph.specs.Visit.{visitingList, Lists}
 use Rattle.graph.specs.Listed.{SourcesBelow, ListsReached}
 
@@ -55,7 +55,7 @@ lists-reached ws below = record {
 
 -- ---- the list in an array
 
-mem-at : (l : List ℕ) (i : ℕ) → i < length l → mem (getD l i 0) l ≡ true
+pub mem-at : (l : List ℕ) (i : ℕ) → i < length l → mem (getD l i 0) l ≡ true
 mem-at [] i h = absurd (not-suc-le-zero h)
 mem-at (x ∷ l) zero h = mem-head x l
 mem-at (x ∷ l) (suc i) h = or-right (eqb (getD l i 0) x) (mem-at l i (le-of-suc-le-suc h))

@@ -15,13 +15,14 @@ use Rattle.reading.specs.Order.{Wire}
 use Rattle.graph.specs.Answer.{answer}
 use Rattle.graph.specs.Board.{Parsed, Reading, going, refused, whole, memoryLength, readRecords}
 use Rattle.graph.specs.Judge.{checkSix, thenSix, readBoard, answerBy, judgeOf}
-use Rattle.graph.specs.Write.{NodeCard, Card, writeBoard, parsedOf, NodeObeys, WireObeys, SourcesObey, noNode, noWire, Obeys}
+use Rattle.graph.specs.Write.{NodeCard, Card, writeBoard, asRead, NodeObeys, WireObeys, SourcesObey, noNode, noWire, Obeys}
 use Rattle.graph.specs.declared.answer.Answer.{Answer}
+use Rattle.graph.proofs.Run.{refused-is-not-whole, going-is-not-whole}
+use Rattle.graph.proofs.Ending.{Ended, board-ends}
 use Rattle.graph.proofs.RoundRun.{WiresFit, records-read}
-use Rattle.graph.proofs.RoundBack.{Written, records-written, going-is-not-whole}
+use Rattle.graph.proofs.RoundBack.{Written, records-written}
 use Rattle.graph.proofs.RoundObeys.{EachFrom, each-from, from-each, nodes-fit, nodes-told, wires-fit, wires-told}
-use Rattle.graph.proofs.RoundSix.{Free, Six, records-length, refused-is-not-whole, six-in, six-told}
-use Rattle.graph.proofs.RoundRefused.{Numbered, read-numbered}
+use Rattle.graph.proofs.RoundSix.{Free, Six, records-length, six-in, six-told}
 
 -- ---- a card that obeys is read
 
@@ -38,7 +39,7 @@ module _ (c : Card) (h : Obeys c) where
   nodes-obey : EachFrom NodeObeys 0 (c .nodes)
   nodes-obey = each-from NodeObeys noNode (c .nodes) (h .nodes)
 
-  records : readRecords (writeBoard c) ≡ whole (parsedOf c)
+  records : readRecords (writeBoard c) ≡ whole (asRead c)
   records =
       let i : c .input < length (c .nodes) = beyond (c .nodes) (c .input) (h .input-pass) in
       records-read c (omega (arith, h .most-size)) (omega (arith, h .few-nodes))
@@ -56,12 +57,12 @@ module _ (c : Card) (h : Obeys c) where
   }
 
   -- every board that obeys is read, and read as what was written
-  pub write-read : readBoard (writeBoard c) ≡ whole (parsedOf c)
+  pub write-read : readBoard (writeBoard c) ≡ whole (asRead c)
   unfolding readBoard
   write-read = ap thenSix records ∙ six-in c nodes-obey six
 
   -- the judge accepts it, with the memory's length
-  pub judge-written : judgeOf (writeBoard c) ≡ answer 0 (memoryLength (parsedOf c))
+  pub judge-written : judgeOf (writeBoard c) ≡ answer 0 (memoryLength (asRead c))
   unfolding judgeOf
   judge-written = ap (answerBy memoryLength) write-read
 
@@ -71,7 +72,7 @@ pub record Accepted (s : List ℕ) (p : Parsed) : Type 0 where
   pub card : Card
   pub obeys : Obeys card
   pub bytes : s ≡ writeBoard card
-  pub parsed : parsedOf card ≡ p
+  pub parsed : asRead card ≡ p
 
 module _ (s : List ℕ) (p q : Parsed) (w : Written s q) (e : checkSix q ≡ whole p) where
   accepted : Accepted s p
@@ -115,11 +116,11 @@ read-write s h p = go (readRecords s) refl
 pub judge-exact : (s : List ℕ) → Bytes s → ((judgeOf s) .number ≡ 0) ↔ ((c : Card) × Obeys c × (s ≡ writeBoard c))
 unfolding judgeOf
 judge-exact s h = (
-  go (readBoard s) refl (read-numbered s),
+  go (readBoard s) refl (board-ends s),
   λ w. ap (λ (a : Answer). a .number) (ap judgeOf (w .2) ∙ judge-written (w .0) (w .1)),
 )
   where
-    go : (r : Reading) → readBoard s ≡ r → Numbered r → (answerBy memoryLength r) .number ≡ 0 → (c : Card) × Obeys c × (s ≡ writeBoard c)
+    go : (r : Reading) → readBoard s ≡ r → Ended r → (answerBy memoryLength r) .number ≡ 0 → (c : Card) × Obeys c × (s ≡ writeBoard c)
     go (going at last p) e n z = absurd (omega arith)
     go (refused k w) e n z = absurd (omega arith)
     go (whole p) e n z = let a = read-write s h p e in (a .card, a .obeys, a .bytes)

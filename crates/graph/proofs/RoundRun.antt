@@ -1,5 +1,5 @@
 -- The reading of a board's records against the records that are written: bytes written for nodes and wires that fit are read whole
--- (`records-read`), and bytes that are read whole are written so (`records-written`). Assumes nothing.
+-- (`records-read`). Assumes nothing.
 use Prim.Native.Nat.{ℕ, zero, suc, _+_, _≤_, _<_}
 use mathlib.Core.Path.{_≡_, refl, sym, ap, subst, _∙_}
 use mathlib.Core.List.{List, [], _∷_, _++_, append-nil}
@@ -10,16 +10,19 @@ use lib.ListN.{length, drop, length-append, length-drop}
 use lib.Dec.{leb}
 use lib.Seq.{append-snoc, drop-drop}
 use Rattle.leaves.specs.Bytes.{u16At, u32At}
+use Rattle.leaves.specs.Words.{word-split}
 use Rattle.nodes.specs.Kind.{ruleOf, lineOf, channelsOf, cellSize}
 use Rattle.nodes.specs.declared.kind.NodeRecord.{NodeRecord}
 use Rattle.nodes.specs.declared.kind.Rule.the-variants.{Is}
 use Rattle.reading.specs.Order.{Wire}
 use Rattle.graph.specs.Record.{inOrder, foundOf, foundAt}
 use Rattle.graph.specs.Board.{Parsed, going, refused, whole, headed, withNode, withWire, linesOf, cellsOf, sizeFits, nodeFits, wireFits, nodeBy, wireBy, headBy, takeFound, stepOf, run, readRecords}
-use Rattle.graph.specs.Write.{NodeCard, Card, headBytes, nodeBytes, wireBytes, endBytes, nodesBytes, wiresBytes, writeBoard, kindOf, recordsFrom, parsedOf}
+use Rattle.graph.specs.Write.{NodeCard, Card, headBytes, nodeBytes, wireBytes, endBytes, nodesBytes, wiresBytes, writeBoard, kindOf, recordsFrom, asRead}
 use Rattle.graph.specs.declared.record.Found.the-variants.{Head, Node, End}
 use Rattle.graph.specs.declared.record.Found.the-variants as found
-use Rattle.graph.proofs.RoundBytes.{u16-on, u32-on, u16-back, u32-back}
+use Rattle.graph.proofs.Sums.{lines-snoc, cells-snoc}
+use Rattle.graph.proofs.Run.{run-done}
+use Rattle.graph.proofs.RoundBytes.{u16-on, u32-on, u16-back}
 use Rattle.graph.proofs.RoundRecords.{found-in}
 
 -- ---- a board with more nodes, and with more wires
@@ -34,14 +37,6 @@ addNodes p ds = record {
 
 abbrev pub addWires : Parsed → List Wire → Parsed
 addWires p ws = record { size = p .size; input = p .input; nodes = p .nodes; wires = p .wires ++ ws }
-
-lines-snoc : (xs : List NodeRecord) (r : NodeRecord) → linesOf (xs ++ (r ∷ [])) ≡ linesOf xs + lineOf (r .kind)
-lines-snoc [] r = omega arith
-lines-snoc (x ∷ xs) r = omega (arith, lines-snoc xs r)
-
-cells-snoc : (N : ℕ) (xs : List NodeRecord) (r : NodeRecord) → cellsOf N (xs ++ (r ∷ [])) ≡ cellsOf N xs + cellSize N (r .kind)
-cells-snoc N [] r = omega arith
-cells-snoc N (x ∷ xs) r = omega (arith, cells-snoc N xs r)
 
 abbrev nodeOf : Parsed → NodeCard → NodeRecord
 nodeOf p d = record { kind = kindOf d; channels = channelsOf (kindOf d); cell = cellsOf (p .size) (p .nodes) }
@@ -93,25 +88,6 @@ module _ (p : Parsed) (w : Wire) (i : ℕ) (ws : List Wire) where
   pub next-wires : WiresFit i (length (p .wires) + 1) ws ≡ WiresFit i (length (withWire p (w .source) (w .target) .wires)) ws
   next-wires = λ j. WiresFit i (sym (length-append (p .wires) (w ∷ [])) j) ws
 
--- ---- a reading that is done stays as it is
-
-pub run-whole : (n : ℕ) (s : List ℕ) (p : Parsed) → run n s (whole p) ≡ whole p
-unfolding run stepOf
-run-whole zero s p = refl
-run-whole (suc n) s p = run-whole n s p
-
-run-refused : (n : ℕ) (s : List ℕ) (k w : ℕ) → run n s (refused k w) ≡ refused k w
-unfolding run stepOf
-run-refused zero s k w = refl
-run-refused (suc n) s k w = run-refused n s k w
-
--- a refused reading ends in no whole board
-pub refused-for-good : {A : Type 0} (n : ℕ) (s : List ℕ) (k w : ℕ) (q : Parsed) → run n s (refused k w) ≡ whole q → A
-refused-for-good n s k w q e =
-    let f : refused k w ≡ whole q = sym (run-refused n s k w) ∙ e in
-    let z : _≡_ {A = ℕ} 0 1 = cc in
-    absurd (omega arith)
-
 -- ---- written records are read
 
 order-in : (last k : ℕ) → 1 ≤ last → last ≤ k → 2 ≤ k → k ≤ 4 → inOrder last k ≡ true
@@ -138,8 +114,8 @@ module _ (s : List ℕ) (at : ℕ) where
         let b = nodeBytes d ++ rest in
         let fo : foundAt s at last ≡ Node = finds b 2 14 high e refl refl (omega arith) in
         let t : u16At s (at + 4) ≡ d .type = u16-read b 4 e ∙ u16-back (d .type) (h .type-small) in
-        let n : u32At s (at + 6) ≡ d .n = u32-read b 6 e ∙ u32-back (d .n) (h .n-small) in
-        let f : u32At s (at + 10) ≡ d .f = u32-read b 10 e ∙ u32-back (d .f) (h .f-small) in
+        let n : u32At s (at + 6) ≡ d .n = u32-read b 6 e ∙ word-split (d .n) (h .n-small) in
+        let f : u32At s (at + 10) ≡ d .f = u32-read b 10 e ∙ word-split (d .f) (h .f-small) in
         ap (takeFound s at p) fo ∙ (λ i. nodeBy at p (ruleOf (t i) (n i) (f i))) ∙ ap (nodeBy at p) (h .rule)
         ∙ ap (λ (x : Bool). cond x (going (at + 14) 2 (withNode p (kindOf d))) (refused 4 at)) (h .fits)
 
@@ -171,7 +147,7 @@ module _ (s : List ℕ) where
       → run n s (going at last p) ≡ whole (addWires p ws)
   unfolding run
   wires-read [] zero at last p low high e l h = absurd (omega arith)
-  wires-read [] (suc n) at last p low high e l h = ap (run n s) (end-step s at last p low (omega arith) e) ∙ run-whole n s p ∙ ap whole (sym (no-wire p))
+  wires-read [] (suc n) at last p low high e l h = ap (run n s) (end-step s at last p low (omega arith) e) ∙ run-done s n (whole p) tt ∙ ap whole (sym (no-wire p))
   wires-read (w ∷ ws) zero at last p low high e l h = absurd (omega arith)
   wires-read (w ∷ ws) (suc n) at last p low high e l h =
       ap (run n s) (wire-step s at last p low w (wiresBytes ws ++ endBytes) high e (h .0))
@@ -206,7 +182,7 @@ head-step s p N i rest e hN hi fits =
 
 -- the records of a card, each as the reader asks it, are read whole
 pub records-read : (c : Card) → c .size < 65536 → c .input < 65536 → sizeFits (c .size) ≡ true → NodesFit 0 0 (c .nodes)
-    → WiresFit (length (parsedOf c .nodes)) 0 (c .wires) → readRecords (writeBoard c) ≡ whole (parsedOf c)
+    → WiresFit (length (asRead c .nodes)) 0 (c .wires) → readRecords (writeBoard c) ≡ whole (asRead c)
 unfolding readRecords run writeBoard
 records-read c hN hi fits h k =
     let rest = nodesBytes (c .nodes) ++ wiresBytes (c .wires) ++ endBytes in

@@ -8,6 +8,7 @@ use lib.Dec.{ltb, leb, eqb}
 use Rattle.leaves.specs.Bytes.{u16At, u32At}
 use Rattle.nodes.specs.Kind.{ruleOf, lineOf, channelsOf, cellSize, isDestination}
 use Rattle.nodes.specs.declared.kind.NodeKind.{NodeKind}
+use Rattle.nodes.specs.declared.kind.NodeKind.the-variants.{Pass}
 use Rattle.nodes.specs.declared.kind.NodeRecord.{NodeRecord}
 use Rattle.nodes.specs.declared.kind.Rule.{Rule}
 use Rattle.nodes.specs.declared.kind.Rule.the-variants.{Is, Broken}
@@ -23,6 +24,10 @@ pub record Parsed : Type 0 where
   pub input : ℕ
   pub nodes : List NodeRecord
   pub wires : List Wire
+
+-- what fills an array of nodes, and stands past its end
+abbrev pub blank : NodeRecord
+blank = record { kind = Pass; channels = 0; cell = 0 }
 
 abbrev pub wire : ℕ → ℕ → Wire
 wire s t = record { source = s; target = t }
@@ -86,6 +91,7 @@ pub data Reading : Type 0 where
   refused : ℕ → ℕ → Reading
   whole : Parsed → Reading
 
+-- the body of a head, of a node, of a wire
 abbrev pub headBy : ℕ → ℕ → ℕ → Reading
 headBy at N i = cond (sizeFits N) (going (at + 8) 1 (headed N i)) (refused 3 at)
 
@@ -100,6 +106,7 @@ wireBy at p s t = cond (wireFits (length (p .nodes)) (length (p .wires)) s t) (g
 abbrev pub endBy : List ℕ → ℕ → Parsed → Reading
 endBy s at p = cond (eqb (at + 4) (length s)) (whole p) (refused 1 (at + 4))
 
+-- what the record found at an offset does to the board p
 unfoldable pub takeFound : List ℕ → ℕ → Parsed → Found → Reading
 takeFound s at p Head = headBy at (u16At s (at + 4)) (u16At s (at + 6))
 takeFound s at p Node = nodeBy at p (ruleOf (u16At s (at + 4)) (u32At s (at + 6)) (u32At s (at + 10)))
@@ -118,5 +125,6 @@ run zero s r = r
 run (suc n) s r = run n s (stepOf s r)
 
 -- checks 1 to 5. Each record has a byte, so as many steps as bytes, and one more, end the reading: it is never left going
+-- (`board-ends` of proofs/Ending)
 unfoldable pub readRecords : List ℕ → Reading
 readRecords s = run (suc (length s)) s (going 0 0 (headed 0 0))
