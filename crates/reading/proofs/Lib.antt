@@ -10,9 +10,7 @@ pub mod Time
 pub mod Encode
 pub mod Ring
 pub mod Nodes
-pub mod Theorem
 pub mod Visit
-pub mod Places
 pub mod Flat
 pub mod Tail
 pub mod Memory

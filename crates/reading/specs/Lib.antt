@@ -9,7 +9,6 @@ pub mod Keeps
 pub mod Time
 pub mod Encode
 pub mod Ring
-pub mod Places
 pub mod Flat
 pub mod Tail
 pub mod Memory
