@@ -38,7 +38,7 @@ use Rattle.context.specs.Claim.{callIn, freshMemory, AsRead, Claim, Dema
 use Rattle.context.specs.Instance.{boardOf, memoryRules, readingRules, memoryOf}
 use Rattle.context.specs.Fine.{Fine, Held}
 use Rattle.graph.specs.declared.answer.Answer.{Answer}
-use Rattle.graph.proofs.RoundRefused.{Numbered, read-numbered}
+use Rattle.graph.proofs.Ending.{Ended as Numbered, board-ends as read-numbered}
 use Rattle.context.proofs.FineBoard.{fine-board}
 use Rattle.context.proofs.Lawful.{board-sound, rules-encode, rules-lawful}
 use Rattle.context.proofs.Told.{heard-sent}

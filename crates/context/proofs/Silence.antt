@@ -40,7 +40,7 @@ use Rattle.context.specs.Fine.{Fine}
 use Rattle.graph.specs.Tail.{delays, onlyDelays, blank, listedLines, endless, tailOf, tailAnswer}
 use Rattle.context.specs.Silence.{QuietInput, played, outputAt, Silent, Tailed}
 use Rattle.graph.specs.declared.answer.Answer.{Answer}
-use Rattle.graph.proofs.RoundRefused.{Numbered, read-numbered}
+use Rattle.graph.proofs.Ending.{Ended as Numbered, board-ends as read-numbered}
 use Rattle.graph.proofs.Lines.{tail-late, tail-on-time}
 use Rattle.context.proofs.ShownBytes.{words-unwords}
 use Rattle.context.proofs.FineBoard.{fine-board}

@@ -17,7 +17,8 @@ use Rattle.graph.specs.Sources.{addNew, addAll, distinct, distinctSource
 use Rattle.graph.specs.Wires.{wiresOf}
 use Rattle.graph.specs.Judge.{readBoard}
 use Rattle.graph.specs.Read.{parsedOf, Read}
-use Rattle.graph.specs.Formed.{Joins, Formed, NodeAt, TableAt}
+use Rattle.graph.specs.Formed.{Formed, NodeAt, TableAt}
+use Rattle.graph.specs.Write.{WireObeys}
 use Rattle.graph.specs.declared.board.Board.{Board}
 use Rattle.graph.proofs.Choice.{pick, both}
 use Rattle.graph.proofs.Answers.{or-accepts, or-refuses}
@@ -57,20 +58,20 @@ below-cons : (n x : ℕ) (l : List ℕ) → x < n → Below n l → Below n (x �
 below-cons n x l p h zero b = p
 below-cons n x l p h (suc j) b = h j (omega arith)
 
-below-sources : (n : ℕ) (ws : List Wire) (v : ℕ) → Each (Joins n) ws → Below n (sources ws v)
+below-sources : (n : ℕ) (ws : List Wire) (v : ℕ) → Each (WireObeys n) ws → Below n (sources ws v)
 below-sources n [] v h = λ j b. absurd (omega arith)
 below-sources n (w ∷ ws) v h =
-    pick (Below n) (eqb (w .target) v) _ _ (λ _. below-cons n (w .source) (sources ws v) (h .0 .source-in) (below-sources n ws v (h .1))) (λ _. below-sources n ws v (h .1))
+    pick (Below n) (eqb (w .target) v) _ _ (λ _. below-cons n (w .source) (sources ws v) (h .0 .source-there) (below-sources n ws v (h .1))) (λ _. below-sources n ws v (h .1))
 
-pub distinct-below : (n : ℕ) (ws : List Wire) (v : ℕ) → Each (Joins n) ws → Below n (distinctSources ws v)
+pub distinct-below : (n : ℕ) (ws : List Wire) (v : ℕ) → Each (WireObeys n) ws → Below n (distinctSources ws v)
 unfolding distinct
 distinct-below n ws v h = below-all n [] (sources ws v) (below-sources n ws v h) (λ j b. absurd (omega arith))
 
 -- no wire leads into a node that is not there
-no-sources : (n : ℕ) (ws : List Wire) (v : ℕ) → Each (Joins n) ws → n ≤ v → sources ws v ≡ []
+no-sources : (n : ℕ) (ws : List Wire) (v : ℕ) → Each (WireObeys n) ws → n ≤ v → sources ws v ≡ []
 no-sources n [] v h l = refl
 no-sources n (w ∷ ws) v h l =
-    let apart : w .target ≡ v → ⊥ = λ e. omega (arith, h .0 .target-in) in
+    let apart : w .target ≡ v → ⊥ = λ e. omega (arith, h .0 .target-there) in
     rw (ne-eqb (w .target) v apart) (no-sources n ws v (h .1) l)
 
 none-few : length (distinct []) ≤ 8

@@ -2,7 +2,7 @@
 use Prim.Native.Nat.{ℕ, zero, suc, _+_, _*_, _≤_, _<_}
 use mathlib.Core.Path.{_≡_, refl, sym, subst, _∙_}
 use mathlib.Core.List.{List, [], _∷_, _++_}
-use mathlib.Core.Bool.{Bool, true, false, cond}
+use mathlib.Core.Bool.{Bool, true, false, cond, false≢true}
 use native.Mathlib.Nat.{add-zero, zero-add}
 use native.Mathlib.Omega.{arith}
 use borrow.Author.Tests.{ltb-true, ltb-false, leb-true, eqb-true, eqb-false}
@@ -22,12 +22,14 @@ use Rattle.graph.specs.Record.{foundAt}
 use Rattle.graph.specs.Sources.{distinctSources}
 use Rattle.graph.specs.Board.{Parsed, Reading, going, refused, whole, wire, linesOf, cellsOf, headed, withNode, withWire, sizeFits, nodeFits, wireFits, headBy, nodeBy, wireBy, takeFound, stepOf, run, readRecords}
 use Rattle.graph.specs.Judge.{passAt, inputFits, checkSources, checkSix, thenSix, readBoard}
-use Rattle.graph.specs.Formed.{FromBits, Line, Ranged, NodeFormed, Joins, RecordsFormed, Formed}
+use Rattle.graph.specs.Formed.{FromBits, Ranged, NodeFormed, RecordsFormed, Formed}
+use Rattle.graph.specs.Write.{LineLength, WireObeys}
 use Rattle.graph.specs.declared.record.Found.{Found}
 use Rattle.graph.specs.declared.record.Found.the-variants as found
-use Rattle.graph.proofs.Choice.{pick, both, false-is-not-true}
+use Rattle.graph.proofs.Choice.{pick, both}
 use Rattle.graph.proofs.Sums.{lines-snoc, samples-few}
 use Rattle.graph.proofs.Fits.{size-fits, NodeFits, node-fits, WireFits, wire-fits}
+use Rattle.graph.proofs.Run.{refused-is-not-whole, going-is-not-whole}
 use Rattle.graph.proofs.Found.{Room, found-room}
 use Rattle.graph.proofs.Six.{pass-getD, pass-past}
 
@@ -37,7 +39,7 @@ abbrev Right : Rule → Type 0
 Right rule.Broken = Unit {0}
 Right (rule.Is k) = Ranged k
 
-line-fits : (n : ℕ) → lineFits n ≡ true → Line n
+line-fits : (n : ℕ) → lineFits n ≡ true → LineLength n
 line-fits n e =
     let two = both (leb 1 n) (leb n 132300) e in
     (leb-true 1 n (two .0), leb-true n 132300 (two .1))
@@ -81,15 +83,15 @@ snoc-each P xs x h e i l = split (ltb i (length xs)) refl
         let at-end : length xs ≡ i = omega (arith, ltb-false i (length xs) q, simp length-append at l) in
         subst P at-end e
 
-joins-snoc : (n : ℕ) (ws : List Wire) (w : Wire) → Each (Joins n) ws → Joins n w → Each (Joins n) (ws ++ (w ∷ []))
+joins-snoc : (n : ℕ) (ws : List Wire) (w : Wire) → Each (WireObeys n) ws → WireObeys n w → Each (WireObeys n) (ws ++ (w ∷ []))
 joins-snoc n [] w h j = (j, tt)
 joins-snoc n (x ∷ ws) w h j = (h .0, joins-snoc n ws w (h .1) j)
 
-joins-more : (n m : ℕ) → n ≤ m → (ws : List Wire) → Each (Joins n) ws → Each (Joins m) ws
+joins-more : (n m : ℕ) → n ≤ m → (ws : List Wire) → Each (WireObeys n) ws → Each (WireObeys m) ws
 joins-more n m l [] h = tt
 joins-more n m l (w ∷ ws) h =
     let old = h .0 in
-    (record { source-in = omega (arith, old .source-in); target-in = omega (arith, old .target-in); apart = old .apart }, joins-more n m l ws (h .1))
+    (record { source-there = omega (arith, old .source-there); target-there = omega (arith, old .target-there); apart = old .apart }, joins-more n m l ws (h .1))
 
 headed-formed : (N i : ℕ) → N ≤ 128 → RecordsFormed (headed N i)
 headed-formed N i h = record {
@@ -149,7 +151,7 @@ wire-formed p a t h fits = record {
   nodes = λ d i l.
       let old = h .nodes d i l in
       record { ranged = old .ranged; in-place = old .in-place; channels-are = old .channels-are; cell-is = old .cell-is };
-  joins = joins-snoc _ (p .wires) (wire a t) (h .joins) (record { source-in = fits .source-in; target-in = fits .target-in; apart = fits .apart });
+  joins = joins-snoc _ (p .wires) (wire a t) (h .joins) (record { source-there = fits .source-in; target-there = fits .target-in; apart = fits .apart });
 }
 
 -- ---- the reading
@@ -205,17 +207,13 @@ module _ (s : List ℕ) where
 
 -- ---- check 6
 
--- no refusal is a whole board
-not-whole : {A : Type 0} {n w : ℕ} {p : Parsed} → refused n w ≡ whole p → A
-not-whole e = let z : _≡_ {A = ℕ} 0 1 = cc in absurd (omega arith)
-
 -- a choice that is not the refusal
 choice : (b : Bool) (n w : ℕ) {x : Reading} {p : Parsed} → cond b x (refused n w) ≡ whole p → (b ≡ true) × (x ≡ whole p)
 choice true n w e = (refl, e)
-choice false n w e = not-whole e
+choice false n w {x} {p} e = refused-is-not-whole n w p e
 
 other : (b : Bool) (n w : ℕ) {x : Reading} {p : Parsed} → cond b (refused n w) x ≡ whole p → (b ≡ false) × (x ≡ whole p)
-other true n w e = not-whole e
+other true n w {x} {p} e = refused-is-not-whole n w p e
 other false n w e = (refl, e)
 
 module _ (q p : Parsed) where
@@ -251,7 +249,7 @@ pass-in l i e = split (ltb i (length l)) refl
   where
     split : (b : Bool) → ltb i (length l) ≡ b → i < length l
     split true q = ltb-true i (length l) q
-    split false q = false-is-not-true (pass-past l i (ltb-false i (length l) q)) e
+    split false q = absurd (false≢true (sym (pass-past l i (ltb-false i (length l) q)) ∙ e))
 
 six-formed : (q p : Parsed) → RecordsFormed q → 1 ≤ q .size → checkSix q ≡ whole p → Formed p
 six-formed q p h some e =
@@ -273,8 +271,8 @@ six-formed q p h some e =
     })
 
 reading-formed : (r : Reading) (p : Parsed) → Good r → thenSix r ≡ whole p → Formed p
-reading-formed (going at last q) p g e = let z : _≡_ {A = ℕ} 0 1 = cc in absurd (omega arith)
-reading-formed (refused n w) p g e = not-whole e
+reading-formed (going at last q) p g e = going-is-not-whole at last q p e
+reading-formed (refused n w) p g e = refused-is-not-whole n w p e
 reading-formed (whole q) p g e = six-formed q p (g .0) (g .1) e
 
 -- every accepted board is well formed

@@ -17,6 +17,7 @@ use Rattle.reading.proofs.Table.{mem-head, mem-other}
 use Rattle.graph.specs.Sources.{distinctSources}
 use Rattle.graph.specs.Phases.{Within}
 use Rattle.graph.specs.Walking.{Gathered, Stands, unmarked, Visited}
+use Rattle.graph.proofs.Wiring.{within-more}
 use Rattle.graph.proofs.Repeats.{each-append, each-distinct, go-skips, go-new}
 
 -- a node that was not marked is marked: there is one unmarked node less
@@ -53,13 +54,6 @@ stands-list m l c v w h s = record {
   marks = s .marks;
   list = rw add-one (take-suc-set l c v h ∙ ap (λ (x : List ℕ). x ++ (v ∷ [])) (s .list));
 }
-
-more-below : (l : List ℕ) (c v : ℕ) → v < 64 → c < length l → Within 64 l c → Within 64 (set l c v) (c + 1)
-more-below l c v node h below i le = pick (ℕ-discrete i c)
-  where
-    pick : Dec (i ≡ c) → getD (set l c v) i 0 < 64
-    pick (yes p) = subst⁻¹ (λ (x : ℕ). x < 64) (ap (λ (k : ℕ). getD (set l c v) k 0) p ∙ getD-set-same l c v 0 h) node
-    pick (no n) = subst⁻¹ (λ (x : ℕ). x < 64) (getD-set-other l c i v 0 n) (below i (omega arith))
 
 -- the loop over v's sources, of which the first i are done: from the marks m₀, the list l₀ and its count, where it began, to m, l and c
 pub record Going (counts lists : List ℕ) (v : ℕ) (m₀ l₀ : List ℕ) (count : ℕ) (m l : List ℕ) (c i : ℕ) : Type 0 where
@@ -143,6 +137,6 @@ module _ (counts lists : List ℕ) (v : ℕ) (node : v < 64) (m l₀ : List ℕ)
     list-kept = length-set l c v ∙ g .list-kept;
     fewer = omega (arith, g .fewer, unmarked-set m v in-m unseen);
     total = omega (arith, g .total, unmarked-set m v in-m unseen);
-    below = λ b i h. more-below l c v node in-l (g .below b) i h;
+    below = λ b. within-more 64 l c v in-l node (g .below b);
     walk = done-walk;
   }

@@ -11,7 +11,6 @@ pub mod Loops
 pub mod Tabling
 pub mod Joined
 pub mod Six
--- Laws that the proofs of `graph` cite, and theorems for its callers.
 pub mod Repeats
 pub mod Going
 pub mod Listed
@@ -28,7 +27,6 @@ pub mod RoundBack
 pub mod RoundObeys
 pub mod RoundSources
 pub mod RoundSix
-pub mod RoundRefused
 pub mod Round
 pub mod RoundWorked
 pub mod Ending

@@ -4,7 +4,7 @@ use Prim.Native.Nat.{ℕ, zero, suc, _+_, _<_, _≤_}
 use native.Mathlib.Nat.{add-zero, zero-add, add-assoc, le-trans}
 use native.Mathlib.Numerals.{add-one}
 use native.Mathlib.Omega.{arith}
-use mathlib.Core.Bool.{Bool, true, false, cond, _&&_}
+use mathlib.Core.Bool.{Bool, true, false, cond, _&&_, and-assoc}
 use mathlib.Core.List.{List, [], _∷_, _++_}
 use lib.Dec.{eqb}
 use lib.ListN.{length, getD, take, drop}
@@ -23,14 +23,10 @@ use Rattle.graph.proofs.Listed.{lists-reached}
 
 -- ---- one listed node more
 
-both-assoc : (a b c : Bool) → ((a && b) && c) ≡ (a && (b && c))
-both-assoc true b c = refl
-both-assoc false b c = refl
-
 only-append : (ns : List NodeRecord) (a b : List ℕ) → onlyDelays ns (a ++ b) ≡ (onlyDelays ns a && onlyDelays ns b)
 only-append ns [] b = refl
 only-append ns (k ∷ a) b =
-    ap (λ (t : Bool). delays (kindAt ns k) && t) (only-append ns a b) ∙ sym (both-assoc (delays (kindAt ns k)) (onlyDelays ns a) (onlyDelays ns b))
+    ap (λ (t : Bool). delays (kindAt ns k) && t) (only-append ns a b) ∙ sym (and-assoc (delays (kindAt ns k)) (onlyDelays ns a) (onlyDelays ns b))
 
 lines-append : (ns : List NodeRecord) (a b : List ℕ) → listedLines ns (a ++ b) ≡ listedLines ns a + listedLines ns b
 lines-append ns [] b = sym (zero-add (listedLines ns b))

@@ -3,10 +3,9 @@ use Prim.Native.Nat.{ℕ, suc, _+_, _*_, _≤_, _<_}
 use mathlib.Core.Path.{_≡_, refl, sym, ap, subst, _∙_}
 use mathlib.Core.List.{List, [], _∷_, _++_}
 use native.Mathlib.Numerals.{add-one}
-use native.Mathlib.Decide.{ℕ-discrete}
 use native.Mathlib.Omega.{arith}
-use lib.ListN.{length, getD, take, set, length-set}
-use lib.Seq.{length-take-le, take-suc-set, getD-set-same, getD-set-other}
+use lib.ListN.{length, take, set, length-set}
+use lib.Seq.{length-take-le, take-suc-set}
 use Rattle.nodes.specs.Kind.{lineOf, channelsOf}
 use Rattle.nodes.specs.declared.kind.NodeKind.{NodeKind}
 use Rattle.nodes.specs.declared.kind.NodeRecord.{NodeRecord}
@@ -24,7 +23,7 @@ use Rattle.graph.specs.declared.board.WireRead.the-variants as wire
 use Rattle.graph.proofs.Sums.{lines-snoc, cells-snoc, samples-few}
 use Rattle.graph.proofs.Run.{run-next}
 use Rattle.graph.proofs.Answers.{accepted-as, refused-as}
-use Rattle.graph.proofs.Wiring.{wires-length, wires-stored}
+use Rattle.graph.proofs.Wiring.{wires-length, wires-stored, within-more}
 use Rattle.graph.proofs.Parts.{NodeStep, node-step, WireStep, wire-step}
 
 -- one element more in an array that is filled from the front
@@ -145,14 +144,6 @@ wires-start s start i ss ts l m h = record {
   next-is = omega arith;
   inside = h;
 }
-
--- a node stored at the next place
-within-more : (n : ℕ) (l : List ℕ) (w a : ℕ) → w < length l → a < n → Within n l w → Within n (set l w a) (w + 1)
-within-more n l w a p q h j b = split (ℕ-discrete j w)
-  where
-    split : Dec (j ≡ w) → getD (set l w a) j 0 < n
-    split (yes e) = rw (e, getD-set-same l w a 0 p) q
-    split (no other) = rw (getD-set-other l w j a 0 other) (h j (omega arith))
 
 module _ (s : List ℕ) (start i : ℕ) (ss ts : List ℕ) (count next : ℕ) (h : WiresSoFar s start i ss ts count next) where
   -- what the record at `next` says

@@ -17,11 +17,12 @@ use Rattle.graph.specs.Board.{Parsed, Reading, going, refused, whole, me
 use Rattle.graph.specs.Judge.{checkSix, thenSix, readBoard, answerBy, judgeOf}
 use Rattle.graph.specs.Write.{NodeCard, Card, writeBoard, parsedOf, NodeObeys, WireObeys, SourcesObey, noNode, noWire, Obeys}
 use Rattle.graph.specs.declared.answer.Answer.{Answer}
+use Rattle.graph.proofs.Run.{refused-is-not-whole, going-is-not-whole}
+use Rattle.graph.proofs.Ending.{Ended, board-ends}
 use Rattle.graph.proofs.RoundRun.{WiresFit, records-read}
-use Rattle.graph.proofs.RoundBack.{Written, records-written, going-is-not-whole}
+use Rattle.graph.proofs.RoundBack.{Written, records-written}
 use Rattle.graph.proofs.RoundObeys.{EachFrom, each-from, from-each, nodes-fit, nodes-told, wires-fit, wires-told}
-use Rattle.graph.proofs.RoundSix.{Free, Six, records-length, refused-is-not-whole, six-in, six-told}
-use Rattle.graph.proofs.RoundRefused.{Numbered, read-numbered}
+use Rattle.graph.proofs.RoundSix.{Free, Six, records-length, six-in, six-told}
 
 -- ---- a card that obeys is read
 
@@ -115,11 +116,11 @@ read-write s h p = go (readRecords s) refl
 pub judge-exact : (s : List ℕ) → Bytes s → ((judgeOf s) .number ≡ 0) ↔ ((c : Card) × Obeys c × (s ≡ writeBoard c))
 unfolding judgeOf
 judge-exact s h = (
-  go (readBoard s) refl (read-numbered s),
+  go (readBoard s) refl (board-ends s),
   λ w. ap (λ (a : Answer). a .number) (ap judgeOf (w .2) ∙ judge-written (w .0) (w .1)),
 )
   where
-    go : (r : Reading) → readBoard s ≡ r → Numbered r → (answerBy memoryLength r) .number ≡ 0 → (c : Card) × Obeys c × (s ≡ writeBoard c)
+    go : (r : Reading) → readBoard s ≡ r → Ended r → (answerBy memoryLength r) .number ≡ 0 → (c : Card) × Obeys c × (s ≡ writeBoard c)
     go (going at last p) e n z = absurd (omega arith)
     go (refused k w) e n z = absurd (omega arith)
     go (whole p) e n z = let a = read-write s h p e in (a .card, a .obeys, a .bytes)

@@ -22,10 +22,11 @@ use Rattle.graph.specs.Write.{NodeCard, Card, u16Bytes, u32Bytes, headBy
 use Rattle.graph.specs.declared.record.Found.{Found}
 use Rattle.graph.specs.declared.record.Found.the-variants.{Head, Node, End, Refused}
 use Rattle.graph.specs.declared.record.Found.the-variants as found
+use Rattle.graph.proofs.Run.{run-done, refused-for-good, going-is-not-whole}
 use Rattle.graph.proofs.RoundBytes.{u16-on, u32-on, bytes-on, u16-small, u32-small, u16-split, u32-split}
 use Rattle.graph.proofs.RoundRule.{kind-told}
 use Rattle.graph.proofs.RoundRecords.{Stands, Told, found-told}
-use Rattle.graph.proofs.RoundRun.{addNodes, addWires, one-node, one-wire, no-node, no-wire, NodesFit, WiresFit, next-nodes, next-wires, run-whole, refused-for-good}
+use Rattle.graph.proofs.RoundRun.{addNodes, addWires, one-node, one-wire, no-node, no-wire, NodesFit, WiresFit, next-nodes, next-wires}
 
 -- ---- the bytes of a record, from the numbers that stand in it
 
@@ -103,7 +104,7 @@ module _ (s : List ℕ) (h : Bytes s) (q : Parsed) (n : ℕ) where
         go : (b : Bool) → eqb (at + 4) (length s) ≡ b → run n s (cond b (whole p) (refused 1 (at + 4))) ≡ whole q → WiresLeft s at p q
         go true e r =
             let l : at + 4 ≡ length s = eqb-true (at + 4) (length s) e in
-            let w : whole p ≡ whole q = sym (run-whole n s p) ∙ r in
+            let w : whole p ≡ whole q = sym (run-done s n (whole p) tt) ∙ r in
             let same : p ≡ q = cc in
             record {
               wires = [];
@@ -111,7 +112,7 @@ module _ (s : List ℕ) (h : Bytes s) (q : Parsed) (n : ℕ) where
               result = no-wire p ∙ same;
               wires-fit = tt;
             }
-        go false e r = refused-for-good n s 1 (at + 4) q r
+        go false e r = refused-for-good s n 1 (at + 4) q r
 
     module _ (again : (at : ℕ) (p : Parsed) → run n s (going at 3 p) ≡ whole q → WiresLeft s at p q) where
       wire-left : Stands (drop at s) 3 8 → run n s (wireBy at p (u16At s (at + 4)) (u16At s (at + 6))) ≡ whole q → WiresLeft s at p q
@@ -139,7 +140,7 @@ module _ (s : List ℕ) (h : Bytes s) (q : Parsed) (n : ℕ) where
           go : (b : Bool) → wireFits (length (p .nodes)) (length (p .wires)) x y ≡ b
               → run n s (cond b (going (at + 8) 3 (withWire p x y)) (refused 5 at)) ≡ whole q → WiresLeft s at p q
           go true e r = more e (again (at + 8) (withWire p x y) r)
-          go false e r = refused-for-good n s 5 at q r
+          go false e r = refused-for-good s n 5 at q r
 
       -- after a wire stand wires and the end
       wires-step : (f : Found) → Told (drop at s) 3 f → run n s (takeFound s at p f) ≡ whole q → WiresLeft s at p q
@@ -148,7 +149,7 @@ module _ (s : List ℕ) (h : Bytes s) (q : Parsed) (n : ℕ) where
       wires-step Node t r = absurd (omega arith)
       wires-step found.Wire t r = wire-left (t .0) r
       wires-step End t r = end-left (t .0) r
-      wires-step (Refused k) t r = refused-for-good n s k at q r
+      wires-step (Refused k) t r = refused-for-good s n k at q r
 
       module _ (last : ℕ) (low : 1 ≤ last) (onward : (at : ℕ) (p : Parsed) → run n s (going at 2 p) ≡ whole q → Left s at p q) where
         node-left : Stands (drop at s) 2 14
@@ -179,10 +180,10 @@ module _ (s : List ℕ) (h : Bytes s) (q : Parsed) (n : ℕ) where
                 → nodeFits (length (p .nodes)) (linesOf (p .nodes)) (kindOf d) ≡ b
                 → run n s (cond b (going (at + 14) 2 (withNode p (kindOf d))) (refused 4 at)) ≡ whole q → Left s at p q
             fit k true e r = more k e (onward (at + 14) (withNode p (kindOf d)) r)
-            fit k false e r = refused-for-good n s 4 at q r
+            fit k false e r = refused-for-good s n 4 at q r
 
             rule : (r : Rule) → ruleOf (d .type) (d .n) (d .f) ≡ r → run n s (nodeBy at p r) ≡ whole q → Left s at p q
-            rule Broken e r = refused-for-good n s 4 at q r
+            rule Broken e r = refused-for-good s n 4 at q r
             rule (Is k) e r =
                 let same = kind-told d k e .3 in
                 fit (e ∙ ap Is (sym same)) (nodeFits (length (p .nodes)) (linesOf (p .nodes)) (kindOf d)) refl
@@ -195,10 +196,7 @@ module _ (s : List ℕ) (h : Bytes s) (q : Parsed) (n : ℕ) where
         nodes-step Node t r = node-left (t .0) r
         nodes-step found.Wire t r = no-more-nodes (wire-left (t .0) r)
         nodes-step End t r = no-more-nodes (end-left (t .0) r)
-        nodes-step (Refused k) t r = refused-for-good n s k at q r
-
-pub going-is-not-whole : {A : Type 0} (at last : ℕ) (p q : Parsed) → going at last p ≡ whole q → A
-going-is-not-whole at last p q e = let z : _≡_ {A = ℕ} 0 1 = cc in absurd (omega arith)
+        nodes-step (Refused k) t r = refused-for-good s n k at q r
 
 module _ (s : List ℕ) (h : Bytes s) (q : Parsed) where
   wires-left : (n at : ℕ) (p : Parsed) → run n s (going at 3 p) ≡ whole q → WiresLeft s at p q
@@ -245,7 +243,7 @@ module _ (s : List ℕ) (h : Bytes s) (q : Parsed) (n : ℕ) where
 
       go : (b : Bool) → sizeFits N ≡ b → run n s (cond b (going 8 1 (headed N i)) (refused 3 0)) ≡ whole q → Written s q
       go true e r = more e (nodes-left s h q n 8 1 (headed N i) (omega arith) r)
-      go false e r = refused-for-good n s 3 0 q r
+      go false e r = refused-for-good s n 3 0 q r
 
   -- the first record is a head
   head-step : (f : Found) → Told s 0 f → run n s (takeFound s 0 (headed 0 0) f) ≡ whole q → Written s q
@@ -254,7 +252,7 @@ module _ (s : List ℕ) (h : Bytes s) (q : Parsed) (n : ℕ) where
   head-step Node t r = absurd (omega arith)
   head-step found.Wire t r = absurd (omega arith)
   head-step End t r = absurd (omega arith)
-  head-step (Refused k) t r = refused-for-good n s k 0 q r
+  head-step (Refused k) t r = refused-for-good s n k 0 q r
 
 pub records-written : (s : List ℕ) → Bytes s → (q : Parsed) → readRecords s ≡ whole q → Written s q
 unfolding readRecords run stepOf

@@ -4,7 +4,7 @@ use Prim.Native.Nat.{ℕ, _+_, _-_, _≤_, _<_}
 use mathlib.Core.Path.{_≡_, refl, sym, ap, subst, _∙_}
 use mathlib.Core.Logic.{_⊎_, inl, inr, ⊎-elim}
 use mathlib.Core.List.{List}
-use mathlib.Core.Bool.{Bool, true, false, cond, _&&_, _||_, true≢false, and-eq-true-iff}
+use mathlib.Core.Bool.{Bool, true, cond, _&&_, _||_}
 use native.Mathlib.Omega.{arith}
 use borrow.Author.Tests.{ltb-false, le-ltb, leb-true, eqb-true, eqb-false}
 use lib.ListN.{length, drop, length-drop}
@@ -13,12 +13,8 @@ use Rattle.leaves.specs.Bytes.{u16At}
 use Rattle.graph.specs.Record.{inOrder, sized, foundOf, foundAt}
 use Rattle.graph.specs.declared.record.Found.{Found}
 use Rattle.graph.specs.declared.record.Found.the-variants.{Head, Node, Wire, End, Refused}
+use Rattle.graph.proofs.Choice.{pick, both, neither}
 use Rattle.graph.proofs.RoundBytes.{u16-on}
-
--- what holds of both cases holds of the choice
-pub pick : {A : Type 0} (P : A → Type 0) (b : Bool) (x y : A) → (b ≡ true → P x) → (b ≡ false → P y) → P (cond b x y)
-pick P true x y f g = f refl
-pick P false x y f g = g refl
 
 -- ---- by the bytes from the offset on
 
@@ -66,8 +62,8 @@ Ordered last k = ((last ≡ 0) × (k ≡ 1)) ⊎ ((1 ≤ last) × (2 ≤ k) × (
 order-told : (last k : ℕ) → inOrder last k ≡ true → Ordered last k
 order-told last k =
     pick (λ (b : Bool). b ≡ true → Ordered last k) (eqb last 0) _ _ (λ e h. inl (eqb-true last 0 e, eqb-true k 1 h))
-    (λ e h. let two = and-eq-true-iff (leb 2 k && leb last k) (leb k 4) .0 h in
-    let one = and-eq-true-iff (leb 2 k) (leb last k) .0 (two .0) in
+    (λ e h. let two = both (leb 2 k && leb last k) (leb k 4) h in
+    let one = both (leb 2 k) (leb last k) (two .0) in
     inr (omega (arith, eqb-false last 0 e), leb-true 2 k (one .0), leb-true last k (one .1), leb-true k 4 (two .1)))
 
 module _ (b : List ℕ) (last : ℕ) where
@@ -95,11 +91,7 @@ module _ (b : List ℕ) (last : ℕ) where
   part-told =
       pick (Told b last) (ltb (length b) 4 || ltb (length b) (u16At b 0)) _ _ (λ _. omega arith)
       (λ e. pick (Told b last) (inOrder last (u16At b 2)) _ _
-      (λ o. kind-told (ltb-false (length b) (u16At b 0) (second (ltb (length b) 4) _ e)) (order-told last (u16At b 2) o)) (λ _. omega arith))
-    where
-      second : (x y : Bool) → (x || y) ≡ false → y ≡ false
-      second true y e = absurd (true≢false e)
-      second false y e = e
+      (λ o. kind-told (ltb-false (length b) (u16At b 0) (neither (ltb (length b) 4) _ e .1)) (order-told last (u16At b 2) o)) (λ _. omega arith))
 
 pub found-told : (s : List ℕ) (at last : ℕ) (f : Found) → foundAt s at last ≡ f → Told (drop at s) last f
 found-told s at last f e = subst (Told (drop at s) last) (sym (found-part s at last) ∙ e) (part-told (drop at s) last)

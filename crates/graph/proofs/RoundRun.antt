@@ -1,5 +1,5 @@
 -- The reading of a board's records against the records that are written: bytes written for nodes and wires that fit are read whole
--- (`records-read`), and bytes that are read whole are written so (`records-written`). Assumes nothing.
+-- (`records-read`). Assumes nothing.
 use Prim.Native.Nat.{ℕ, zero, suc, _+_, _≤_, _<_}
 use mathlib.Core.Path.{_≡_, refl, sym, ap, subst, _∙_}
 use mathlib.Core.List.{List, [], _∷_, _++_, append-nil}
@@ -19,6 +19,8 @@ use Rattle.graph.specs.Board.{Parsed, going, refused, whole, headed, wit
 use Rattle.graph.specs.Write.{NodeCard, Card, headBytes, nodeBytes, wireBytes, endBytes, nodesBytes, wiresBytes, writeBoard, kindOf, recordsFrom, parsedOf}
 use Rattle.graph.specs.declared.record.Found.the-variants.{Head, Node, End}
 use Rattle.graph.specs.declared.record.Found.the-variants as found
+use Rattle.graph.proofs.Sums.{lines-snoc, cells-snoc}
+use Rattle.graph.proofs.Run.{run-done}
 use Rattle.graph.proofs.RoundBytes.{u16-on, u32-on, u16-back, u32-back}
 use Rattle.graph.proofs.RoundRecords.{found-in}
 
@@ -34,14 +36,6 @@ addNodes p ds = record {
 
 abbrev pub addWires : Parsed → List Wire → Parsed
 addWires p ws = record { size = p .size; input = p .input; nodes = p .nodes; wires = p .wires ++ ws }
-
-lines-snoc : (xs : List NodeRecord) (r : NodeRecord) → linesOf (xs ++ (r ∷ [])) ≡ linesOf xs + lineOf (r .kind)
-lines-snoc [] r = omega arith
-lines-snoc (x ∷ xs) r = omega (arith, lines-snoc xs r)
-
-cells-snoc : (N : ℕ) (xs : List NodeRecord) (r : NodeRecord) → cellsOf N (xs ++ (r ∷ [])) ≡ cellsOf N xs + cellSize N (r .kind)
-cells-snoc N [] r = omega arith
-cells-snoc N (x ∷ xs) r = omega (arith, cells-snoc N xs r)
 
 abbrev nodeOf : Parsed → NodeCard → NodeRecord
 nodeOf p d = record { kind = kindOf d; channels = channelsOf (kindOf d); cell = cellsOf (p .size) (p .nodes) }
@@ -92,25 +86,6 @@ module _ (p : Parsed) (d : NodeCard) (ds : List NodeCard) where
 module _ (p : Parsed) (w : Wire) (i : ℕ) (ws : List Wire) where
   pub next-wires : WiresFit i (length (p .wires) + 1) ws ≡ WiresFit i (length (withWire p (w .source) (w .target) .wires)) ws
   next-wires = λ j. WiresFit i (sym (length-append (p .wires) (w ∷ [])) j) ws
-
--- ---- a reading that is done stays as it is
-
-pub run-whole : (n : ℕ) (s : List ℕ) (p : Parsed) → run n s (whole p) ≡ whole p
-unfolding run stepOf
-run-whole zero s p = refl
-run-whole (suc n) s p = run-whole n s p
-
-run-refused : (n : ℕ) (s : List ℕ) (k w : ℕ) → run n s (refused k w) ≡ refused k w
-unfolding run stepOf
-run-refused zero s k w = refl
-run-refused (suc n) s k w = run-refused n s k w
-
--- a refused reading ends in no whole board
-pub refused-for-good : {A : Type 0} (n : ℕ) (s : List ℕ) (k w : ℕ) (q : Parsed) → run n s (refused k w) ≡ whole q → A
-refused-for-good n s k w q e =
-    let f : refused k w ≡ whole q = sym (run-refused n s k w) ∙ e in
-    let z : _≡_ {A = ℕ} 0 1 = cc in
-    absurd (omega arith)
 
 -- ---- written records are read
 
@@ -171,7 +146,7 @@ module _ (s : List ℕ) where
       → run n s (going at last p) ≡ whole (addWires p ws)
   unfolding run
   wires-read [] zero at last p low high e l h = absurd (omega arith)
-  wires-read [] (suc n) at last p low high e l h = ap (run n s) (end-step s at last p low (omega arith) e) ∙ run-whole n s p ∙ ap whole (sym (no-wire p))
+  wires-read [] (suc n) at last p low high e l h = ap (run n s) (end-step s at last p low (omega arith) e) ∙ run-done s n (whole p) tt ∙ ap whole (sym (no-wire p))
   wires-read (w ∷ ws) zero at last p low high e l h = absurd (omega arith)
   wires-read (w ∷ ws) (suc n) at last p low high e l h =
       ap (run n s) (wire-step s at last p low w (wiresBytes ws ++ endBytes) high e (h .0))

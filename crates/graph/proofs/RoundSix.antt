@@ -15,12 +15,10 @@ use Rattle.graph.specs.Sources.{distinctSources}
 use Rattle.graph.specs.Board.{Parsed, Reading, refused, whole}
 use Rattle.graph.specs.Judge.{passAt, inputFits, checkSources, checkSix}
 use Rattle.graph.specs.Write.{NodeCard, Card, kindOf, recordsFrom, parsedOf, NodeObeys, SourcesObey, noNode}
+use Rattle.graph.proofs.Run.{refused-is-not-whole}
 use Rattle.graph.proofs.RoundRule.{pass-is}
 use Rattle.graph.proofs.RoundObeys.{EachFrom}
 use Rattle.graph.proofs.RoundSources.{once-distinct, distinct-leads, sources-counted}
-
-pub refused-is-not-whole : {A : Type 0} (k w : ℕ) (q : Parsed) → refused k w ≡ whole q → A
-refused-is-not-whole k w q e = let z : _≡_ {A = ℕ} 0 1 = cc in absurd (omega arith)
 
 pub records-length : (N at : ℕ) (ds : List NodeCard) → length (recordsFrom N at ds) ≡ length ds
 records-length N at [] = refl

@@ -4,40 +4,29 @@ use Prim.Native.Nat.{ℕ, zero, suc, _≤_, _<_}
 use mathlib.Core.Path.{_≡_, refl, sym, ap, _∙_}
 use mathlib.Core.Logic.{_↔_}
 use mathlib.Core.List.{List, [], _∷_, _++_}
-use mathlib.Core.Bool.{Bool, true, false, cond, _||_, true≢false, false≢true}
+use mathlib.Core.Bool.{Bool, true, false, cond, _||_, or-true, or-false, or-assoc, true≢false, false≢true}
 use native.Mathlib.Omega.{arith}
 use borrow.Author.Tests.{eqb-true, eq-eqb, ne-eqb}
 use lib.ListN.{length, getD}
 use lib.Dec.{eqb}
 use Rattle.reading.specs.Table.{mem}
 use Rattle.reading.specs.Order.{Wire, Once, sources}
-use Rattle.reading.proofs.Table.{or-right, or-left, or-false, not-mem}
+use Rattle.reading.proofs.Table.{or-right, or-left, not-mem}
 use Rattle.graph.specs.Sources.{addNew, addAll, distinct, distinctSources}
 use Rattle.graph.specs.Write.{Leads, noWire}
+use Rattle.graph.proofs.Tabling.{mem-snoc}
 
 -- ---- each number once
 
-or-true : (a : Bool) → (a || true) ≡ true
-or-true true = refl
-or-true false = refl
-
-or-assoc : (a b c : Bool) → (a || b || c) ≡ (a || (b || c))
-or-assoc true b c = refl
-or-assoc false b c = refl
-
 module _ (y : ℕ) where
-  mem-snoc : (l : List ℕ) (x : ℕ) → mem y (l ++ (x ∷ [])) ≡ (mem y l || eqb y x)
-  mem-snoc [] x = or-false (eqb y x)
-  mem-snoc (z ∷ l) x = ap (λ (b : Bool). eqb y z || b) (mem-snoc l x) ∙ sym (or-assoc (eqb y z) (mem y l) (eqb y x))
-
   mem-new : (l : List ℕ) (x : ℕ) → mem y (addNew l x) ≡ (mem y l || eqb y x)
   mem-new l x = go (mem x l) refl (eqb y x) refl
     where
       go : (b : Bool) → mem x l ≡ b → (c : Bool) → eqb y x ≡ c → mem y (cond b l (l ++ (x ∷ []))) ≡ (mem y l || eqb y x)
       go true e true q = ap (λ (a : ℕ). mem a l) (eqb-true y x q) ∙ e ∙ sym (or-true (mem y l)) ∙ ap (λ (a : Bool). mem y l || a) (sym q)
       go true e false q = sym (or-false (mem y l)) ∙ ap (λ (a : Bool). mem y l || a) (sym q)
-      go false e true q = mem-snoc l x
-      go false e false q = mem-snoc l x
+      go false e true q = mem-snoc l y x
+      go false e false q = mem-snoc l y x
 
   mem-all : (xs l : List ℕ) → mem y (addAll l xs) ≡ (mem y l || mem y xs)
   mem-all [] l = sym (or-false (mem y l))
@@ -52,7 +41,7 @@ once-snoc : (l : List ℕ) (x : ℕ) → Once l → mem x l ≡ false → Once (
 once-snoc [] x h e = (refl, tt)
 once-snoc (z ∷ l) x h e =
     let apart = not-mem l e in
-    (mem-snoc z l x ∙ ap (λ (b : Bool). b || eqb z x) (h .0) ∙ ne-eqb z x (λ q. apart .0 (sym q)), once-snoc l x (h .1) (apart .1))
+    (mem-snoc l z x ∙ ap (λ (b : Bool). b || eqb z x) (h .0) ∙ ne-eqb z x (λ q. apart .0 (sym q)), once-snoc l x (h .1) (apart .1))
 
 once-new : (l : List ℕ) (x : ℕ) → Once l → Once (addNew l x)
 once-new l x h = go (mem x l) refl

@@ -44,7 +44,7 @@ second-snoc (a ∷ b ∷ xs) x =
     let more : suc (suc (length xs)) ≡ 1 → ⊥ = λ e. omega arith in
     rw (ne-eqb (suc (suc (length xs))) 1 more)
 
-mem-snoc : (l : List ℕ) (x y : ℕ) → mem x (l ++ (y ∷ [])) ≡ mem x l || eqb x y
+pub mem-snoc : (l : List ℕ) (x y : ℕ) → mem x (l ++ (y ∷ [])) ≡ mem x l || eqb x y
 mem-snoc [] x y = or-false (eqb x y)
 mem-snoc (z ∷ l) x y = rw (mem-snoc l x y) (sym (or-assoc (eqb x z) (mem x l) (eqb x y)))
 

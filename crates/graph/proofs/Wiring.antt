@@ -1,15 +1,24 @@
--- The wires of two arrays, with one wire more. Assumes nothing.
+-- Arrays filled from the front, with one number more: numbers within a limit, and the wires of two arrays. Assumes nothing.
 use Prim.Native.Nat.{ℕ, zero, suc, _+_, _≤_, _<_}
 use mathlib.Core.Path.{_≡_, refl, ap, _∙_}
 use mathlib.Core.List.{List, [], _∷_, _++_}
 use native.Mathlib.Nat.{add-zero, zero-add}
 use native.Mathlib.Numerals.{add-one}
+use native.Mathlib.Decide.{ℕ-discrete}
 use native.Mathlib.Omega.{arith}
 use lib.ListN.{length, getD, set}
 use lib.Seq.{getD-set-same, getD-set-other}
-use Rattle.reading.specs.Order.{Wire}
 use Rattle.graph.specs.Board.{wire}
 use Rattle.graph.specs.Wires.{wiresFrom, wiresOf}
+use Rattle.graph.specs.Phases.{Within}
+
+-- a number stored at the next place
+pub within-more : (n : ℕ) (l : List ℕ) (w a : ℕ) → w < length l → a < n → Within n l w → Within n (set l w a) (w + 1)
+within-more n l w a p q h j b = split (ℕ-discrete j w)
+  where
+    split : Dec (j ≡ w) → getD (set l w a) j 0 < n
+    split (yes e) = rw (e, getD-set-same l w a 0 p) q
+    split (no other) = rw (getD-set-other l w j a 0 other) (h j (omega arith))
 
 wires-kept : (ss ts : List ℕ) (w a t : ℕ) (n i : ℕ) → i + n ≤ w → wiresFrom (set ss w a) (set ts w t) i n ≡ wiresFrom ss ts i n
 wires-kept ss ts w a t zero i h = refl

@@ -9,10 +9,11 @@ use Rattle.nodes.specs.Kind.{finite, inBand, channelsOf, cellSize, isPass, sour
 use Rattle.nodes.specs.declared.kind.NodeKind.{NodeKind}
 use Rattle.nodes.specs.declared.kind.NodeKind.the-variants.{Pass, Sum, Destination, Balance, Mul, Add, Delay, AllPass, OnePole, Sine}
 use Rattle.nodes.specs.declared.kind.NodeRecord.{NodeRecord}
-use Rattle.reading.specs.Order.{Wire, Each, sources}
+use Rattle.reading.specs.Order.{Each, sources}
 use Rattle.graph.specs.Sources.{distinctSources}
 use Rattle.graph.specs.Wires.{wiresOf}
 use Rattle.graph.specs.Board.{Parsed, linesOf, cellsOf, memoryLength, placed}
+use Rattle.graph.specs.Write.{LineLength, WireObeys}
 use Rattle.graph.specs.declared.board.Board.{Board}
 
 -- x is the float of a pattern that passes a test
@@ -20,10 +21,6 @@ pub record FromBits (test : ℕ → Bool) (x : Float) : Type 0 where
   pub bits : ℕ
   pub is : x ≡ ofBits binary32 bits
   pub passes : test bits ≡ true
-
--- a line's length
-abbrev pub Line : ℕ → Type 0
-Line n = (1 ≤ n) × (n ≤ 132300)
 
 -- a kind whose fields are in their ranges
 abbrev pub Ranged : NodeKind → Type 0
@@ -33,8 +30,8 @@ Ranged Destination = Unit {0}
 Ranged Balance = Unit {0}
 Ranged (Mul x) = FromBits finite x
 Ranged (Add x) = FromBits finite x
-Ranged (Delay n) = Line n
-Ranged (AllPass n x) = Line n × FromBits finite x
+Ranged (Delay n) = LineLength n
+Ranged (AllPass n x) = LineLength n × FromBits finite x
 Ranged (OnePole x) = FromBits finite x
 Ranged (Sine x) = FromBits inBand x
 
@@ -46,12 +43,6 @@ pub record NodeFormed (p : Parsed) (d : NodeRecord) (i : ℕ) : Type 0 where
   pub channels-are : (getD (p .nodes) i d) .channels ≡ channelsOf ((getD (p .nodes) i d) .kind)
   pub cell-is : (getD (p .nodes) i d) .cell ≡ cellsOf (p .size) (take i (p .nodes))
 
--- a wire joins two different nodes below n
-pub record Joins (n : ℕ) (w : Wire) : Type 0 where
-  pub source-in : w .source < n
-  pub target-in : w .target < n
-  pub apart : w .source ≡ w .target → ⊥
-
 -- checks 1 to 5: what holds of the records read so far
 pub record RecordsFormed (p : Parsed) : Type 0 where
   pub small-size : p .size ≤ 128
@@ -59,7 +50,7 @@ pub record RecordsFormed (p : Parsed) : Type 0 where
   pub few-lines : linesOf (p .nodes) ≤ 262144
   pub few-wires : length (p .wires) ≤ 128
   pub nodes : (d : NodeRecord) (i : ℕ) → i < length (p .nodes) → NodeFormed p d i
-  pub joins : Each (Joins (length (p .nodes))) (p .wires)
+  pub joins : Each (WireObeys (length (p .nodes))) (p .wires)
 
 pub record Formed (p : Parsed) : Type 0 where
   pub records : RecordsFormed p

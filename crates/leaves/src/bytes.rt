@@ -6,6 +6,13 @@ ghost use lib.ListN.{length, getD, set};
 ghost use Rattle.leaves.specs.Bytes.{u16At, u32At};
 ghost use Rattle.leaves.specs.Words.{words, word};
 
+// A byte as an index or a count.
+pub fn wide(x: u8) -> usize
+    ensures { λ r. ⌜ r ≡ x ⌝ }
+{
+    x as usize
+}
+
 fn joined(a: u8, b: u8, c: u8, d: u8) -> u32
     ensures { λ r. ⌜ r ≡ word a b c d ⌝ }
 {

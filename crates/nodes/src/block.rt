@@ -30,10 +30,3 @@ pub fn put(cell: &mut [u8], at: usize, size: usize, x: &[f32; 128])
         i += 1;
     }
 }
-
-// A listed node, as an index.
-pub fn wide(x: u8) -> usize
-    ensures { λ r. ⌜ r ≡ x ⌝ }
-{
-    x as usize
-}

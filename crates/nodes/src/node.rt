@@ -12,7 +12,6 @@ ghost use Rattle.nodes.specs.Node.{broughtAt, nodeRun, Supplies, CellRea
 use crate::apfmsgain::all_pass;
 use crate::block::fetch;
 use crate::block::put;
-use crate::block::wide;
 use crate::delayn::delay;
 use crate::kind::NodeKind;
 use crate::kind::NodeRecord;
@@ -22,6 +21,7 @@ use crate::operator::add::add;
 use crate::operator::mul::mul;
 use crate::sin_osc::sin_osc;
 use crate::sum::total;
+use leaves::bytes::wide;
 
 // The first wire's source, and the second's where there are two sources.
 fn operands(

@@ -4,7 +4,7 @@ ghost use Prim.Native.Nat.{_+_, _*_, _≤_};
 ghost use lib.ListN.{length};
 ghost use Rattle.leaves.specs.Words.{words};
 ghost use Rattle.nodes.specs.Block.{fill, quiet, added, totalAt, InMemory};
-use crate::block::wide;
+use leaves::bytes::wide;
 use leaves::float::load;
 
 fn clear(x: &mut [f32; 128], size: usize)

@@ -26,7 +26,7 @@ use Rattle.context.proofs.CallCells.{cell-in, cell-apart}
 use Rattle.context.proofs.CallLaws.{Whole, Judged, judged-passed, passed-judged}
 use Rattle.context.proofs.CallMessage.{set-long, set-judged}
 use Rattle.context.proofs.FineBoard.{fine-board}
-use Rattle.graph.proofs.RoundRefused.{Numbered, read-numbered}
+use Rattle.graph.proofs.Ending.{Ended as Numbered, board-ends as read-numbered}
 use Rattle.plate.specs.Plate.{dryOf}
 use Rattle.plate.specs.Mix.{isMul, checkMul, checkFinite, checkMixed, after, setMix, mixBy, mixOf, IsFour, HoldsMix}
 use Rattle.plate.proofs.Written.{answer-of, bytes-of}
