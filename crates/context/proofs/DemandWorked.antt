@@ -24,7 +24,6 @@ use Rattle.context.specs.Calls.{freshOf, checkSamples, blockIn, listed}
 use Rattle.context.specs.Reading.{Call, block, Reply, Timed, IsReading, accepted, repliesTo}
 use Rattle.context.specs.Claim.{callIn}
 use Rattle.graph.specs.Write.{kindOf, parsedOf, writeBoard}
-use Rattle.graph.proofs.RoundBytes.{board-bytes}
 use Rattle.graph.proofs.RoundWorked.{feedback}
 use Rattle.context.proofs.Demand.{board-claim, own-order}
 
@@ -71,6 +70,5 @@ feedback-blocks = refl
 -- and so says every reading of them
 pub feedback-reading : (s : Timed Frame) (u : Timed Heard) → IsReading p (accepted p three) s u → repliesTo p s 0 three ≡ said ahead ∷ said quiet ∷ said half ∷ []
 feedback-reading s u r =
-    let bytes = board-bytes feedback in
-    let claim = board-claim (writeBoard feedback) bytes p reads three in
-    sym (claim .as-read s u r listed (own-order (writeBoard feedback) bytes p reads) .replies) ∙ feedback-blocks
+    let claim = board-claim (writeBoard feedback) p reads three in
+    sym (claim .as-read s u r listed (own-order (writeBoard feedback) p reads) .replies) ∙ feedback-blocks

@@ -1,7 +1,8 @@
 -- Laws of the calls, and the theorems: demand 3 (Demand) and the tail (Silence).
-pub mod FineBoard
+pub mod FormedBoard
 pub mod CallChecks
 pub mod CallCells
+pub mod CallBy
 pub mod CallFresh
 pub mod CallMessage
 pub mod CallLaws

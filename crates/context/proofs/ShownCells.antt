@@ -27,12 +27,13 @@ use Rattle.nodes.specs.declared.kind.NodeRecord.{NodeRecord}
 use Rattle.nodes.proofs.Cells.{length-values, get-sample}
 use Rattle.reading.specs.Table.{put}
 use Rattle.reading.specs.Blocks as blocks
-use Rattle.reading.proofs.Table.{put-same, put-other}
+use Rattle.reading.proofs.Table.{put-same, put-other, joined-agree}
 use Rattle.graph.specs.Board.{Parsed, cellsOf}
+use Rattle.graph.proofs.Six.{blank}
 use Rattle.context.specs.Memory.{nodeAt, kindAt, leftStart, rightStart}
 use Rattle.context.specs.Reading.{silence, rightSample, samplesOf}
 use Rattle.context.specs.Instance.{Cells, cellIn, shownTo, shown}
-use Rattle.context.specs.Fine.{Fine}
+use Rattle.graph.specs.Formed.{Formed}
 
 -- ---- frames as a cell's samples
 
@@ -120,14 +121,11 @@ values-long p k d h =
 
 module _ (p : Parsed) where
   pub shown-agree : (c d : Cells) (m : ℕ) → ((j : ℕ) → j < m → c j ≡ d j) → shownTo p c m ≡ shownTo p d m
-  unfolding shownTo
-  shown-agree c d zero h = refl
-  shown-agree c d (suc m) h = λ i. shown-agree c d m (λ j l. h j (omega arith)) i ++ valuesOf (cellHeld p m (h m (omega arith) i))
+  shown-agree c d m h = joined-agree m _ _ (λ j l. ap (λ (x : blocks.Cell Frame State). valuesOf (cellHeld p j x)) (h j l))
 
   -- what stands after node j's cell is the same whatever stands in it
   shown-split : (c : Cells) (j m : ℕ) → j < m
       → (rest : List ℕ) × ((d : blocks.Cell Frame State) → shownTo p (put c j d) m ≡ shownTo p c j ++ (valuesOf (cellHeld p j d) ++ rest))
-  unfolding shownTo
   shown-split c j zero h = absurd (omega arith)
   shown-split c j (suc m) h = go (ℕ-discrete j m) (shown-split c j m)
     where
@@ -172,11 +170,10 @@ module _ (p : Parsed) where
 
   module _ (c : Cells) (long : Long p c) where
     shown-to-long : (m : ℕ) → m ≤ length (p .nodes) → length (shownTo p c m) ≡ cellsOf (p .size) (take m (p .nodes))
-    unfolding shownTo
     shown-to-long zero h = refl
     shown-to-long (suc m) h =
         length-append (shownTo p c m) (valuesOf (cellIn p c m))
-        ∙ omega (arith, shown-to-long m (omega arith), values-long p m (c m) (long m), cells-suc (p .size) (p .nodes) m (record { kind = Pass; channels = 0; cell = 0 }) h)
+        ∙ omega (arith, shown-to-long m (omega arith), values-long p m (c m) (long m), cells-suc (p .size) (p .nodes) m blank h)
 
     pub shown-long : length (shown p c) ≡ cellsOf (p .size) (p .nodes)
     shown-long = shown-to-long (length (p .nodes)) (omega arith) ∙ ap (cellsOf (p .size)) (take-length (p .nodes))
@@ -189,20 +186,20 @@ module _ (p : Parsed) where
       pub now : shown p c ≡ before ++ (valuesOf (cellIn p c k) ++ after)
       pub then : (d : blocks.Cell Frame State) → shown p (put c k d) ≡ before ++ (valuesOf (cellHeld p k d) ++ after)
 
-    pub around : Fine p → (k : ℕ) → k < length (p .nodes) → Around k
-    around fine k h =
+    pub around : Formed p → (k : ℕ) → k < length (p .nodes) → Around k
+    around formed k h =
         let s = shown-split c k (length (p .nodes)) h in
         record {
           before = shownTo p c k;
           after = s .0;
-          start = shown-to-long k (omega arith) ∙ sym (fine .nodes k h .cell);
+          start = shown-to-long k (omega arith) ∙ sym (formed .records .nodes blank k h .cell-is);
           now = sym (shown-agree (put c k (c k)) c (length (p .nodes)) (λ j l. put-own c k j)) ∙ s .1 (c k);
           then = s .1;
         }
 
 -- ---- a cell in place
 
-module _ (p : Parsed) (fine : Fine p) (c : Cells) (long : Long p c) (k : ℕ) (there : k < length (p .nodes)) where
+module _ (p : Parsed) (formed : Formed p) (c : Cells) (long : Long p c) (k : ℕ) (there : k < length (p .nodes)) where
   abbrev size : ℕ
   size = cellSize (p .size) (kindAt p k)
 
@@ -211,20 +208,20 @@ module _ (p : Parsed) (fine : Fine p) (c : Cells) (long : Long p c) (k : ℕ) (t
 
   pub shown-at : (j : ℕ) → j < cellSize (p .size) (kindAt p k) → getD (shown p c) (nodeAt p k .cell + j) 0 ≡ getD (valuesOf (cellIn p c k)) j 0
   shown-at j h =
-      let a = around p c long fine k there in
+      let a = around p c long formed k there in
       ap (λ (l : List ℕ). getD l (nodeAt p k .cell + j) 0) (a .now)
       ∙ get-mid (a .before) (valuesOf (cellIn p c k)) (a .after) (nodeAt p k .cell) size (a .start) (values-long p k (c k) (long k)) j h
 
   pub shown-part : part (shown p c) (nodeAt p k .cell) (cellSize (p .size) (kindAt p k)) ≡ valuesOf (cellIn p c k)
   shown-part =
-      let a = around p c long fine k there in
+      let a = around p c long formed k there in
       ap (λ (l : List ℕ). part l (nodeAt p k .cell) size) (a .now)
       ∙ part-mid (a .before) (valuesOf (cellIn p c k)) (a .after) (nodeAt p k .cell) size (a .start) (values-long p k (c k) (long k))
 
   pub paste-shown : (d : blocks.Cell Frame State) → LongCell p k d
       → paste (shown p c) (nodeAt p k .cell) (valuesOf (cellHeld p k d)) (cellSize (p .size) (kindAt p k)) ≡ shown p (put c k d)
   paste-shown d ld =
-      let a = around p c long fine k there in
+      let a = around p c long formed k there in
       ap (λ (l : List ℕ). paste l (nodeAt p k .cell) (valuesOf (cellHeld p k d)) size) (a .now)
       ∙ paste-mid (a .before) (valuesOf (cellIn p c k)) (a .after) (nodeAt p k .cell) size (a .start) (values-long p k (c k) (long k))
       (valuesOf (cellHeld p k d)) (values-long p k d ld)
@@ -238,7 +235,7 @@ module _ (p : Parsed) (fine : Fine p) (c : Cells) (long : Long p c) (k : ℕ) (t
       ∙ get-sample (cellIn p c k) i (omega (arith, samples-length (kindAt p k) frames (p .size) (long k .samples)))
 
   -- the places from which a block run reads: channel 0, and what the destination's channel 1 reads
-  pub shown-left : (i : ℕ) → i < p .size → getD (shown p c) (leftStart (p .size) (nodeAt p k) + i) 0 ≡ (getD (c k .samples) i silence) .left
+  pub shown-left : (i : ℕ) → i < p .size → getD (shown p c) (leftStart (nodeAt p k) + i) 0 ≡ (getD (c k .samples) i silence) .left
   shown-left i h =
       let e : nodeAt p k .cell + 3 + i ≡ nodeAt p k .cell + (3 + i) = omega arith in
       let some : i < p .size * channelsOf (kindAt p k) = below (eqb (channelsOf (kindAt p k)) 2) refl in
@@ -257,7 +254,7 @@ module _ (p : Parsed) (fine : Fine p) (c : Cells) (long : Long p c) (k : ℕ) (t
       go true q =
           let two : channelsOf (kindAt p k) ≡ 2 = channels-are (kindAt p k) true q in
           let start : p .size * (nodeAt p k .channels - 1) ≡ p .size =
-          ap (λ (n : ℕ). p .size * (n - 1)) (fine .nodes k there .channels ∙ two) ∙ omega arith in
+          ap (λ (n : ℕ). p .size * (n - 1)) (formed .records .nodes blank k there .channels-are ∙ two) ∙ omega arith in
           let all : p .size * channelsOf (kindAt p k) ≡ p .size + p .size = ap (λ (n : ℕ). p .size * n) two ∙ omega arith in
           let e : rightStart (p .size) (nodeAt p k) + i ≡ nodeAt p k .cell + (3 + (p .size + i)) = omega arith in
           ap (λ (n : ℕ). getD (shown p c) n 0) e ∙ shown-sample (p .size + i) (omega arith)
@@ -266,7 +263,7 @@ module _ (p : Parsed) (fine : Fine p) (c : Cells) (long : Long p c) (k : ℕ) (t
       go false q =
           let one : channelsOf (kindAt p k) ≡ 1 = channels-are (kindAt p k) false q in
           let start : p .size * (nodeAt p k .channels - 1) ≡ 0 =
-          ap (λ (n : ℕ). p .size * (n - 1)) (fine .nodes k there .channels ∙ one) ∙ omega arith in
-          let e : rightStart (p .size) (nodeAt p k) + i ≡ leftStart (p .size) (nodeAt p k) + i = omega arith in
+          ap (λ (n : ℕ). p .size * (n - 1)) (formed .records .nodes blank k there .channels-are ∙ one) ∙ omega arith in
+          let e : rightStart (p .size) (nodeAt p k) + i ≡ leftStart (nodeAt p k) + i = omega arith in
           ap (λ (n : ℕ). getD (shown p c) n 0) e ∙ shown-left i h
           ∙ ap (λ (b : Bool). cond b ((getD frames i silence) .right) ((getD frames i silence) .left)) (sym q)

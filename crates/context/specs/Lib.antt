@@ -1,6 +1,5 @@
 -- What the contracts of the calls cite, the reading by samples, and the claims.
 pub mod Memory
-pub mod Fine
 pub mod Parts
 pub mod Calls
 pub mod Reading

@@ -12,9 +12,8 @@ use Rattle.nodes.specs.Kind.{channelsOf}
 use Rattle.nodes.specs.Rule.{Brought, Frame, State}
 use Rattle.nodes.specs.Cell.{Cell, valuesOf, numberOf, freshCell}
 use Rattle.nodes.specs.History.{Heard, freshHeard, setNumber, sampleHeard, heardAfter, stateOf}
-use Rattle.reading.specs.Table.{mem, tab}
+use Rattle.reading.specs.Table.{mem, tab, joined}
 use Rattle.reading.specs.Order.{late}
-use Rattle.reading.specs.Places.{joined}
 use Rattle.graph.specs.Sources.{distinctSources, secondSource}
 use Rattle.graph.specs.Board.{Parsed}
 use Rattle.context.specs.Memory.{kindAt}

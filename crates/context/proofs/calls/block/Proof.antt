@@ -7,26 +7,40 @@ use lib.ListN.{length}
 use borrow.Author.Needs.{needs}
 use Rattle.leaves.specs.Words.{words}
 use Rattle.context.specs.Memory.{runNodes, runBlock}
-use Rattle.context.specs.Calls.{asFound, listed}
+use Rattle.context.specs.Calls.{Left, asFound, checkBlock, ranBlock, blockIn, listed}
+use Rattle.graph.specs.Board.{Parsed}
 use Rattle.graph.specs.Read.{parsedOf}
-use Rattle.context.specs.Fine.{Fine}
+use Rattle.graph.specs.Formed.{Formed}
 use Rattle.graph.specs.declared.answer.Answer.{Answer}
-use Rattle.graph.proofs.Accepted.{accepted-board}
-use Rattle.context.proofs.FineBoard.{fine-board}
+use Rattle.graph.proofs.Accepted.{accepted-formed}
+use Rattle.context.proofs.CallBy.{call-refused, call-lacking}
 use Rattle.context.proofs.CallCells.{count-nodes}
 use Rattle.context.proofs.CallAccepted.{AcceptedRun, checked, board-table, board-gathered, few-bytes, input-room, output-room, input-put, input-runs}
-use Rattle.context.proofs.CallBlock.{block-refused, block-lacking, block-ran}
+use Rattle.context.proofs.CallBlock.{block-ran}
 use Rattle.context.proofs.calls.block.Statement.{statement}
 use Rattle.context.proofs.calls.block.Tie as tie
 
 read-board-requires : tie.Need-read-board-requires
 read-board-requires c κs = search needs
 
+-- ---- refusals
+
+module _ (start : tie.Start) where
+  abbrev found : Answer → Left
+  found a = asFound a (start .args .memory .now) (start .args .out0 .now) (start .args .out1 .now)
+
+  abbrev check : Parsed → Answer
+  check p = checkBlock p (start .args .memory .now) (start .args .input .now) (start .args .out0 .now) (start .args .out1 .now)
+
+  abbrev done : Parsed → Left
+  done p = ranBlock p (listed p) (start .args .input .now) (start .args .memory .now)
+
 returns : tie.Need-returns
+unfolding blockIn
 returns c =
-    let args = c .before .before .before .before .before .before .before .before .before .args in
+    let start = c .before .before .before .before .before .before .before .before .before in
     let board = c .before .before .before .read-board in
-    block-refused (args .s .now) (args .memory .now) (args .input .now) (args .out0 .now) (args .out1 .now) (board .result) (board .ensures) (c .if1 .taken)
+    sym (call-refused (start .args .s .now) (board .result) (board .ensures) (found start) (check start) (done start) (c .if1 .taken))
 
 -- ---- an accepted board
 
@@ -37,25 +51,24 @@ module _ (c : tie.Else1) where
   abbrev reading : tie.After-read-board
   reading = c .before .before .before
 
-  fine : Fine (parsedOf (reading .read-board .result))
-  fine =
-      fine-board (start .args .s .now) (λ i. omega (arith, c .before .before .before .before .before .before .before .before .shared-slice-known .given i)) (parsedOf (reading .read-board .result))
-      (accepted-board (start .args .s .now) (reading .read-board .result) (reading .read-board .ensures) (c .if1 .left))
+  formed : Formed (parsedOf (reading .read-board .result))
+  formed =
+      accepted-formed (start .args .s .now) (reading .read-board .result) (reading .read-board .ensures) (c .if1 .left)
 
 block-judged-requires : tie.Need-block-judged-requires
-block-judged-requires c κs = (c .before .before .before .before .read-board .ensures .sound, fine (c .before))
+block-judged-requires c κs = (c .before .before .before .before .read-board .ensures .sound, formed (c .before))
 
 same-length : tie.Need-same-length
 same-length c = search needs
 
 returns-2 : tie.Need-returns-2
+unfolding blockIn
 returns-2 c =
     let e = c .before .before .before .before in
-    let args = (start e) .args in
     let board = (reading e) .read-board in
     let judged = c .before .before .block-judged in
-    block-lacking (args .s .now) (args .memory .now) (args .input .now) (args .out0 .now) (args .out1 .now) (board .result) (board .ensures) (e .if1 .left) (judged .result)
-    (judged .ensures) (c .if2 .taken)
+    sym (call-lacking (start e .args .s .now) (board .result) (board .ensures) (found (start e)) (check (start e)) (done (start e)) (e .if1 .left) (judged .result)
+    (judged .ensures) (c .if2 .taken))
 
 -- ---- an accepted call
 
@@ -67,7 +80,7 @@ module _ (c : tie.Else2) where
   accepted = record {
     read = reading else .read-board .ensures;
     accepted = else .if1 .left;
-    fine = fine else;
+    formed = formed else;
     passes = ap (λ (a : Answer). a .number) (sym (c .before .before .block-judged .ensures)) ∙ c .if2 .left;
   }
 
@@ -86,7 +99,7 @@ module _ (c : tie.After-run) where
   kept = c .run .kept .1 .1 .0 ∙ before-run c .copy .kept .1 .1 .0
 
   size-small : reading (else chosen) .read-board .result .size ≤ 128
-  size-small = accepted chosen .fine .most-size
+  size-small = accepted chosen .formed .records .small-size
 
   ran : words (c .run .last .1 .1 .0)
       ≡ runBlock (parsedOf (reading (else chosen) .read-board .result)) (listed (parsedOf (reading (else chosen) .read-board .result))) (words (start (else chosen) .args .input .now))
@@ -102,7 +115,7 @@ mul-node c = search needs
 element-copy-out-node : tie.Need-element-copy-out-node
 element-copy-out-node c =
     let run = accepted c in
-    omega (arith, run .fine .input-there, count-nodes _ (run .read .sound), run .read .sound .few-nodes)
+    omega (arith, run .formed .input-in, count-nodes _ (run .read .sound), run .read .sound .few-nodes)
 
 add-copy : tie.Need-add-copy
 add-copy c = let run = accepted (c .before .before .before) in omega (arith, input-room run, few-bytes run)

@@ -3,10 +3,11 @@ use Prim.Native.Nat.{_+_, _≤_, _-_}
 use mathlib.Core.Path.{_≡_, refl, sym, ap, _∙_}
 use native.Mathlib.Omega.{arith}
 use lib.ListN.{length, take, drop}
+use Rattle.context.specs.Memory.{nodeIn}
 use Rattle.leaves.specs.Words.{words}
 use Rattle.leaves.specs.Floats.{setFloat}
 use Rattle.nodes.specs.Cell.{numberOf}
-use Rattle.context.specs.Parts.{nodeIn, putNumbers}
+use Rattle.context.specs.Parts.{putNumbers}
 use Rattle.context.proofs.CallFresh.{numbers-next, numbers-end}
 use Rattle.context.proofs.calls.put_numbers.Statement.{statement}
 use Rattle.context.proofs.calls.put_numbers.Tie as tie

@@ -8,10 +8,10 @@ use lib.ListN.{length, getD, take, drop}
 use Rattle.leaves.specs.Words.{words}
 use Rattle.nodes.specs.Node.{broughtAt, nodeRun, Ready}
 use Rattle.graph.specs.Board.{memoryLength}
-use Rattle.context.specs.Memory.{runNode}
+use Rattle.context.specs.Memory.{nodeIn, runNode}
 use Rattle.graph.specs.Read.{parsedOf}
-use Rattle.context.specs.Parts.{nodeIn}
 use Rattle.graph.specs.declared.board.Board.{Board}
+use Rattle.context.proofs.CallStarts.{starts-left}
 use Rattle.context.proofs.CallRun.{starts-fit, turn-run, turn-ready, Running, running-none, running-end, running-more, node-listed}
 use Rattle.context.proofs.calls.run.Statement.{statement}
 use Rattle.context.proofs.calls.run.Tie as tie
@@ -23,15 +23,15 @@ Inv-loop board order memory₀ nodes counts lists seconds listed lefts rights x�
 abbrev μ-loop : tie.MeasureT-loop
 μ-loop board order memory₀ nodes counts lists seconds listed lefts rights x₀ m₀ i₀ memory x m i = order .count - i
 
-left-starts-requires : tie.Need-left-starts-requires Inv-loop μ-loop
-left-starts-requires c κs =
+starts-requires : tie.Need-starts-requires Inv-loop μ-loop
+starts-requires c κs =
     let start = c .before .before .before .before .before .before in
-    (start .pre .sound .nodes-long, start .pre .sound .few-nodes, starts-fit (start .args .board) (start .pre .sound) (start .pre .fine))
+    (start .pre .sound .nodes-long, start .pre .sound .few-nodes, omega arith, starts-fit (start .args .board) (start .pre .sound) (start .pre .formed))
 
-right-starts-requires : tie.Need-right-starts-requires Inv-loop μ-loop
-right-starts-requires c κs =
+starts-requires-2 : tie.Need-starts-requires-2 Inv-loop μ-loop
+starts-requires-2 c κs =
     let start = c .before .before .before .before .before .before .before in
-    (start .pre .sound .nodes-long, start .pre .sound .few-nodes, start .pre .sound .small-size, starts-fit (start .args .board) (start .pre .sound) (start .pre .fine))
+    (start .pre .sound .nodes-long, start .pre .sound .few-nodes, start .pre .sound .small-size, starts-fit (start .args .board) (start .pre .sound) (start .pre .formed))
 
 loop-holds : tie.Need-loop-holds Inv-loop μ-loop
 loop-holds c =
@@ -116,22 +116,22 @@ module _ (c : tie.After-wide3 Inv-loop μ-loop) where
   long = at .loop .inv .0 .kept ∙ start .pre .long
 
   ready : Ready (at .loop .memory) (nodeIn (board .nodes) k .kind) (board .size) (nodeIn (board .nodes) k .cell)
-      (take (8 * k + n - 8 * k) (drop (8 * k) (board .lists))) (at .before .before .left-starts .result) (at .before .right-starts .result) (c .wide3 .result)
+      (take (8 * k + n - 8 * k) (drop (8 * k) (board .lists))) (at .before .before .starts .result) (at .before .starts2 .result) (c .wide3 .result)
   ready =
-      turn-ready board (start .pre .sound) (start .pre .fine) (start .pre .table) k (node-here (c .before .before)) (8 * k + n - 8 * k) sized
-      (at .before .before .left-starts .result) (at .before .right-starts .result) (at .before .before .left-starts .ensures (board .size)) (at .before .right-starts .ensures)
+      turn-ready board (start .pre .sound) (start .pre .formed) (start .pre .table) k (node-here (c .before .before)) (8 * k + n - 8 * k) sized
+      (at .before .before .starts .result) (at .before .starts2 .result) (starts-left (at .before .before .starts .ensures)) (at .before .starts2 .ensures)
       (c .wide3 .result) (c .wide3 .ensures) (at .loop .memory) long (at .loop .inv .0 .judged)
 
   -- the node's block is the definition's
   ran : (m : List ℕ)
       → words m ≡ nodeRun (nodeIn (board .nodes) k .kind) (board .size) (nodeIn (board .nodes) k .cell)
-      (broughtAt (words (at .loop .memory)) (at .before .before .left-starts .result) (at .before .right-starts .result) (take (8 * k + n - 8 * k) (drop (8 * k) (board .lists))) (c .wide3 .result))
+      (broughtAt (words (at .loop .memory)) (at .before .before .starts .result) (at .before .starts2 .result) (take (8 * k + n - 8 * k) (drop (8 * k) (board .lists))) (c .wide3 .result))
       (words (at .loop .memory))
       → words m ≡ runNode (parsedOf board) (getD (start .args .order .nodes) (at .loop .i) 0) (words (at .loop .memory))
   ran m e =
       e
-      ∙ turn-run board (start .pre .sound) (start .pre .fine) (start .pre .table) k (node-here (c .before .before)) (8 * k + n - 8 * k) sized
-      (at .before .before .left-starts .result) (at .before .right-starts .result) (at .before .before .left-starts .ensures (board .size)) (at .before .right-starts .ensures)
+      ∙ turn-run board (start .pre .sound) (start .pre .formed) (start .pre .table) k (node-here (c .before .before)) (8 * k + n - 8 * k) sized
+      (at .before .before .starts .result) (at .before .starts2 .result) (starts-left (at .before .before .starts .ensures)) (at .before .starts2 .ensures)
       (c .wide3 .result) (c .wide3 .ensures) (at .loop .memory)
       ∙ ap (λ (j : ℕ). runNode (parsedOf board) j (words (at .loop .memory))) (c .before .before .wide .ensures)
 
@@ -174,8 +174,8 @@ run-spec =
     (tie.spec
     Inv-loop
     μ-loop
-    left-starts-requires
-    right-starts-requires
+    starts-requires
+    starts-requires-2
     loop-holds
     array-read-wide
     wide-requires

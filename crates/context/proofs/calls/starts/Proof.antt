@@ -1,4 +1,4 @@
--- `context::calls::right_starts` meets its contract. The nodes passed have their starts. Assumes nothing.
+-- `context::calls::starts` meets its contract. The nodes passed have their starts. Assumes nothing.
 use Prim.Native.Nat.{ℕ, _-_, _≤_}
 use mathlib.Core.Path.{_≡_}
 use native.Mathlib.Omega.{arith}
@@ -6,8 +6,8 @@ use lib.ListN.{length-replicate}
 use Rattle.context.specs.Memory.{rightStart}
 use Rattle.context.specs.Parts.{Starts}
 use Rattle.context.proofs.CallStarts.{starts-none, starts-more, channel-start}
-use Rattle.context.proofs.calls.right_starts.Statement.{statement}
-use Rattle.context.proofs.calls.right_starts.Tie as tie
+use Rattle.context.proofs.calls.starts.Statement.{statement}
+use Rattle.context.proofs.calls.starts.Tie as tie
 
 abbrev Inv-loop : tie.InvT-loop
 Inv-loop count size nodes at₀ i₀ at i = (i ≤ count) × Starts (rightStart size) nodes i at
@@ -70,8 +70,8 @@ returns c =
     let all : at .i ≡ c .before .before .args .count = omega arith in
     rw all at (at .inv .1)
 
-pub right-starts-spec : {M : Type 1} → statement M
-right-starts-spec =
+pub starts-spec : {M : Type 1} → statement M
+starts-spec =
     tie.close
     (tie.spec
     Inv-loop
