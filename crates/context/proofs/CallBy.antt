@@ -1,16 +1,17 @@
 -- A call on the board as the code holds it, case by case.
 --     call-refused, call-lacking, call-done            the board is refused; a check behind 6 refuses; all pass
 --     change-refused, change-lacking, change-done      the same of a call that changes the memory only
+--     change-passes                                    where such a call is accepted, its checks pass
 -- Assumes nothing.
 use Prim.Native.Nat.{ℕ, _*_}
-use mathlib.Core.Path.{_≡_, sym, ap, _∙_}
-use mathlib.Core.Bool.{Bool, cond}
+use mathlib.Core.Path.{_≡_, refl, sym, ap, _∙_}
+use mathlib.Core.Bool.{Bool, true, false, cond}
 use mathlib.Core.List.{List}
-use borrow.Author.Tests.{ne-eqb}
+use borrow.Author.Tests.{eqb-true, ne-eqb}
 use lib.Dec.{eqb}
 use lib.ListN.{length}
 use Rattle.leaves.specs.Words.{words, unwords, Bytes, unwords-words}
-use Rattle.graph.specs.Board.{Parsed}
+use Rattle.graph.specs.Board.{Parsed, whole}
 use Rattle.graph.specs.Judge.{readBoard}
 use Rattle.graph.specs.Read.{parsedOf, Read}
 use Rattle.graph.specs.declared.answer.Answer.{Answer}
@@ -64,3 +65,12 @@ module _ (s : List ℕ) (b : Board) (read : Read (readBoard s) b) where
       change-done z n long small w r ok =
           let bytes : n ≡ unwords (change (parsedOf b)) = unwords-words n (b .values) long small ∙ ap unwords w in
           is r n (call-done found check done accepted a e z ∙ (λ i. (sym ok i, sym bytes i)))
+
+pub change-passes : (m : List ℕ) (check : Parsed → Answer) (change : Parsed → List ℕ) (p : Parsed)
+    → (changeBy m check change (whole p)) .0 .number ≡ 0 → check p .number ≡ 0
+change-passes m check change p = go (eqb (check p .number) 0) refl
+  where
+    go : (q : Bool) → eqb (check p .number) 0 ≡ q → (cond {A = Answer × List ℕ} q (passed, unwords (change p)) (check p, m)) .0 .number ≡ 0
+        → check p .number ≡ 0
+    go true e z = eqb-true (check p .number) 0 e
+    go false e z = z
