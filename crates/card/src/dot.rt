@@ -12,7 +12,7 @@ use graph::board::Board;
 use graph::graph::is_late;
 use graph::graph::places;
 use graph::graph::visiting_list;
-use graph::sources::wide;
+use leaves::bytes::wide;
 use nodes::kind::NodeKind;
 
 // Node i, labelled with its number and its type.

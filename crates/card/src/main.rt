@@ -39,7 +39,7 @@ use check::same;
 use dot::dot_of;
 use graph::board::Board;
 use graph::judge::read_board;
-use graph::sources::wide;
+use leaves::bytes::wide;
 use libc::STDIN_FILENO;
 use libc::STDOUT_FILENO;
 use line::Reason;

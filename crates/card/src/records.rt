@@ -3,7 +3,8 @@
 ghost use mathlib.Core.List.{[], _∷_};
 ghost use Prim.Native.Nat.{_+_, _≤_, _<_};
 ghost use lib.ListN.{length};
-ghost use Rattle.graph.specs.Write.{u16Bytes, u32Bytes, headBytes, nodeBytes, wireBytes, endBytes};
+ghost use Rattle.leaves.specs.Bytes.{u16Bytes, u32Bytes};
+ghost use Rattle.graph.specs.Write.{headBytes, nodeBytes, wireBytes, endBytes};
 ghost use Rattle.graph.specs.Board.{wire};
 ghost use Rattle.card.specs.Written.{Wrote, node};
 

@@ -10,7 +10,7 @@ use crate::decimal::decimal_of;
 use crate::decimal::power;
 use crate::records::put;
 use graph::board::Board;
-use graph::sources::wide;
+use leaves::bytes::wide;
 use leaves::float::to_bits;
 use nodes::kind::NodeKind;
 

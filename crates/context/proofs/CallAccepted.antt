@@ -21,13 +21,12 @@ use Rattle.graph.specs.Walking.{Table, Gathered}
 use Rattle.context.specs.Memory.{nodeIn, nodeAt, kindAt, putInput}
 use Rattle.context.specs.Calls.{andThen, checkMemory, checkBlocks, checkSamples, checkBlock, listed}
 use Rattle.graph.specs.Read.{parsedOf, Read}
-use Rattle.graph.specs.Formed.{Formed}
+use Rattle.context.specs.Fine.{Fine}
 use Rattle.context.specs.Parts.{Runs}
 use Rattle.graph.specs.declared.board.Board.{Board}
 use Rattle.graph.specs.declared.graph.Order.{Order}
 use Rattle.graph.proofs.Accepted.{table-at}
 use Rattle.context.proofs.CallCells.{cell-in, node-in, count-nodes}
-use Rattle.context.proofs.FormedBoard.{first-destination, input-is-pass}
 use Rattle.context.proofs.CallChecks.{sizes-accepted, then-both}
 use Rattle.context.proofs.CallLaws.{Whole, Judged, judged-passed, memory-told, input-judged}
 
@@ -88,7 +87,7 @@ module _ (s : List ℕ) (b : Board) (read : Read (readBoard s) b) (accepted : b 
 pub record AcceptedRun (s m x l r : List ℕ) (b : Board) : Type 0 where
   pub read : Read (readBoard s) b
   pub accepted : b .refused .number ≡ 0
-  pub formed : Formed (parsedOf b)
+  pub fine : Fine (parsedOf b)
   pub passes : checkBlock (parsedOf b) m x l r .number ≡ 0
 
 module _ {s m x l r : List ℕ} {b : Board} (run : AcceptedRun s m x l r b) where
@@ -99,13 +98,13 @@ module _ {s m x l r : List ℕ} {b : Board} (run : AcceptedRun s m x l r b) wher
   start = nodeIn (b .nodes) (b .input) .cell + 3
 
   there : b .input < b .count
-  there = omega (arith, run .formed .input-in, count-nodes b (run .read .sound))
+  there = omega (arith, run .fine .input-there, count-nodes b (run .read .sound))
 
   -- the input node is a pass
   input-cell : nodeAt (parsedOf b) (b .input) .cell + (3 + b .size) ≤ cellsOf (b .size) (parsedOf b .nodes)
   input-cell =
-      let size : cellSize (b .size) (kindAt (parsedOf b) (b .input)) ≡ 3 + b .size = ap (cellSize (b .size)) (input-is-pass (parsedOf b) (run .formed)) ∙ omega arith in
-      omega (arith, cell-in (parsedOf b) (run .formed) (b .input) (run .formed .input-in))
+      let size : cellSize (b .size) (kindAt (parsedOf b) (b .input)) ≡ 3 + b .size = ap (cellSize (b .size)) (run .fine .input-pass) ∙ omega arith in
+      omega (arith, cell-in (parsedOf b) (run .fine) (b .input) (run .fine .input-there))
 
   start-is : nodeAt (parsedOf b) (b .input) .cell + 3 ≡ start
   start-is = ap (λ (n : NodeRecord). n .cell + 3) (node-in b (run .read .sound) (b .input) there)
@@ -116,8 +115,8 @@ module _ {s m x l r : List ℕ} {b : Board} (run : AcceptedRun s m x l r b) wher
   -- node 0 is the destination
   pub output-room : 4 * (3 + b .size + b .size) ≤ length m
   output-room =
-      let size : cellSize (b .size) (kindAt (parsedOf b) 0) ≡ 3 + b .size + b .size = ap (cellSize (b .size)) (first-destination (parsedOf b) (run .formed)) ∙ omega arith in
-      omega (arith, cell-in (parsedOf b) (run .formed) 0 (run .formed .some-nodes), checked .long)
+      let size : cellSize (b .size) (kindAt (parsedOf b) 0) ≡ 3 + b .size + b .size = ap (cellSize (b .size)) (run .fine .destination) ∙ omega arith in
+      omega (arith, cell-in (parsedOf b) (run .fine) 0 (run .fine .formed .some-nodes), checked .long)
 
   pub few-bytes : length m ≤ 1114880
   few-bytes = omega (arith, checked .long, run .read .sound .values-sum, run .read .sound .few-values)
@@ -137,9 +136,9 @@ module _ {s m x l r : List ℕ} {b : Board} (run : AcceptedRun s m x l r b) wher
         let whole-memory : Whole (parsedOf b) (words m) = length-words m ∙ omega (arith, checked .long) in
         record {
           sound = run .read .sound;
-          formed = run .formed;
+          fine = run .fine;
           table = table-at s b (run .read) (run .accepted);
           lists = lists;
           long = ap length put ∙ length-paste m (4 * start) x (4 * b .size) (omega (arith, input-room)) (omega (arith, checked .input-long)) ∙ checked .long;
-          judged = judged-passed (parsedOf b) (words m₁) (rw input-put (input-judged (parsedOf b) (run .formed) (words m) whole-memory (words x) block (checked .judged)));
+          judged = judged-passed (parsedOf b) (words m₁) (rw input-put (input-judged (parsedOf b) (run .fine) (words m) whole-memory (words x) block (checked .judged)));
         }

@@ -1,4 +1,4 @@
--- Where the cells of a well-formed board lie: one after the other, within the memory.
+-- Where the cells of a fine board lie: one after the other, within the memory.
 --     cell-in, cell-apart    a node's cell lies within the memory, and behind the cells of the nodes before it
 --     cells-in               the same of the judged values, in the code's arrays
 -- Assumes nothing.
@@ -10,27 +10,27 @@ use lib.ListN.{length, take}
 use lib.Seq.{getD-take, take-length}
 use Rattle.nodes.specs.Kind.{cellSize}
 use Rattle.nodes.specs.declared.kind.NodeRecord.{NodeRecord}
-use Rattle.graph.specs.Board.{Parsed, cellsOf}
+use Rattle.graph.specs.Board.{Parsed, blank, cellsOf}
 use Rattle.context.specs.Memory.{nodeIn, nodeAt, kindAt}
 use Rattle.graph.specs.Read.{parsedOf, Sound}
-use Rattle.graph.specs.Formed.{Formed}
+use Rattle.context.specs.Fine.{Fine}
 use Rattle.context.specs.Parts.{CellsIn}
 use Rattle.graph.specs.declared.board.Board.{Board}
 use Rattle.graph.proofs.Accepted.{cells-apart}
-use Rattle.graph.proofs.Six.{blank, counted}
+use Rattle.graph.proofs.Six.{counted}
 
--- ---- the cells of a well-formed board
+-- ---- the cells of a fine board
 
-module _ (p : Parsed) (formed : Formed p) where
+module _ (p : Parsed) (fine : Fine p) where
   pub cell-apart : (j k : ℕ) → j < k → k < length (p .nodes) → nodeAt p j .cell + cellSize (p .size) (kindAt p j) ≤ nodeAt p k .cell
   cell-apart j k before there =
       let here : j < length (p .nodes) = omega arith in
-      omega (arith, formed .records .nodes blank j here .cell-is, formed .records .nodes blank k there .cell-is, cells-apart (p .size) (p .nodes) blank j k before (omega arith))
+      omega (arith, fine .nodes j here .cell, fine .nodes k there .cell, cells-apart (p .size) (p .nodes) blank j k before (omega arith))
 
   pub cell-in : (k : ℕ) → k < length (p .nodes) → nodeAt p k .cell + cellSize (p .size) (kindAt p k) ≤ cellsOf (p .size) (p .nodes)
   cell-in k there =
       let all : cellsOf (p .size) (take (length (p .nodes)) (p .nodes)) ≡ cellsOf (p .size) (p .nodes) = ap (cellsOf (p .size)) (take-length (p .nodes)) in
-      omega (arith, formed .records .nodes blank k there .cell-is, cells-apart (p .size) (p .nodes) blank k (length (p .nodes)) there (omega arith))
+      omega (arith, fine .nodes k there .cell, cells-apart (p .size) (p .nodes) blank k (length (p .nodes)) there (omega arith))
 
 -- ---- in the code's arrays
 
@@ -41,7 +41,7 @@ module _ (b : Board) (sound : Sound b) where
   pub count-nodes : length (parsedOf b .nodes) ≡ b .count
   count-nodes = counted (b .nodes) (b .count) (omega (arith, sound .nodes-long, sound .few-nodes))
 
-  pub cells-in : Formed (parsedOf b) → (m : List ℕ) → length m ≡ 4 * b .values → CellsIn (b .nodes) (b .count) (length m)
-  cells-in formed m long k h =
+  pub cells-in : Fine (parsedOf b) → (m : List ℕ) → length m ≡ 4 * b .values → CellsIn (b .nodes) (b .count) (length m)
+  cells-in fine m long k h =
       let at : nodeAt (parsedOf b) k .cell ≡ nodeIn (b .nodes) k .cell = ap (λ (r : NodeRecord). r .cell) (node-in k h) in
-      omega (arith, cell-in (parsedOf b) formed k (omega (arith, count-nodes)), sound .values-sum)
+      omega (arith, cell-in (parsedOf b) fine k (omega (arith, count-nodes)), sound .values-sum)

@@ -23,7 +23,8 @@ use Rattle.context.specs.Memory.{nodeIn, passed, checkCells}
 use Rattle.context.specs.Calls.{andThen, checkNeeded, checkSizes, checkSamples}
 use Rattle.graph.specs.declared.answer.Answer.{Answer}
 use Rattle.graph.proofs.Choice.{both}
-use Rattle.graph.proofs.Six.{blank, counted, node-here}
+use Rattle.graph.specs.Board.{blank}
+use Rattle.graph.proofs.Six.{counted, node-here}
 
 -- ---- answers
 

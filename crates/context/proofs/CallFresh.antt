@@ -1,6 +1,6 @@
 -- Fresh memory: each node's number stored in zeros.
 --     numbers-next, numbers-end    node by node
---     numbers-fresh                of a well-formed board, the values of fresh memory
+--     numbers-fresh                of a fine board, the values of fresh memory
 --     words-zeros                  the words of zeros
 -- Assumes nothing.
 use Prim.Native.Nat.{ℕ, zero, suc, _+_, _*_, _≤_, _<_}
@@ -18,11 +18,11 @@ use Rattle.nodes.specs.declared.kind.NodeKind.{NodeKind}
 use Rattle.nodes.specs.declared.kind.NodeRecord.{NodeRecord}
 use Rattle.nodes.proofs.Cells.{set-append-right}
 use Rattle.nodes.proofs.Fresh.{fresh-long}
-use Rattle.graph.specs.Board.{Parsed, cellsOf}
+use Rattle.graph.specs.Board.{blank, Parsed, cellsOf}
 use Rattle.context.specs.Memory.{nodeIn, freshFrom, freshValues}
-use Rattle.graph.specs.Formed.{Formed}
+use Rattle.context.specs.Fine.{Fine}
 use Rattle.context.specs.Parts.{putNumbers}
-use Rattle.graph.proofs.Six.{blank, node-here}
+use Rattle.graph.proofs.Six.{node-here}
 use Rattle.context.proofs.CallChecks.{none-left}
 
 module _ (nodes : List NodeRecord) (n : ℕ) (fits : n ≤ length nodes) (ws : List ℕ) where
@@ -68,9 +68,9 @@ numbers-row N (r ∷ rs) before row =
     ∙ numbers-row N rs (before ++ cell) (λ k h. row (suc k) (omega arith) ∙ omega (arith, length-append before cell, fresh-long N (r .kind)))
     ∙ append-assoc before cell (freshFrom N rs)
 
-pub numbers-fresh : (p : Parsed) → Formed p → putNumbers (p .nodes) (replicate (cellsOf (p .size) (p .nodes)) 0) ≡ freshValues p
+pub numbers-fresh : (p : Parsed) → Fine p → putNumbers (p .nodes) (replicate (cellsOf (p .size) (p .nodes)) 0) ≡ freshValues p
 unfolding freshValues
-numbers-fresh p formed = numbers-row (p .size) (p .nodes) [] (λ k h. formed .records .nodes blank k h .cell-is ∙ omega arith)
+numbers-fresh p fine = numbers-row (p .size) (p .nodes) [] (λ k h. fine .nodes k h .cell ∙ omega arith)
 
 four-more : (n : ℕ) → 4 * suc n ≡ suc (suc (suc (suc (4 * n))))
 four-more n = omega arith

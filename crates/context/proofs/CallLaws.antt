@@ -1,4 +1,4 @@
--- What one node's block, and the input block, keep of a well-formed board's memory. The values ws are as many as the memory holds.
+-- What one node's block, and the input block, keep of a fine board's memory. The values ws are as many as the memory holds.
 --     judged-passed, passed-judged                   check 8 passes exactly where every cell fits
 --     memory-passed, memory-told                     and checks 7 and 8 where the memory has its length besides
 --     node-own, node-other, node-judged              after one node's block: the node's cell, every other cell, and that every cell fits
@@ -27,8 +27,7 @@ use Rattle.graph.specs.Answer.{answer}
 use Rattle.graph.specs.Board.{Parsed, cellsOf, memoryLength}
 use Rattle.context.specs.Memory.{nodeIn, passed, nodeAt, kindAt, checkCells, broughtBy, runNode, putInput}
 use Rattle.context.specs.Calls.{andThen, checkLength, checkValues, checkMemory}
-use Rattle.graph.specs.Formed.{Formed}
-use Rattle.context.proofs.FormedBoard.{input-is-pass}
+use Rattle.context.specs.Fine.{Fine}
 use Rattle.context.proofs.CallCells.{cell-in, cell-apart}
 use Rattle.context.proofs.CallChecks.{passes, needed-long, then-both}
 
@@ -85,11 +84,11 @@ module _ (p : Parsed) (m : List ℕ) where
 
 -- ---- a change within one cell
 
-module _ (p : Parsed) (formed : Formed p) (ws : List ℕ) (long : Whole p ws) where
+module _ (p : Parsed) (fine : Fine p) (ws : List ℕ) (long : Whole p ws) where
   module _ (k : ℕ) (there : k < length (p .nodes)) (at : ℕ) (vs : List ℕ) (n : ℕ)
       (from : nodeAt p k .cell ≤ at) (to : at + n ≤ nodeAt p k .cell + cellSize (p .size) (kindAt p k)) (enough : n ≤ length vs) where
     inside : at + n ≤ length ws
-    inside = omega (arith, cell-in p formed k there)
+    inside = omega (arith, cell-in p fine k there)
 
     paste-long : length (paste ws at vs n) ≡ length ws
     paste-long = length-paste ws at vs n inside enough
@@ -98,10 +97,10 @@ module _ (p : Parsed) (formed : Formed p) (ws : List ℕ) (long : Whole p ws) wh
     paste-other j l other = go (decLt j k)
       where
         go : Dec (j < k) → cellAt p (paste ws at vs n) j ≡ cellAt p ws j
-        go (yes b) = part-before ws at vs n inside enough (nodeAt p j .cell) (cellSize (p .size) (kindAt p j)) (omega (arith, cell-apart p formed j k b there))
+        go (yes b) = part-before ws at vs n inside enough (nodeAt p j .cell) (cellSize (p .size) (kindAt p j)) (omega (arith, cell-apart p fine j k b there))
         go (no b) =
             let after : k < j = later (λ (q : j ≡ k). other q) b in
-            part-after ws at vs n inside enough (nodeAt p j .cell) (cellSize (p .size) (kindAt p j)) (omega (arith, cell-apart p formed k j after l))
+            part-after ws at vs n inside enough (nodeAt p j .cell) (cellSize (p .size) (kindAt p j)) (omega (arith, cell-apart p fine k j after l))
           where
             later : (j ≡ k → ⊥) → (j < k → ⊥) → k < j
             later a c = omega arith
@@ -113,14 +112,14 @@ module _ (p : Parsed) (formed : Formed p) (ws : List ℕ) (long : Whole p ws) wh
     kind = kindAt p k
 
     cell-long : length (cellAt p ws k) ≡ cellSize (p .size) kind
-    cell-long = length-take-le (cellSize (p .size) kind) (drop (nodeAt p k .cell) ws) (omega (arith, length-drop (nodeAt p k .cell) ws, cell-in p formed k there))
+    cell-long = length-take-le (cellSize (p .size) kind) (drop (nodeAt p k .cell) ws) (omega (arith, length-drop (nodeAt p k .cell) ws, cell-in p fine k there))
 
     new-long : cellSize (p .size) kind ≤ length (runValues kind (p .size) (broughtBy p ws k) (cellAt p ws k))
     new-long = omega (arith, run-long kind (p .size) (broughtBy p ws k) (cellAt p ws k) cell-long, cell-long)
 
     pub node-own : cellAt p (runNode p k ws) k ≡ runValues (kindAt p k) (p .size) (broughtBy p ws k) (cellAt p ws k)
     unfolding runNode
-    node-own = run-own kind (p .size) (broughtBy p ws k) (nodeAt p k .cell) ws (omega (arith, cell-in p formed k there))
+    node-own = run-own kind (p .size) (broughtBy p ws k) (nodeAt p k .cell) ws (omega (arith, cell-in p fine k there))
 
     pub node-other : (j : ℕ) → j < length (p .nodes) → j ≢ k → cellAt p (runNode p k ws) j ≡ cellAt p ws j
     unfolding runNode nodeRun
@@ -146,34 +145,34 @@ module _ (p : Parsed) (formed : Formed p) (ws : List ℕ) (long : Whole p ws) wh
     start = nodeAt p (p .input) .cell + 3
 
     size : cellSize (p .size) (kindAt p i) ≡ 3 + p .size
-    size = ap (cellSize (p .size)) (input-is-pass p formed) ∙ omega arith
+    size = ap (cellSize (p .size)) (fine .input-pass) ∙ omega arith
 
     pub input-long : length (putInput p xs ws) ≡ length ws
     unfolding putInput
-    input-long = paste-long i (formed .input-in) start xs (p .size) (omega arith) (omega (arith, size)) (omega arith)
+    input-long = paste-long i (fine .input-there) start xs (p .size) (omega arith) (omega (arith, size)) (omega arith)
 
     pub input-other : (j : ℕ) → j < length (p .nodes) → j ≢ p .input → cellAt p (putInput p xs ws) j ≡ cellAt p ws j
     unfolding putInput
-    input-other = paste-other i (formed .input-in) start xs (p .size) (omega arith) (omega (arith, size)) (omega arith)
+    input-other = paste-other i (fine .input-there) start xs (p .size) (omega arith) (omega (arith, size)) (omega arith)
 
     -- its judged values
     before-samples : part (putInput p xs ws) (nodeAt p i .cell) 3 ≡ part ws (nodeAt p i .cell) 3
     unfolding putInput
     before-samples =
-        part-before ws start xs (p .size) (inside i (formed .input-in) start xs (p .size) (omega arith) (omega (arith, size)) (omega arith)) (omega arith)
+        part-before ws start xs (p .size) (inside i (fine .input-there) start xs (p .size) (omega arith) (omega (arith, size)) (omega arith)) (omega arith)
         (nodeAt p i .cell) 3 (omega arith)
 
     -- a pass's cell fits as its first three values do
     first-three : (vs : List ℕ) → cellFits (kindAt p i) (cellAt p vs i) ≡ cellFits Pass (part vs (nodeAt p i .cell) 3)
     first-three vs =
-        ap (λ (k : NodeKind). cellFits k (part vs (nodeAt p i .cell) (cellSize (p .size) k))) (input-is-pass p formed)
+        ap (λ (k : NodeKind). cellFits k (part vs (nodeAt p i .cell) (cellSize (p .size) k))) (fine .input-pass)
         ∙ fits-part Pass (p .size) (nodeAt p i .cell) vs ∙ sym (fits-part Pass 0 (nodeAt p i .cell) vs)
 
     pub input-judged : Judged p ws → Judged p (putInput p xs ws)
     input-judged h j l = go (ℕ-discrete j i)
       where
         own : cellFits (kindAt p i) (cellAt p (putInput p xs ws) i) ≡ true
-        own = first-three (putInput p xs ws) ∙ ap (cellFits Pass) before-samples ∙ sym (first-three ws) ∙ h i (formed .input-in)
+        own = first-three (putInput p xs ws) ∙ ap (cellFits Pass) before-samples ∙ sym (first-three ws) ∙ h i (fine .input-there)
 
         go : Dec (j ≡ i) → cellFits (kindAt p j) (cellAt p (putInput p xs ws) j) ≡ true
         go (yes e) = rw e own

@@ -28,7 +28,7 @@ use Rattle.graph.specs.Board.{Parsed}
 use Rattle.context.specs.Memory.{nodeIn, passed, nodeAt, kindAt}
 use Rattle.context.specs.Calls.{checkNumber, setNumber}
 use Rattle.graph.specs.Read.{parsedOf, Sound}
-use Rattle.graph.specs.Formed.{Formed}
+use Rattle.context.specs.Fine.{Fine}
 use Rattle.graph.specs.declared.answer.Answer.{Answer}
 use Rattle.graph.specs.declared.board.Board.{Board}
 use Rattle.context.proofs.CallCells.{node-in, count-nodes, cell-in}
@@ -84,12 +84,12 @@ set-paste : (l : List ℕ) (i v : ℕ) → i < length l → set l i v ≡ paste 
 set-paste l i v h =
     set-split l i v h ∙ ap (λ (n : ℕ). take i l ++ v ∷ drop n l) (sym (add-one i)) ∙ sym (append-snoc (take i l) v (drop (i + 1) l))
 
-module _ (p : Parsed) (formed : Formed p) (ws : List ℕ) (long : Whole p ws) (k : ℕ) (x : Float) (there : k < length (p .nodes)) where
+module _ (p : Parsed) (fine : Fine p) (ws : List ℕ) (long : Whole p ws) (k : ℕ) (x : Float) (there : k < length (p .nodes)) where
   pub set-long : length (setNumber p k x ws) ≡ length ws
   set-long = length-set ws (nodeAt p k .cell) (toBits binary32 x)
 
   inside : nodeAt p k .cell < length ws
-  inside = omega (arith, cell-in p formed k there)
+  inside = omega (arith, cell-in p fine k there)
 
   set-own : cellAt p (setNumber p k x ws) k ≡ set (cellAt p ws k) 0 (toBits binary32 x)
   set-own =
@@ -102,7 +102,7 @@ module _ (p : Parsed) (formed : Formed p) (ws : List ℕ) (long : Whole p ws) (k
   set-other : (j : ℕ) → j < length (p .nodes) → j ≢ k → cellAt p (setNumber p k x ws) j ≡ cellAt p ws j
   set-other j l other =
       ap (λ (r : List ℕ). cellAt p r j) (set-paste ws (nodeAt p k .cell) (toBits binary32 x) inside)
-      ∙ paste-other p formed ws long k there (nodeAt p k .cell) (toBits binary32 x ∷ []) 1 (omega arith) (omega arith) (omega arith) j l other
+      ∙ paste-other p fine ws long k there (nodeAt p k .cell) (toBits binary32 x ∷ []) 1 (omega arith) (omega arith) (omega arith) j l other
 
   pub set-judged : T (fits binary32 x) → valueFits (kindAt p k) x ≡ true → Judged p ws → Judged p (setNumber p k x ws)
   set-judged f v h j l = go (ℕ-discrete j k)

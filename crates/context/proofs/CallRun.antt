@@ -25,14 +25,13 @@ use Rattle.nodes.specs.declared.kind.NodeRecord.{NodeRecord}
 use Rattle.reading.specs.Table.{mem}
 use Rattle.reading.specs.Order.{sources}
 use Rattle.reading.proofs.Table.{mem-head, or-right, map-agree}
-use Rattle.graph.specs.Board.{Parsed, cellsOf}
+use Rattle.graph.specs.Board.{blank, Parsed, cellsOf}
 use Rattle.graph.specs.Sources.{distinctSources, secondSource}
-use Rattle.graph.proofs.Six.{blank}
 use Rattle.context.specs.Memory.{nodeIn, nodeAt, kindAt, leftStart, rightStart, broughtBy, runNode, runNodes}
 use Rattle.context.specs.Calls.{listed}
 use Rattle.graph.specs.Read.{parsedOf, Sound}
 use Rattle.graph.specs.Listed.{SourcesBelow}
-use Rattle.graph.specs.Formed.{Formed}
+use Rattle.context.specs.Fine.{Fine}
 use Rattle.graph.specs.Formed.{TableAt}
 use Rattle.context.specs.Parts.{StartFits, StartsFit, Starts, Runs}
 use Rattle.graph.specs.declared.answer.Answer.{Answer}
@@ -40,10 +39,10 @@ use Rattle.graph.specs.declared.board.Board.{Board}
 use Rattle.graph.specs.declared.graph.Order.{Order}
 use Rattle.graph.proofs.Listed.{listed-within}
 use Rattle.graph.proofs.RoundSources.{mem-distinct}
-use Rattle.context.proofs.FormedBoard.{lists}
+use Rattle.context.proofs.FineBoard.{lists}
 use Rattle.context.proofs.CallCells.{cell-in, node-in, count-nodes}
 use Rattle.context.proofs.CallStarts.{mapped-at}
-use Rattle.context.proofs.FormedBoard.{node-sound, source-there}
+use Rattle.context.proofs.FineBoard.{source-there}
 use Rattle.context.proofs.CallLaws.{Judged, passed-judged, node-judged}
 
 -- ---- the samples of a cell
@@ -77,7 +76,7 @@ number-below n (x ∷ l) h f (suc j) = number-below n l h (λ s e. f s (or-right
 
 -- ---- the board in arrays
 
-module _ (b : Board) (sound : Sound b) (formed : Formed (parsedOf b)) where
+module _ (b : Board) (sound : Sound b) (fine : Fine (parsedOf b)) where
   abbrev p : Parsed
   p = parsedOf b
 
@@ -92,13 +91,13 @@ module _ (b : Board) (sound : Sound b) (formed : Formed (parsedOf b)) where
       let there = node-there k h in
       let w = samples-within N (kindAt p k) in
       subst StartFits (node-in b sound k h) (record {
-        some-channel = omega (arith, formed .records .nodes blank k there .channels-are, w .some);
-        few-channels = omega (arith, formed .records .nodes blank k there .channels-are, w .few);
-        cell-in = omega (arith, cell-in p formed k there, sound .values-sum, sound .few-values);
+        some-channel = omega (arith, fine .nodes k there .channels, w .some);
+        few-channels = omega (arith, fine .nodes k there .channels, w .few);
+        cell-in = omega (arith, cell-in p fine k there, sound .values-sum, sound .few-values);
       })
 
   source-below : SourcesBelow (p .wires) (b .count)
-  source-below k s e = omega (arith, source-there p formed k s e, count-nodes b sound)
+  source-below k s e = omega (arith, source-there p fine k s e, count-nodes b sound)
 
   module _ (table : (v : ℕ) → v < 64 → TableAt b v) (k : ℕ) (here : k < b .count) where
     small : k < 64
@@ -110,7 +109,7 @@ module _ (b : Board) (sound : Sound b) (formed : Formed (parsedOf b)) where
     distinct-there s e = source-below k s (sym (mem-distinct s (sources (p .wires) k)) ∙ e)
 
     second-there : secondSource (p .wires) k < b .count
-    second-there = number-below (b .count) (sources (p .wires) k) (omega (arith, formed .some-nodes, count-nodes b sound)) (source-below k) 1
+    second-there = number-below (b .count) (sources (p .wires) k) (omega (arith, fine .formed .some-nodes, count-nodes b sound)) (source-below k) 1
 
     module _ (r : ℕ) (count-is : r ≡ getD (b .counts) k 0) where
       abbrev list : List ℕ
@@ -150,7 +149,7 @@ module _ (b : Board) (sound : Sound b) (formed : Formed (parsedOf b)) where
         samples-in m long h j l =
             let s : ℕ = getD list j 0 in
             let q : s < b .count = list-there j l in
-            (omega (arith, sound .few-nodes), omega (arith, start-is s q, h s (node-there s q), cell-in p formed s (node-there s q)))
+            (omega (arith, sound .few-nodes), omega (arith, start-is s q, h s (node-there s q), cell-in p fine s (node-there s q)))
 
       -- ---- a turn
 
@@ -167,7 +166,7 @@ module _ (b : Board) (sound : Sound b) (formed : Formed (parsedOf b)) where
 
         right-fits : (s : ℕ) → s < length (p .nodes) → rightStart N (nodeAt p s) + N ≤ nodeAt p s .cell + cellSize N (kindAt p s)
         right-fits s h =
-            let channels : N * (nodeAt p s .channels - 1) ≡ N * (channelsOf (kindAt p s) - 1) = ap (λ (c : ℕ). N * (c - 1)) (formed .records .nodes blank s h .channels-are) in
+            let channels : N * (nodeAt p s .channels - 1) ≡ N * (channelsOf (kindAt p s) - 1) = ap (λ (c : ℕ). N * (c - 1)) (fine .nodes s h .channels) in
             omega (arith, samples-within N (kindAt p s) .right)
 
         module _ (m : List ℕ) where
@@ -193,18 +192,18 @@ module _ (b : Board) (sound : Sound b) (formed : Formed (parsedOf b)) where
               let there = node-there k here in
               let length-same : length (distinctSources (p .wires) k) ≡ length list = ap length (sym list-is) in
               subst (λ (n : NodeRecord). Ready m (n .kind) N (n .cell) list at₀ at₁ second) (node-in b sound k here) (record {
-                above = formed .some-size;
-                small = formed .records .small-size;
-                line = node-sound p formed k there .line;
-                inside = omega (arith, cell-in p formed k there);
+                above = fine .least-size;
+                small = fine .most-size;
+                line = fine .nodes k there .line;
+                inside = omega (arith, cell-in p fine k there);
                 judged = judged k there;
-                counted = rw length-same at (formed .sources-fit blank k there);
+                counted = rw length-same at (fine .formed .sources-fit blank k there);
                 lefts-long = left-starts .long;
                 rights-long = right-starts .long;
                 left-in = samples-in leftStart at₀ left-starts m long left-fits;
                 right-in = samples-in (rightStart N) at₁ right-starts m long right-fits;
                 second-below = omega (arith, second-low, sound .few-nodes);
-                second-in = omega (arith, start-is leftStart at₀ left-starts second second-low, left-fits second (node-there second second-low), cell-in p formed second (node-there second second-low));
+                second-in = omega (arith, start-is leftStart at₀ left-starts second second-low, left-fits second (node-there second second-low), cell-in p fine second (node-there second second-low));
               })
 
 -- ---- the run under way
@@ -250,8 +249,8 @@ module _ (b : Board) (o : Order) (m₀ : List ℕ) (runs : Runs b o m₀) where
 
     pub node-listed : getD (o .nodes) i 0 < b .count
     node-listed =
-        let some : 0 < b .count = omega (arith, runs .formed .some-nodes, count-nodes b (runs .sound)) in
-        listed-within (parsedOf b .wires) (o .nodes) (o .count) (runs .lists) (b .count) some (runs .sound .few-nodes) (source-below b (runs .sound) (runs .formed)) i more
+        let some : 0 < b .count = omega (arith, runs .fine .formed .some-nodes, count-nodes b (runs .sound)) in
+        listed-within (parsedOf b .wires) (o .nodes) (o .count) (runs .lists) (b .count) some (runs .sound .few-nodes) (source-below b (runs .sound) (runs .fine)) i more
 
     pub running-more : (m m′ : List ℕ) → Running b o m₀ m i → length m′ ≡ length m → words m′ ≡ runNode (parsedOf b) (getD (o .nodes) i 0) (words m)
         → Running b o m₀ m′ (i + 1)
@@ -263,7 +262,7 @@ module _ (b : Board) (o : Order) (m₀ : List ℕ) (runs : Runs b o m₀) where
         record {
           few = omega arith;
           kept = long ∙ run .kept;
-          judged = rw ran (node-judged p (runs .formed) (words m) size k there (run .judged));
+          judged = rw ran (node-judged p (runs .fine) (words m) size k there (run .judged));
           left =
               rw add-one
               (ap (runNodes p (drop (suc i) nodes)) ran

@@ -10,10 +10,10 @@ use native.Mathlib.Numerals.{add-one}
 use native.Mathlib.Omega.{arith}
 use lib.ListN.{length, getD, set, take, length-set}
 use lib.Seq.{take-suc, take-suc-set}
+use Rattle.graph.specs.Board.{blank}
 use Rattle.context.specs.Memory.{nodeIn, leftStart, rightStart}
 use Rattle.nodes.specs.declared.kind.NodeRecord.{NodeRecord}
 use Rattle.context.specs.Parts.{Starts}
-use Rattle.graph.proofs.Six.{blank}
 
 pub mapped-at : (f : NodeRecord → ℕ) (l : List NodeRecord) (k : ℕ) → k < length l → getD (map f l) k 0 ≡ f (nodeIn l k)
 mapped-at f [] k h = absurd (omega arith)

@@ -14,7 +14,7 @@ use lib.Dec.{T, eqb}
 use lib.ListN.{length}
 use lib.Ieee.{Float, binary32, fits, toBits}
 use lib.Ieee.Bits.{ofBits-toBits}
-use Rattle.leaves.specs.Words.{unwords}
+use Rattle.leaves.specs.Words.{Bytes, unwords}
 use Rattle.nodes.specs.Rule.{Frame}
 use Rattle.nodes.specs.History.{Heard, stateOf}
 use Rattle.reading.specs.Order.{Reorders}
@@ -36,11 +36,11 @@ use Rattle.context.specs.Calls.{checkLength, changeBy, freshOf, messageO
 use Rattle.context.specs.Reading.{Call, message, valueOf, Timed, IsReading, accepted}
 use Rattle.context.specs.Claim.{callIn, freshMemory, AsRead, Claim, Demand}
 use Rattle.context.specs.Instance.{boardOf, memoryRules, readingRules, memoryOf}
-use Rattle.graph.specs.Formed.{Formed}
+use Rattle.context.specs.Fine.{Fine}
 use Rattle.context.specs.Instance.{Held}
 use Rattle.graph.specs.declared.answer.Answer.{Answer}
 use Rattle.graph.proofs.Ending.{Ended, board-ends}
-use Rattle.graph.proofs.Formed.{whole-formed}
+use Rattle.context.proofs.FineBoard.{fine-board}
 use Rattle.context.proofs.Lawful.{board-sound, rules-encode, rules-lawful}
 use Rattle.context.proofs.Told.{heard-sent}
 use Rattle.context.proofs.ShownBlock.{reordered}
@@ -51,7 +51,7 @@ use Rattle.context.proofs.DemandAfter.{accepted-whole, memory-shown, re
 
 -- ---- the claim about a list of calls
 
-module _ (bytes : List ℕ) (p : Parsed) (reads : readBoard bytes ≡ whole p) (formed : Formed p) (cs : List Call) where
+module _ (bytes : List ℕ) (p : Parsed) (reads : readBoard bytes ≡ whole p) (fine : Fine p) (cs : List Call) where
   abbrev es : List Call
   es = accepted p cs
 
@@ -61,10 +61,10 @@ module _ (bytes : List ℕ) (p : Parsed) (reads : readBoard bytes ≡ whole p) (
   -- ---- there is a reading
 
   abbrev samples : time.Samples Frame
-  samples = solution.samplesOf (boardOf p) (readingRules p) (board-sound p formed) heard
+  samples = solution.samplesOf (boardOf p) (readingRules p) (board-sound p fine) heard
 
   abbrev states : ℕ → ℕ → ℕ → Heard
-  states = solution.statesOf (boardOf p) (readingRules p) (board-sound p formed) heard
+  states = solution.statesOf (boardOf p) (readingRules p) (board-sound p fine) heard
 
   abbrev before : Timed Heard
   before t = states (t / p .size) (t % p .size)
@@ -74,28 +74,28 @@ module _ (bytes : List ℕ) (p : Parsed) (reads : readBoard bytes ≡ whole p) (
 
   there-is : IsReading p es (time.flat (p .size) samples) before
   there-is =
-      reading.flat-reading p formed es (time.flat (p .size) samples) before after
+      reading.flat-reading p fine es (time.flat (p .size) samples) before after
       (subst (λ (l : List (theory.Call Frame ℕ)). IsFlat (boardOf p) (readingRules p) l (time.flat (p .size) samples) before after) (heard-sent p cs)
-      (flat.reading-flat (boardOf p) (readingRules p) (formed .some-size) heard samples states
-      (solution.reading-is (boardOf p) (readingRules p) (board-sound p formed) heard)))
+      (flat.reading-flat (boardOf p) (readingRules p) (fine .least-size) heard samples states
+      (solution.reading-is (boardOf p) (readingRules p) (board-sound p fine) heard)))
 
   -- ---- and the calls are what any reading says, in any order
 
   module _ (s : Timed Frame) (u : Timed Heard) (r : IsReading p es s u)
       (order : Parsed → List ℕ) (fit : Reorders (p .wires) (listed p) (order p)) where
     abbrev full : Timed Frame
-    full = reading.whole p formed es s
+    full = reading.whole p fine es s
 
     abbrev known : Timed Heard
-    known = reading.before p formed es s u
+    known = reading.before p fine es s u
 
     abbrev left : Timed Heard
-    left = reading.after p formed es s u
+    left = reading.after p fine es s u
 
     solves : IsFlat (boardOf p) (readingRules p) heard full known left
     solves =
         subst (λ (l : List (theory.Call Frame ℕ)). IsFlat (boardOf p) (readingRules p) l full known left) (sym (heard-sent p cs))
-        (reading.reading-flat p formed es s u r)
+        (reading.reading-flat p fine es s u r)
 
     abbrev G : Frame → Type 0
     G f = Unit {0}
@@ -103,29 +103,29 @@ module _ (bytes : List ℕ) (p : Parsed) (reads : readBoard bytes ≡ whole p) (
     as-read : AsRead bytes p cs s u order
     as-read =
         let main =
-        memory-claim (boardOf p) (memoryRules p) G (Held p) (board-sound p formed) (rules-lawful p formed) (order p) (memoryOf p) (replyFor p)
-        (callIn order bytes) (call-shown bytes p reads formed G order (reordered p formed (order p) fit))
-        (formed .some-size) fit (readingRules p) (λ k. stateOf (kindAt p k)) (rules-encode p formed) cs full known left solves in
+        memory-claim (boardOf p) (memoryRules p) G (Held p) (board-sound p fine) (rules-lawful p fine) (order p) (memoryOf p) (replyFor p)
+        (callIn order bytes) (call-shown bytes p reads fine G order (reordered p fine (order p) fit))
+        (fine .least-size) fit (readingRules p) (λ k. stateOf (kindAt p k)) (rules-encode p fine) cs full known left solves in
         let fresh : freshMemory p ≡ memoryOf p (freshCells (boardOf p) (memoryRules p)) = ap unwords (fresh-shown p) in
         record {
-          replies = ap (replies (callIn order bytes) cs) fresh ∙ main .0 ∙ replies-shown p formed es s cs 0;
+          replies = ap (replies (callIn order bytes) cs) fresh ∙ main .0 ∙ replies-shown p fine es s cs 0;
           memory = ap (afterCalls (callIn order bytes) cs) fresh
               ∙ main .1
               ∙ ap (λ (l : List (theory.Call Frame ℕ)). memoryOf p (encCells (λ k. stateOf (kindAt p k)) (flatCells (boardOf p) l full known))) (heard-sent p cs)
-              ∙ memory-shown p formed es s u r (accepted-whole p cs);
+              ∙ memory-shown p fine es s u r (accepted-whole p cs);
         }
 
-  claim-formed : Claim bytes p cs
-  claim-formed = record { samples = time.flat (p .size) samples; known = before; reads = there-is; as-read = as-read }
+  claim-fine : Claim bytes p cs
+  claim-fine = record { samples = time.flat (p .size) samples; known = before; reads = there-is; as-read = as-read }
 
 -- ---- the theorem
 
 -- of a board that is read as p
-pub board-claim : (bytes : List ℕ) (p : Parsed) → readBoard bytes ≡ whole p → (cs : List Call) → Claim bytes p cs
-board-claim bytes p e cs = claim-formed bytes p e (whole-formed bytes p e) cs
+pub board-claim : (bytes : List ℕ) → Bytes bytes → (p : Parsed) → readBoard bytes ≡ whole p → (cs : List Call) → Claim bytes p cs
+board-claim bytes b p e cs = claim-fine bytes p e (fine-board bytes b p e) cs
 
-pub own-order : (bytes : List ℕ) (p : Parsed) → readBoard bytes ≡ whole p → Reorders (p .wires) (listed p) (listed p)
-own-order bytes p e = reorders-self (p .wires) (listed p) (board-sound p (whole-formed bytes p e) .once)
+pub own-order : (bytes : List ℕ) → Bytes bytes → (p : Parsed) → readBoard bytes ≡ whole p → Reorders (p .wires) (listed p) (listed p)
+own-order bytes b p e = reorders-self (p .wires) (listed p) (board-sound p (fine-board bytes b p e) .once)
 
 -- the fresh call on memory of the right length
 fresh-call : (bytes : List ℕ) (p : Parsed) → readBoard bytes ≡ whole p → (m : List ℕ) → length m ≡ memoryLength p
@@ -139,9 +139,9 @@ fresh-call bytes p e m h =
     told a = cond (eqb (a .number) 0) (passed, freshMemory p) (a, m)
 
 -- of every board that the judge accepts
-pub demand : (board : List ℕ) → (judgeOf board) .number ≡ 0 → Demand board
+pub demand : (board : List ℕ) → Bytes board → (judgeOf board) .number ≡ 0 → Demand board
 unfolding judgeOf
-demand board = go (readBoard board) refl (board-ends board)
+demand board b = go (readBoard board) refl (board-ends board)
   where
     go : (r : Reading) → readBoard board ≡ r → Ended r → (answerBy memoryLength r) .number ≡ 0 → Demand board
     go (going at last p) e n z = absurd (omega arith)
@@ -150,8 +150,8 @@ demand board = go (readBoard board) refl (board-ends board)
       parsed = p;
       reads = e;
       fresh = fresh-call board p e;
-      own = own-order board p e;
-      claim = board-claim board p e;
+      own = own-order board b p e;
+      claim = board-claim board b p e;
     }
 
 -- ---- every message call is a message of the claim

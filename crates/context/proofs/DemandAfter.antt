@@ -32,9 +32,9 @@ use Rattle.graph.specs.Board.{Parsed}
 use Rattle.context.specs.Memory.{kindAt}
 use Rattle.context.specs.Reading.{Call, block, message, Reply, Timed, silence, reached, accepts, accepted, inputs, answerTo, end, inputAt, numberAt, earlier, IsReading, samplesOf, lastOf, withNumber, reachedCell, otherCell, cellAfter, memoryAfter, outputs, replyTo, blocksAfter, repliesTo}
 use Rattle.context.specs.Instance.{Cells, mono, sent, asks, boardOf, memoryRules, readingRules, cellIn, memoryOf}
-use Rattle.graph.specs.Formed.{Formed}
+use Rattle.context.specs.Fine.{Fine}
 use Rattle.graph.specs.declared.answer.Answer.{Answer}
-use Rattle.context.proofs.FormedBoard.{input-is-pass, lists}
+use Rattle.context.proofs.FineBoard.{lists}
 use Rattle.context.proofs.Lawful.{rules-encode}
 use Rattle.context.proofs.Told.{end-sent}
 use Rattle.context.proofs.ShownCall.{block-whole, replyFor}
@@ -106,14 +106,14 @@ last-block n (x ∷ xs) w =
         ∙ (λ j. getD (getD (x ∷ xs) (digits-div (length xs) h j) []) (digits-mod (length xs) h j) 0)
         ∙ ap (λ (l : List ℕ). getD l i 0) (sym (last-get (replicate n 0) x xs))
 
-module _ (p : Parsed) (formed : Formed p) (es : List Call) (s : Timed Frame) (u : Timed Heard) (f : IsReading p es s u)
+module _ (p : Parsed) (fine : Fine p) (es : List Call) (s : Timed Frame) (u : Timed Heard) (f : IsReading p es s u)
     (blocks : Blocks (p .size) (inputs es)) where
   -- the samples and states with those of the nodes that are not reached
   abbrev full : Timed Frame
-  full = whole p formed es s
+  full = whole p fine es s
 
   abbrev states : Timed Heard
-  states = before p formed es s u
+  states = before p fine es s u
 
   -- ---- the memory afterwards
 
@@ -133,13 +133,13 @@ module _ (p : Parsed) (formed : Formed p) (es : List Call) (s : Timed Frame) (u 
     unfolding memoryRules readingRules freshCell freshHeard
     state-after = go (reached p k)
       where
-        other : stateOf (kindAt p k) (still p formed es (end p es) k) ≡ otherCell p es s u k .state
+        other : stateOf (kindAt p k) (still p fine es (end p es) k) ≡ otherCell p es s u k .state
         other =
             let n : ℕ = numberAt p es (end p es) k in
-            let enc = rules-encode p formed in
+            let enc = rules-encode p fine in
             sym (enc .set k n (freshHeard (kindAt p k))) ∙ ap (withNumber n) (sym (enc .fresh k))
 
-        go : (b : Bool) → stateOf (kindAt p k) (cond b (u (end p es) k) (still p formed es (end p es) k)) ≡ (cond b (reachedCell p es s u k) (otherCell p es s u k)) .state
+        go : (b : Bool) → stateOf (kindAt p k) (cond b (u (end p es) k) (still p fine es (end p es) k)) ≡ (cond b (reachedCell p es s u k) (otherCell p es s u k)) .state
         go true = refl
         go false = other
 
@@ -148,11 +148,11 @@ module _ (p : Parsed) (formed : Formed p) (es : List Call) (s : Timed Frame) (u 
     samples-other e = go (reached p k) refl
       where
         quiet : reached p k ≡ false → (t : ℕ) (b : Bool) → cond b (full t k) silence ≡ silence
-        quiet r t true = whole-other p formed es s t k r ∙ ap (λ (c : Bool). cond c (mono (inputAt p es t)) silence) e
+        quiet r t true = whole-other p fine es s t k r ∙ ap (λ (c : Bool). cond c (mono (inputAt p es t)) silence) e
         quiet r t false = refl
 
         go : (b : Bool) → reached p k ≡ b → samplesOf channels frames ≡ (cond b (reachedCell p es s u k) (otherCell p es s u k)) .samples
-        go true r = ap (samplesOf channels) (tab-agree (p .size) _ _ (λ j h. earlier-reached p formed es s (end p es + j) k r))
+        go true r = ap (samplesOf channels) (tab-agree (p .size) _ _ (λ j h. earlier-reached p fine es s (end p es + j) k r))
         go false r =
             ap (samplesOf channels)
             (tab-agree (p .size) _ _ (λ i h. quiet r (end p es + i - p .size) (leb (p .size) (end p es + i))) ∙ tab-constant (p .size) silence)
@@ -161,7 +161,7 @@ module _ (p : Parsed) (formed : Formed p) (es : List Call) (s : Timed Frame) (u 
     -- the input node's
     samples-input : k ≡ p .input → samplesOf channels frames ≡ lastOf (replicate (p .size) 0) (inputs es)
     samples-input e =
-        ap (λ (c : ℕ). samplesOf c frames) (ap channelsOf (ap (kindAt p) e ∙ input-is-pass p formed))
+        ap (λ (c : ℕ). samplesOf c frames) (ap channelsOf (ap (kindAt p) e ∙ fine .input-pass))
         ∙ map-tab (λ f. f .left) (p .size) (λ i. earlier p full (end p es + i) k)
         ∙ tab-agree (p .size) _ _ (λ i h. go (end p es + i) (leb (p .size) (end p es + i)) refl (omega arith))
         ∙ last-block (p .size) (inputs es) blocks
@@ -170,7 +170,7 @@ module _ (p : Parsed) (formed : Formed p) (es : List Call) (s : Timed Frame) (u 
             → (cond b (full (t - p .size) k) silence) .left ≡ cond b (inputAt p es (t - p .size)) 0
         go t true l h =
             let m = leb-true (p .size) t l in
-            ap (λ (x : Frame). x .left) (ap (full (t - p .size)) e ∙ input-whole p formed es s u f (t - p .size) (omega arith))
+            ap (λ (x : Frame). x .left) (ap (full (t - p .size)) e ∙ input-whole p fine es s u f (t - p .size) (omega arith))
         go t false l h = refl
 
     samples-after : samplesOf channels frames ≡ cellAfter p es s u k .samples
@@ -189,25 +189,25 @@ module _ (p : Parsed) (formed : Formed p) (es : List Call) (s : Timed Frame) (u 
     cell-after : cellIn p after k ≡ cellAfter p es s u k
     cell-after = ap cellAt (end-sent p es) ∙ (λ i. record { state = state-after i; samples = samples-after i })
 
-  pub memory-shown : memoryOf p (encCells (λ k. stateOf (kindAt p k)) (flatCells (boardOf p) (map sent es) (whole p formed es s) (before p formed es s u)))
+  pub memory-shown : memoryOf p (encCells (λ k. stateOf (kindAt p k)) (flatCells (boardOf p) (map sent es) (whole p fine es s) (before p fine es s u)))
       ≡ memoryAfter p es s u
   memory-shown = ap unwords (joined-agree (length (p .nodes)) _ _ (λ k h. ap valuesOf (cell-after k)))
 
 -- ---- the replies
 
-module _ (p : Parsed) (formed : Formed p) (es : List Call) (s : Timed Frame) where
+module _ (p : Parsed) (fine : Fine p) (es : List Call) (s : Timed Frame) where
   abbrev played : Timed Frame
-  played = whole p formed es s
+  played = whole p fine es s
 
   -- one channel of node 0's block b
   out-block : (channel : Frame → ℕ) (b : ℕ)
       → map channel (tab (p .size) (λ i. played (b * p .size + i) 0)) ≡ tab (p .size) (λ i. channel (s (b * p .size + i) 0))
   out-block channel b =
       map-tab channel (p .size) (λ i. played (b * p .size + i) 0)
-      ∙ tab-agree (p .size) _ _ (λ i h. ap channel (whole-reached p formed es s (b * p .size + i) 0 (lists p formed .all 0 start)))
+      ∙ tab-agree (p .size) _ _ (λ i h. ap channel (whole-reached p fine es s (b * p .size + i) 0 (lists p fine .all 0 start)))
 
   pub replies-shown : (cs : List Call) (b : ℕ)
-      → answers (replyFor p) cs (timeReplies (boardOf p) (byBlock (p .size) (whole p formed es s)) b cs) ≡ repliesTo p s b cs
+      → answers (replyFor p) cs (timeReplies (boardOf p) (byBlock (p .size) (whole p fine es s)) b cs) ≡ repliesTo p s b cs
   unfolding repliesTo
   replies-shown [] b = refl
   replies-shown (c ∷ cs) b = one c (replies-shown cs)

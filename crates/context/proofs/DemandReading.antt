@@ -27,15 +27,14 @@ use Rattle.reading.specs.Flat.{IsFlat, heldWhen}
 use Rattle.reading.specs.Flat as flat
 use Rattle.reading.proofs.Table.{map-agree}
 use Rattle.graph.specs.Sources.{distinct, distinctSources, secondSource}
-use Rattle.graph.specs.Board.{Parsed}
-use Rattle.graph.proofs.Six.{blank}
+use Rattle.graph.specs.Board.{blank, Parsed}
 use Rattle.context.specs.Memory.{kindAt}
 use Rattle.context.specs.Calls.{listed}
 use Rattle.context.specs.Reading.{Call, Timed, silence, reached, rightSample, broughtOf, end, inputAt, numberAt, earlier, brings, broughtTo, heldAt, IsReading}
 use Rattle.context.specs.Instance.{mono, sent, boardOf, frameOf, broughtFrom, readingRules}
-use Rattle.graph.specs.Formed.{Formed}
+use Rattle.context.specs.Fine.{Fine}
 use Rattle.graph.proofs.RoundSources.{mem-distinct}
-use Rattle.context.proofs.FormedBoard.{input-is-pass, lists, listed-there}
+use Rattle.context.proofs.FineBoard.{lists, listed-there}
 use Rattle.context.proofs.ShownRun.{frame-of, second-source}
 use Rattle.context.proofs.Told.{end-sent, input-sent, told-fresh, told-then}
 
@@ -70,19 +69,19 @@ module _ (p : Parsed) (k : ℕ) (f : ℕ → Frame) where
       λ i. record { left = ls i; right = rs i; second = second i }
 
 -- a node's rule on the frames that its wires bring
-step-sent : (p : Parsed) → Formed p → (k i : ℕ) → k < length (p .nodes) → (h : Heard) (held : Frame) (f : ℕ → Frame)
+step-sent : (p : Parsed) → Fine p → (k i : ℕ) → k < length (p .nodes) → (h : Heard) (held : Frame) (f : ℕ → Frame)
     → (readingRules p) .step k i h held (map f (sources (p .wires) k))
     ≡ (sampleHeard (kindAt p k) h held (broughtOf p k f), heardAfter (kindAt p k) h (broughtOf p k f))
 unfolding readingRules
-step-sent p formed k i there h held f =
+step-sent p fine k i there h held f =
     let b = broughtOf p k f in
     let fits : sourcesFit (kindAt p k) (length (b .left)) ≡ true =
-    ap (sourcesFit (kindAt p k)) (length-map (distinctSources (p .wires) k) (λ a. ofBits binary32 (f a .left))) ∙ formed .sources-fit blank k there in
+    ap (sourcesFit (kindAt p k)) (length-map (distinctSources (p .wires) k) (λ a. ofBits binary32 (f a .left))) ∙ fine .formed .sources-fit blank k there in
     let s = ap (sampleHeard (kindAt p k) h held) (brought-of p k f) ∙ sym (heard-sample-unread (kindAt p k) b fits h held) in
     let n = ap (heardAfter (kindAt p k) h) (brought-of p k f) ∙ sym (heard-unread (kindAt p k) b h) in
     λ j. (s j, n j)
 
-module _ (p : Parsed) (formed : Formed p) (es : List Call) where
+module _ (p : Parsed) (fine : Fine p) (es : List Call) where
   abbrev cs : List (theory.Call Frame ℕ)
   cs = map sent es
 
@@ -116,16 +115,16 @@ module _ (p : Parsed) (formed : Formed p) (es : List Call) where
     both t h =
         f .listed t k (in-time t h) r
         ∙ ap (λ (x : Frame). (readingRules p) .step k (t % p .size) (u t k) x (map (brings p s t k) (sources (p .wires) k))) (held-sent s t k)
-        ∙ step-sent p formed k (t % p .size) (listed-there p formed k r) (u t k) (heldAt p es s t k) (brings p s t k)
+        ∙ step-sent p fine k (t % p .size) (listed-there p fine k r) (u t k) (heldAt p es s t k) (brings p s t k)
 
     first-of : u 0 k ≡ setNumber (numberAt p es 0 k) (freshHeard (kindAt p k))
-    first-of = ap (λ (w : ℕ → Heard). w k) (f .first) ∙ told-fresh p (formed .some-size) es k
+    first-of = ap (λ (w : ℕ → Heard). w k) (f .first) ∙ told-fresh p (fine .least-size) es k
 
     next-of : (t : ℕ) → t < end p es → u t k .number ≡ numberAt p es t k → u (suc t) k ≡ setNumber (numberAt p es (suc t) k) (left s u t k)
     next-of t h n =
         let e = ap (λ (x : Frame × Heard). x .1) (both t h) in
         ap (λ (w : ℕ → Heard). w k) (f .next t (in-time t h))
-        ∙ told-then p (formed .some-size) es k t (v t) (ap (λ (x : Heard). x .number) e ∙ left-number s u t k ∙ n)
+        ∙ told-then p (fine .least-size) es k t (v t) (ap (λ (x : Heard). x .number) e ∙ left-number s u t k ∙ n)
         ∙ ap (setNumber (numberAt p es (suc t) k)) e
 
     numbers : (t : ℕ) → t ≤ end p es → u t k .number ≡ numberAt p es t k
@@ -162,7 +161,7 @@ module _ (p : Parsed) (formed : Formed p) (es : List Call) where
 
     brings-reached : (t k a : ℕ) → reached p k ≡ true → mem a (sources (p .wires) k) ≡ true → brings p whole t k a ≡ brings p s t k a
     brings-reached t k a r e =
-        let ra = lists p formed .closed k a r e in
+        let ra = lists p fine .closed k a r e in
         λ i. cond (late (listed p) a k) (earlier-reached t a ra i) (whole-reached t a ra i)
 
     held-reached : (t k : ℕ) → reached p k ≡ true → heldWhen (boardOf p) cs whole t k ≡ heldAt p es s t k
@@ -195,10 +194,10 @@ module _ (p : Parsed) (formed : Formed p) (es : List Call) where
         held = ap (λ (b : Bool). cond b (mono (inputAt p es t)) (earlier p s t k)) same
 
         none : length (broughtTo p s t k .left) ≡ 0
-        none = ap (λ (l : List ℕ). length (map (λ a. ofBits binary32 (brings p s t k a .left)) (distinct l))) (formed .input-free)
+        none = ap (λ (l : List ℕ). length (map (λ a. ofBits binary32 (brings p s t k a .left)) (distinct l))) (fine .input-free)
 
         kept : keeps (kindAt p k) (broughtTo p s t k) ≡ true
-        kept = ap (λ (d : NodeKind). keeps d (broughtTo p s t k)) (input-is-pass p formed) ∙ eq-eqb (length (broughtTo p s t k .left)) 0 none
+        kept = ap (λ (d : NodeKind). keeps d (broughtTo p s t k)) (fine .input-pass) ∙ eq-eqb (length (broughtTo p s t k .left)) 0 none
 
         given : Frame
         given = record {
@@ -250,7 +249,7 @@ module _ (p : Parsed) (formed : Formed p) (es : List Call) where
           let then = ap (λ (b : Bool). cond b (left s u t k) (still t k)) r in
           let known = ap (λ (b : Bool). cond b (u t k) (still t k)) r in
           _∙_ {A = Frame × Heard} (λ i. (here i, then i))
-          (sym (step-sent p formed k (t % p .size) (listed-there p formed k r) (u t k) (heldAt p es s t k) (brings p s t k))
+          (sym (step-sent p fine k (t % p .size) (listed-there p fine k r) (u t k) (heldAt p es s t k) (brings p s t k))
           ∙ (λ i. (readingRules p) .step k (t % p .size) (sym known i) (sym (held-reached t k r) i) (brought i)))
 
       other-at : (t k : ℕ) → reached p k ≡ false → after u t k ≡ before u t k
@@ -258,11 +257,11 @@ module _ (p : Parsed) (formed : Formed p) (es : List Call) where
 
       pub reading-flat : IsFlat (boardOf p) (readingRules p) cs whole (before u) (after u)
       reading-flat = record {
-        first = fun-ext (λ k. before-first k (reached p k) refl ∙ sym (told-fresh p (formed .some-size) es k));
+        first = fun-ext (λ k. before-first k (reached p k) refl ∙ sym (told-fresh p (fine .least-size) es k));
         next = λ t h.
             fun-ext (λ k.
             before-next t k (out-time t h) (reached p k) refl
-            ∙ sym (told-then p (formed .some-size) es k t (after u t) (after-number t k (out-time t h) (reached p k) refl)));
+            ∙ sym (told-then p (fine .least-size) es k t (after u t) (after-number t k (out-time t h) (reached p k) refl)));
         listed = λ t k h r. listed-at t k (out-time t h) r;
         others = λ t k h r. λ i. (held-other t k r i, other-at t k r i);
       }

@@ -23,7 +23,8 @@ use Rattle.context.specs.Memory.{freshValues, checkCells, runNode, runNo
 use Rattle.context.specs.Calls.{freshOf, checkSamples, blockIn, listed}
 use Rattle.context.specs.Reading.{Call, block, Reply, Timed, IsReading, accepted, repliesTo}
 use Rattle.context.specs.Claim.{callIn}
-use Rattle.graph.specs.Write.{kindOf, parsedOf, writeBoard}
+use Rattle.graph.specs.Write.{kindOf, asRead, writeBoard}
+use Rattle.graph.proofs.RoundBytes.{board-bytes}
 use Rattle.graph.proofs.RoundWorked.{feedback}
 use Rattle.context.proofs.Demand.{board-claim, own-order}
 
@@ -48,7 +49,7 @@ abbrev pub said : List ℕ → Reply
 said x = record { answer = answer 0 0; left = x; right = x }
 
 abbrev pub p : Parsed
-p = parsedOf feedback
+p = asRead feedback
 
 reads : readBoard (writeBoard feedback) ≡ whole p
 unfolding writeBoard kindOf readBoard readRecords run stepOf takeFound foundAt foundOf ruleOf checkSources distinct
@@ -70,5 +71,6 @@ feedback-blocks = refl
 -- and so says every reading of them
 pub feedback-reading : (s : Timed Frame) (u : Timed Heard) → IsReading p (accepted p three) s u → repliesTo p s 0 three ≡ said ahead ∷ said quiet ∷ said half ∷ []
 feedback-reading s u r =
-    let claim = board-claim (writeBoard feedback) p reads three in
-    sym (claim .as-read s u r listed (own-order (writeBoard feedback) p reads) .replies) ∙ feedback-blocks
+    let bytes = board-bytes feedback in
+    let claim = board-claim (writeBoard feedback) bytes p reads three in
+    sym (claim .as-read s u r listed (own-order (writeBoard feedback) bytes p reads) .replies) ∙ feedback-blocks

@@ -1,4 +1,4 @@
--- A well-formed board is what the theory of block run and reading asks for:
+-- A fine board is what the theory of block run and reading asks for:
 --     board-sound                   the board is sound
 --     rules-encode                  the rules on what memory holds encode those on what the reading knows
 --     rules-lawful                  every call keeps what `Held` says of the states: so 8 never occurs
@@ -30,17 +30,16 @@ use Rattle.reading.specs.Board.{Whole, Sound}
 use Rattle.reading.specs.Board as theory
 use Rattle.reading.specs.Encode.{Encodes}
 use Rattle.reading.specs.Keeps.{Lawful}
-use Rattle.graph.specs.Board.{Parsed}
+use Rattle.graph.specs.Board.{blank, Parsed}
 use Rattle.context.specs.Memory.{kindAt}
 use Rattle.context.specs.Reading.{Call, block, message, valueOf, accepts, silence}
 use Rattle.context.specs.Instance.{boardOf, mono, sent, asks, broughtFrom, memoryRules, readingRules}
-use Rattle.graph.specs.Formed.{Formed}
+use Rattle.context.specs.Fine.{Fine}
 use Rattle.context.specs.Instance.{Held}
-use Rattle.graph.proofs.Six.{blank}
-use Rattle.context.proofs.FormedBoard.{node-sound, source-there, lists}
+use Rattle.context.proofs.FineBoard.{source-there, lists}
 use Rattle.context.proofs.ShownCall.{block-whole, message-given}
 
-module _ (p : Parsed) (formed : Formed p) where
+module _ (p : Parsed) (fine : Fine p) where
   -- ---- accepted calls
 
   -- what an accepted call asks: a whole block, or a number that fits
@@ -64,9 +63,9 @@ module _ (p : Parsed) (formed : Formed p) where
 
   pub board-sound : Sound (boardOf p)
   board-sound = record {
-    no-self = λ k s e. source-there p formed k s e .1;
-    once = lists p formed .once;
-    input-first = λ k m s. not-false _ (lists p formed .input-first (p .input) (formed .input-free) k m s);
+    no-self = λ k s e. source-there p fine k s e .1;
+    once = lists p fine .once;
+    input-first = λ k m s. not-false _ (lists p fine .input-first (p .input) (fine .input-free) k m s);
     whole-blocks = λ c a e. whole a (subst Asked e (asked c));
   }
     where
@@ -88,7 +87,7 @@ module _ (p : Parsed) (formed : Formed p) where
       pass-sound = unfold numberFits numberOf toBits in record { line = tt; number = refl }
 
       go : Dec (k < length (p .nodes)) → fresh.Sound (kindAt p k)
-      go (yes h) = node-sound p formed k h
+      go (yes h) = record { line = fine .nodes k h .line; number = fine .nodes k h .number }
       go (no h) = subst fresh.Sound (sym (beyond k h)) pass-sound
 
   pub rules-encode : Encodes (memoryRules p) (readingRules p) (λ k. stateOf (kindAt p k))

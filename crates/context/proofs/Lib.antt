@@ -1,5 +1,5 @@
 -- Laws of the calls, and the theorems: demand 3 (Demand) and the tail (Silence).
-pub mod FormedBoard
+pub mod FineBoard
 pub mod CallChecks
 pub mod CallCells
 pub mod CallBy

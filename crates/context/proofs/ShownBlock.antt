@@ -27,13 +27,12 @@ use Rattle.reading.specs.Board as theory
 use Rattle.reading.specs.Blocks as blocks
 use Rattle.reading.proofs.Table.{put-same, put-other, mem-head, or-right}
 use Rattle.graph.specs.Board.{Parsed}
-use Rattle.graph.proofs.Six.{blank}
 use Rattle.context.specs.Memory.{nodeAt, kindAt, runNodes, putInput}
 use Rattle.context.specs.Calls.{listed, setNumber}
 use Rattle.context.specs.Reading.{samplesOf}
 use Rattle.context.specs.Instance.{Cells, mono, boardOf, memoryRules, cellIn, shown}
-use Rattle.graph.specs.Formed.{Formed}
-use Rattle.context.proofs.FormedBoard.{listed-there, first-destination, input-is-pass}
+use Rattle.context.specs.Fine.{Fine}
+use Rattle.context.proofs.FineBoard.{listed-there}
 use Rattle.context.proofs.ShownCells.{leftsOf, rightsOf, samples-length, part-mid, paste-mid, LongCell, Long, Around, around}
 use Rattle.context.proofs.ShownRun.{run-long, run-shown}
 
@@ -42,8 +41,8 @@ abbrev pub OfBoard : Parsed → List ℕ → Type 0
 OfBoard p o = (k : ℕ) → mem k o ≡ true → k < length (p .nodes)
 
 -- as is every order of the listed nodes
-pub reordered : (p : Parsed) → Formed p → (o : List ℕ) → Reorders (p .wires) (listed p) o → OfBoard p o
-reordered p formed o r k e = listed-there p formed k (sym (r .same k) ∙ e)
+pub reordered : (p : Parsed) → Fine p → (o : List ℕ) → Reorders (p .wires) (listed p) o → OfBoard p o
+reordered p fine o r k e = listed-there p fine k (sym (r .same k) ∙ e)
 
 pub put-long : (p : Parsed) (c : Cells) (k : ℕ) (d : blocks.Cell Frame State) → Long p c → LongCell p k d → Long p (put c k d)
 put-long p c k d long h j = go (ℕ-discrete j k)
@@ -59,13 +58,13 @@ module _ (p : Parsed) where
   order-long [] c long = long
   order-long (k ∷ o) c long = order-long o (blocks.runNode (boardOf p) (memoryRules p) k (p .size) c) (run-long p k c long (p .size))
 
-  pub order-shown : Formed p → (o : List ℕ) → OfBoard p o → (c : Cells) → Long p c
+  pub order-shown : Fine p → (o : List ℕ) → OfBoard p o → (c : Cells) → Long p c
       → runNodes p o (shown p c) ≡ shown p (blocks.runNodes (boardOf p) (memoryRules p) o c)
   unfolding runNodes
-  order-shown formed [] there c long = refl
-  order-shown formed (k ∷ o) there c long =
-      ap (runNodes p o) (run-shown p formed c long k (there k (mem-head k o)))
-      ∙ order-shown formed o (λ j e. there j (or-right (eqb j k) e)) (blocks.runNode (boardOf p) (memoryRules p) k (p .size) c) (run-long p k c long (p .size))
+  order-shown fine [] there c long = refl
+  order-shown fine (k ∷ o) there c long =
+      ap (runNodes p o) (run-shown p fine c long k (there k (mem-head k o)))
+      ∙ order-shown fine o (λ j e. there j (or-right (eqb j k) e)) (blocks.runNode (boardOf p) (memoryRules p) k (p .size) c) (run-long p k c long (p .size))
 
 -- ---- a cell's samples between the values before and after them
 
@@ -73,9 +72,9 @@ regroup : (a v l b : List ℕ) (x y z : ℕ) → a ++ ((x ∷ y ∷ z ∷ (v ++ 
 regroup a v l b x y z =
     ap (λ (r : List ℕ). a ++ (x ∷ y ∷ z ∷ r)) (append-assoc v l b) ∙ sym (append-assoc a (x ∷ y ∷ z ∷ []) (v ++ (l ++ b)))
 
-module _ (p : Parsed) (formed : Formed p) (c : Cells) (long : Long p c) (k : ℕ) (there : k < length (p .nodes)) where
+module _ (p : Parsed) (fine : Fine p) (c : Cells) (long : Long p c) (k : ℕ) (there : k < length (p .nodes)) where
   abbrev here : Around p c long k
-  here = around p c long formed k there
+  here = around p c long fine k there
 
   abbrev state : State
   state = c k .state
@@ -112,10 +111,10 @@ module _ (p : Parsed) (formed : Formed p) (c : Cells) (long : Long p c) (k : ℕ
       ∙ sym (here .then _)
 
 -- a number message to a node of the board
-pub message-shown : (p : Parsed) → Formed p → (c : Cells) → Long p c → (k : ℕ) → k < length (p .nodes) → (o : List ℕ) (x : Float)
+pub message-shown : (p : Parsed) → Fine p → (c : Cells) → Long p c → (k : ℕ) → k < length (p .nodes) → (o : List ℕ) (x : Float)
     → setNumber p k x (shown p c) ≡ shown p (blocks.runCall (boardOf p) (memoryRules p) o (theory.message k (toBits binary32 x)) c)
 unfolding memoryRules
-message-shown p formed c long k there o x = number-shown p formed c long k there (toBits binary32 x)
+message-shown p fine c long k there o x = number-shown p fine c long k there (toBits binary32 x)
 
 -- ---- the input block
 
@@ -123,7 +122,7 @@ lefts-mono : (xs : List ℕ) → leftsOf (map mono xs) ≡ xs
 lefts-mono [] = refl
 lefts-mono (x ∷ xs) = ap (λ (l : List ℕ). x ∷ l) (lefts-mono xs)
 
-module _ (p : Parsed) (formed : Formed p) (c : Cells) (long : Long p c) (xs : List ℕ) (whole : length xs ≡ p .size) where
+module _ (p : Parsed) (fine : Fine p) (c : Cells) (long : Long p c) (xs : List ℕ) (whole : length xs ≡ p .size) where
   pub input-long : Long p (blocks.putInput (boardOf p) (map mono xs) c)
   input-long =
       put-long p c (p .input) (record { state = c (p .input) .state; samples = map mono xs }) long
@@ -133,28 +132,28 @@ module _ (p : Parsed) (formed : Formed p) (c : Cells) (long : Long p c) (xs : Li
   unfolding putInput
   input-shown =
       let k : ℕ = p .input in
-      let t = formed .input-in in
-      let a = front p formed c long k t in
-      let b = back p formed c long k t in
+      let t = fine .input-there in
+      let a = front p fine c long k t in
+      let b = back p fine c long k t in
       let old : List ℕ = samplesOf (channelsOf (kindAt p k)) (c k .samples) in
       let old-long : length old ≡ p .size =
       samples-length (kindAt p k) (c k .samples) (p .size) (long k .samples)
-      ∙ ap (λ (d : NodeKind). p .size * channelsOf d) (input-is-pass p formed) ∙ omega arith in
+      ∙ ap (λ (d : NodeKind). p .size * channelsOf d) (fine .input-pass) ∙ omega arith in
       let new : xs ≡ samplesOf (channelsOf (kindAt p k)) (map mono xs) =
-      sym (ap (λ (d : NodeKind). samplesOf (channelsOf d) (map mono xs)) (input-is-pass p formed) ∙ lefts-mono xs) in
-      ap (λ (l : List ℕ). paste l (nodeAt p k .cell + 3) xs (p .size)) (samples-now p formed c long k t)
-      ∙ paste-mid a old b (nodeAt p k .cell + 3) (p .size) (front-long p formed c long k t) old-long xs whole
+      sym (ap (λ (d : NodeKind). samplesOf (channelsOf d) (map mono xs)) (fine .input-pass) ∙ lefts-mono xs) in
+      ap (λ (l : List ℕ). paste l (nodeAt p k .cell + 3) xs (p .size)) (samples-now p fine c long k t)
+      ∙ paste-mid a old b (nodeAt p k .cell + 3) (p .size) (front-long p fine c long k t) old-long xs whole
       ∙ ap (λ (l : List ℕ). a ++ (l ++ b)) new
-      ∙ sym (samples-then p formed c long k t (map mono xs))
+      ∙ sym (samples-then p fine c long k t (map mono xs))
 
 -- ---- the output blocks: node 0's channels
 
-module _ (p : Parsed) (formed : Formed p) (c : Cells) (long : Long p c) where
+module _ (p : Parsed) (fine : Fine p) (c : Cells) (long : Long p c) where
   abbrev a : List ℕ
-  a = front p formed c long 0 (formed .some-nodes)
+  a = front p fine c long 0 (fine .formed .some-nodes)
 
   abbrev b : List ℕ
-  b = back p formed c long 0 (formed .some-nodes)
+  b = back p fine c long 0 (fine .formed .some-nodes)
 
   abbrev ls : List ℕ
   ls = leftsOf (c 0 .samples)
@@ -163,12 +162,12 @@ module _ (p : Parsed) (formed : Formed p) (c : Cells) (long : Long p c) where
   rs = rightsOf (c 0 .samples)
 
   a-long : length a ≡ 3
-  a-long = omega (arith, front-long p formed c long 0 (formed .some-nodes), formed .records .nodes blank 0 (formed .some-nodes) .cell-is)
+  a-long = omega (arith, front-long p fine c long 0 (fine .formed .some-nodes), fine .nodes 0 (fine .formed .some-nodes) .cell)
 
   both-now : shown p c ≡ a ++ ((ls ++ rs) ++ b)
   both-now =
-      samples-now p formed c long 0 (formed .some-nodes)
-      ∙ ap (λ (d : NodeKind). a ++ (samplesOf (channelsOf d) (c 0 .samples) ++ b)) (first-destination p formed)
+      samples-now p fine c long 0 (fine .formed .some-nodes)
+      ∙ ap (λ (d : NodeKind). a ++ (samplesOf (channelsOf d) (c 0 .samples) ++ b)) (fine .destination)
 
   ls-long : length ls ≡ p .size
   ls-long = length-map (c 0 .samples) (λ (f : Frame). f .left) ∙ long 0 .samples

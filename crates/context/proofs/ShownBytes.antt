@@ -10,7 +10,7 @@ use Rattle.nodes.specs.Cell.{cellFits}
 use Rattle.nodes.proofs.Kept.{judged-fits}
 use Rattle.reading.specs.Keeps.{Kept}
 use Rattle.graph.specs.Board.{Parsed}
-use Rattle.graph.specs.Formed.{Formed}
+use Rattle.context.specs.Fine.{Fine}
 use Rattle.context.specs.Memory.{kindAt, passed}
 use Rattle.context.specs.Calls.{checkMemory}
 use Rattle.context.specs.Instance.{Held, Cells, boardOf, memoryRules, cellIn, shown, memoryOf}
@@ -21,9 +21,9 @@ module _ (p : Parsed) (G : Frame → Type 0) (c : Cells) (kept : Kept (boardOf p
   pub kept-long : Long p c
   kept-long k = record { samples = kept .size k; line = kept .state k .long }
 
-pub memory-passes : (p : Parsed) → Formed p → (c : Cells) → Long p c → ((k : ℕ) → Held p k (c k .state)) → checkMemory p (memoryOf p c) ≡ passed
-memory-passes p formed c long held =
+pub memory-passes : (p : Parsed) → Fine p → (c : Cells) → Long p c → ((k : ℕ) → Held p k (c k .state)) → checkMemory p (memoryOf p c) ≡ passed
+memory-passes p fine c long held =
     memory-passed p (memoryOf p c) (length-unwords (shown p c) ∙ ap (λ (n : ℕ). 4 * n) (shown-long p c long))
     (subst⁻¹ (Judged p) (words-unwords (shown p c)) (λ k there.
-    ap (cellFits (kindAt p k)) (shown-part p formed c long k there)
+    ap (cellFits (kindAt p k)) (shown-part p fine c long k there)
     ∙ judged-fits (kindAt p k) (cellIn p c k) (record { number = held k .number; carry = held k .carry; place = held k .place })))

@@ -31,7 +31,7 @@ use Rattle.context.specs.Calls.{Left, andThen, checkMemory, checkBlocks,
 use Rattle.context.specs.Reading.{Call, block, message, valueOf, answerTo, accepts, Reply}
 use Rattle.context.specs.Claim.{replied, callIn}
 use Rattle.context.specs.Instance.{Cells, mono, boardOf, memoryRules, shown, memoryOf}
-use Rattle.graph.specs.Formed.{Formed}
+use Rattle.context.specs.Fine.{Fine}
 use Rattle.context.specs.Instance.{Held}
 use Rattle.graph.specs.declared.answer.Answer.{Answer}
 use Rattle.context.proofs.ShownCells.{leftsOf, rightsOf, Long}
@@ -75,7 +75,7 @@ message-given p k w e = number-told p k (valueOf w) (accepted-answer p (message 
 
 -- ---- a call
 
-module _ (board : List ℕ) (p : Parsed) (reads : readBoard board ≡ whole p) (formed : Formed p) (order : Parsed → List ℕ) (nodes : OfBoard p (order p))
+module _ (board : List ℕ) (p : Parsed) (reads : readBoard board ≡ whole p) (fine : Fine p) (order : Parsed → List ℕ) (nodes : OfBoard p (order p))
     (m : Cells) (long : Long p m) (held : (k : ℕ) → Held p k (m k .state)) where
   abbrev o : List ℕ
   o = order p
@@ -92,7 +92,7 @@ module _ (board : List ℕ) (p : Parsed) (reads : readBoard board ≡ whole p) (
 
   -- checks 7 and 8 leave the answer to the others
   checks-rest : (a : Answer) → andThen (checkMemory p M) a ≡ a
-  checks-rest a = ap (λ (b : Answer). andThen b a) (memory-passes p formed m long held)
+  checks-rest a = ap (λ (b : Answer). andThen b a) (memory-passes p fine m long held)
 
   -- ---- a block run
 
@@ -110,14 +110,14 @@ module _ (board : List ℕ) (p : Parsed) (reads : readBoard board ≡ whole p) (
         → _≡_ {A = List ℕ × Reply} (ranBlock p o x M .memory, replied (ranBlock p o x M)) (memoryOf p after, replyFor p c (some (after 0 .samples)))
     ran-block e =
         let w : length (words x) ≡ p .size = block-whole p x l r e in
-        let before-long : Long p (blocks.putInput (boardOf p) (map mono (words x)) m) = input-long p formed m long (words x) w in
+        let before-long : Long p (blocks.putInput (boardOf p) (map mono (words x)) m) = input-long p fine m long (words x) w in
         let after-long : Long p after = order-long p o (blocks.putInput (boardOf p) (map mono (words x)) m) before-long in
         let values : runBlock p o (words x) (words M) ≡ shown p after =
         ap (runBlock p o (words x)) (words-unwords (shown p m))
-        ∙ ap (runNodes p o) (input-shown p formed m long (words x) w)
-        ∙ order-shown p formed o nodes (blocks.putInput (boardOf p) (map mono (words x)) m) before-long in
-        let ls = ap (λ (v : List ℕ). part v 3 (p .size)) values ∙ left-out p formed after after-long in
-        let rs = ap (λ (v : List ℕ). part v (3 + p .size) (p .size)) values ∙ right-out p formed after after-long in
+        ∙ ap (runNodes p o) (input-shown p fine m long (words x) w)
+        ∙ order-shown p fine o nodes (blocks.putInput (boardOf p) (map mono (words x)) m) before-long in
+        let ls = ap (λ (v : List ℕ). part v 3 (p .size)) values ∙ left-out p fine after after-long in
+        let rs = ap (λ (v : List ℕ). part v (3 + p .size) (p .size)) values ∙ right-out p fine after after-long in
         let a = sym (blocks-pass p x l r e) in
         λ i. (unwords (values i), record { answer = a i; left = unwords (ls i); right = unwords (rs i) })
 
@@ -161,7 +161,7 @@ module _ (board : List ℕ) (p : Parsed) (reads : readBoard board ≡ whole p) (
             ≡ (memoryOf p ((settled (cond q (some sent) none)) .0), replyFor p (message k w) ((settled (cond q (some sent) none)) .1))
         go true e =
             let given = message-given p k w e in
-            let values = ap (setNumber p k (valueOf w)) (words-unwords (shown p m)) ∙ message-shown p formed m long k (given .0) o (valueOf w) in
+            let values = ap (setNumber p k (valueOf w)) (words-unwords (shown p m)) ∙ message-shown p fine m long k (given .0) o (valueOf w) in
             λ i. (unwords (values i), record { answer = sym (given .2) i; left = []; right = [] })
         go false e = refl
 
@@ -171,8 +171,8 @@ module _ (board : List ℕ) (p : Parsed) (reads : readBoard board ≡ whole p) (
 
 -- ---- the promise
 
-module _ (board : List ℕ) (p : Parsed) (reads : readBoard board ≡ whole p) (formed : Formed p) (G : Frame → Type 0) where
+module _ (board : List ℕ) (p : Parsed) (reads : readBoard board ≡ whole p) (fine : Fine p) (G : Frame → Type 0) where
   -- in any order of nodes of the board
   pub call-shown : (order : Parsed → List ℕ) → OfBoard p (order p)
       → Keeps-promise (boardOf p) (memoryRules p) G (Held p) (order p) (memoryOf p) (replyFor p) (callIn order board)
-  call-shown order nodes c m kept = by-shown board p reads formed order nodes m (kept-long p G m kept) (kept .state) c
+  call-shown order nodes c m kept = by-shown board p reads fine order nodes m (kept-long p G m kept) (kept .state) c

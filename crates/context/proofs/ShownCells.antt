@@ -28,12 +28,11 @@ use Rattle.nodes.proofs.Cells.{length-values, get-sample}
 use Rattle.reading.specs.Table.{put}
 use Rattle.reading.specs.Blocks as blocks
 use Rattle.reading.proofs.Table.{put-same, put-other, joined-agree}
-use Rattle.graph.specs.Board.{Parsed, cellsOf}
-use Rattle.graph.proofs.Six.{blank}
+use Rattle.graph.specs.Board.{blank, Parsed, cellsOf}
 use Rattle.context.specs.Memory.{nodeAt, kindAt, leftStart, rightStart}
 use Rattle.context.specs.Reading.{silence, rightSample, samplesOf}
 use Rattle.context.specs.Instance.{Cells, cellIn, shownTo, shown}
-use Rattle.graph.specs.Formed.{Formed}
+use Rattle.context.specs.Fine.{Fine}
 
 -- ---- frames as a cell's samples
 
@@ -186,20 +185,20 @@ module _ (p : Parsed) where
       pub now : shown p c ≡ before ++ (valuesOf (cellIn p c k) ++ after)
       pub then : (d : blocks.Cell Frame State) → shown p (put c k d) ≡ before ++ (valuesOf (cellHeld p k d) ++ after)
 
-    pub around : Formed p → (k : ℕ) → k < length (p .nodes) → Around k
-    around formed k h =
+    pub around : Fine p → (k : ℕ) → k < length (p .nodes) → Around k
+    around fine k h =
         let s = shown-split c k (length (p .nodes)) h in
         record {
           before = shownTo p c k;
           after = s .0;
-          start = shown-to-long k (omega arith) ∙ sym (formed .records .nodes blank k h .cell-is);
+          start = shown-to-long k (omega arith) ∙ sym (fine .nodes k h .cell);
           now = sym (shown-agree (put c k (c k)) c (length (p .nodes)) (λ j l. put-own c k j)) ∙ s .1 (c k);
           then = s .1;
         }
 
 -- ---- a cell in place
 
-module _ (p : Parsed) (formed : Formed p) (c : Cells) (long : Long p c) (k : ℕ) (there : k < length (p .nodes)) where
+module _ (p : Parsed) (fine : Fine p) (c : Cells) (long : Long p c) (k : ℕ) (there : k < length (p .nodes)) where
   abbrev size : ℕ
   size = cellSize (p .size) (kindAt p k)
 
@@ -208,20 +207,20 @@ module _ (p : Parsed) (formed : Formed p) (c : Cells) (long : Long p c) (k : ℕ
 
   pub shown-at : (j : ℕ) → j < cellSize (p .size) (kindAt p k) → getD (shown p c) (nodeAt p k .cell + j) 0 ≡ getD (valuesOf (cellIn p c k)) j 0
   shown-at j h =
-      let a = around p c long formed k there in
+      let a = around p c long fine k there in
       ap (λ (l : List ℕ). getD l (nodeAt p k .cell + j) 0) (a .now)
       ∙ get-mid (a .before) (valuesOf (cellIn p c k)) (a .after) (nodeAt p k .cell) size (a .start) (values-long p k (c k) (long k)) j h
 
   pub shown-part : part (shown p c) (nodeAt p k .cell) (cellSize (p .size) (kindAt p k)) ≡ valuesOf (cellIn p c k)
   shown-part =
-      let a = around p c long formed k there in
+      let a = around p c long fine k there in
       ap (λ (l : List ℕ). part l (nodeAt p k .cell) size) (a .now)
       ∙ part-mid (a .before) (valuesOf (cellIn p c k)) (a .after) (nodeAt p k .cell) size (a .start) (values-long p k (c k) (long k))
 
   pub paste-shown : (d : blocks.Cell Frame State) → LongCell p k d
       → paste (shown p c) (nodeAt p k .cell) (valuesOf (cellHeld p k d)) (cellSize (p .size) (kindAt p k)) ≡ shown p (put c k d)
   paste-shown d ld =
-      let a = around p c long formed k there in
+      let a = around p c long fine k there in
       ap (λ (l : List ℕ). paste l (nodeAt p k .cell) (valuesOf (cellHeld p k d)) size) (a .now)
       ∙ paste-mid (a .before) (valuesOf (cellIn p c k)) (a .after) (nodeAt p k .cell) size (a .start) (values-long p k (c k) (long k))
       (valuesOf (cellHeld p k d)) (values-long p k d ld)
@@ -254,7 +253,7 @@ module _ (p : Parsed) (formed : Formed p) (c : Cells) (long : Long p c) (k : ℕ
       go true q =
           let two : channelsOf (kindAt p k) ≡ 2 = channels-are (kindAt p k) true q in
           let start : p .size * (nodeAt p k .channels - 1) ≡ p .size =
-          ap (λ (n : ℕ). p .size * (n - 1)) (formed .records .nodes blank k there .channels-are ∙ two) ∙ omega arith in
+          ap (λ (n : ℕ). p .size * (n - 1)) (fine .nodes k there .channels ∙ two) ∙ omega arith in
           let all : p .size * channelsOf (kindAt p k) ≡ p .size + p .size = ap (λ (n : ℕ). p .size * n) two ∙ omega arith in
           let e : rightStart (p .size) (nodeAt p k) + i ≡ nodeAt p k .cell + (3 + (p .size + i)) = omega arith in
           ap (λ (n : ℕ). getD (shown p c) n 0) e ∙ shown-sample (p .size + i) (omega arith)
@@ -263,7 +262,7 @@ module _ (p : Parsed) (formed : Formed p) (c : Cells) (long : Long p c) (k : ℕ
       go false q =
           let one : channelsOf (kindAt p k) ≡ 1 = channels-are (kindAt p k) false q in
           let start : p .size * (nodeAt p k .channels - 1) ≡ 0 =
-          ap (λ (n : ℕ). p .size * (n - 1)) (formed .records .nodes blank k there .channels-are ∙ one) ∙ omega arith in
+          ap (λ (n : ℕ). p .size * (n - 1)) (fine .nodes k there .channels ∙ one) ∙ omega arith in
           let e : rightStart (p .size) (nodeAt p k) + i ≡ leftStart (nodeAt p k) + i = omega arith in
           ap (λ (n : ℕ). getD (shown p c) n 0) e ∙ shown-left i h
           ∙ ap (λ (b : Bool). cond b ((getD frames i silence) .right) ((getD frames i silence) .left)) (sym q)

@@ -14,8 +14,7 @@ use Rattle.nodes.specs.Cell.{valuesOf, freshCell}
 use Rattle.nodes.specs.declared.kind.NodeKind.{NodeKind}
 use Rattle.nodes.specs.declared.kind.NodeRecord.{NodeRecord}
 use Rattle.reading.specs.Blocks as blocks
-use Rattle.graph.specs.Board.{Parsed}
-use Rattle.graph.proofs.Six.{blank}
+use Rattle.graph.specs.Board.{blank, Parsed}
 use Rattle.context.specs.Memory.{kindAt, freshFrom, freshValues}
 use Rattle.context.specs.Reading.{silence, samplesOf}
 use Rattle.context.specs.Instance.{Cells, boardOf, memoryRules, cellIn, shownTo, shown}

@@ -31,14 +31,13 @@ use Rattle.reading.specs.Board as theory
 use Rattle.reading.specs.Blocks as blocks
 use Rattle.reading.proofs.Table.{put-same, put-other, map-agree, mem-at}
 use Rattle.graph.specs.Sources.{addAll, distinct, distinctSources, secondSource}
-use Rattle.graph.specs.Board.{Parsed}
-use Rattle.graph.proofs.Six.{blank}
+use Rattle.graph.specs.Board.{blank, Parsed}
 use Rattle.context.specs.Memory.{nodeAt, kindAt, leftStart, rightStart, lefts, rights, broughtBy, runNode}
 use Rattle.context.specs.Reading.{Call, silence, rightSample, samplesOf}
 use Rattle.context.specs.Instance.{Cells, boardOf, memoryRules, frameOf, broughtFrom, cellIn, shown}
-use Rattle.graph.specs.Formed.{Formed}
+use Rattle.context.specs.Fine.{Fine}
 use Rattle.graph.proofs.RoundSources.{mem-distinct}
-use Rattle.context.proofs.FormedBoard.{source-there}
+use Rattle.context.proofs.FineBoard.{source-there}
 use Rattle.context.proofs.CallStarts.{mapped-at}
 use Rattle.context.proofs.ShownCells.{leftsOf, rightsOf, samples-length, samples-left, samples-right, cellHeld, LongCell, Long, shown-agree, shown-part, shown-left, shown-right, paste-shown}
 
@@ -74,7 +73,7 @@ second-source ws k h = mem-at (sources ws k) 1 (omega (arith, all-fewer (sources
 abbrev placeIn : Parsed → Cells → ℕ → ℕ → Frame
 placeIn p c i a = blocks.place (boardOf p) c a i
 
-module _ (p : Parsed) (formed : Formed p) (k : ℕ) where
+module _ (p : Parsed) (fine : Fine p) (k : ℕ) where
   abbrev srcs : List ℕ
   srcs = sources (p .wires) k
 
@@ -87,20 +86,20 @@ module _ (p : Parsed) (formed : Formed p) (k : ℕ) where
     brings = frameOf srcs (map (placeIn p d i) srcs)
 
     source-brings : (a : ℕ) → mem a srcs ≡ true → brings a ≡ placeIn p c i a
-    source-brings a e = frame-of (placeIn p d i) srcs a e ∙ ap (λ (x : blocks.Cell Frame State). getD (x .samples) i silence) (others a (source-there p formed k a e .1))
+    source-brings a e = frame-of (placeIn p d i) srcs a e ∙ ap (λ (x : blocks.Cell Frame State). getD (x .samples) i silence) (others a (source-there p fine k a e .1))
 
     left-is : (a : ℕ) → mem a srcs ≡ true → ofBits binary32 (brings a .left) ≡ floatAt (shown p c) (getD (lefts p) a 0 + i)
     left-is a e =
-        let t = source-there p formed k a e .0 in
+        let t = source-there p fine k a e .0 in
         ap (λ (f : Frame). ofBits binary32 (f .left)) (source-brings a e)
-        ∙ ap (ofBits binary32) (sym (shown-left p formed c long a t i small))
+        ∙ ap (ofBits binary32) (sym (shown-left p fine c long a t i small))
         ∙ ap (λ (n : ℕ). floatAt (shown p c) (n + i)) (sym (mapped-at leftStart (p .nodes) a t))
 
     right-is : (a : ℕ) → mem a srcs ≡ true → ofBits binary32 (rightSample p a (brings a)) ≡ floatAt (shown p c) (getD (rights p) a 0 + i)
     right-is a e =
-        let t = source-there p formed k a e .0 in
+        let t = source-there p fine k a e .0 in
         ap (λ (f : Frame). ofBits binary32 (rightSample p a f)) (source-brings a e)
-        ∙ ap (ofBits binary32) (sym (shown-right p formed c long a t i small))
+        ∙ ap (ofBits binary32) (sym (shown-right p fine c long a t i small))
         ∙ ap (λ (n : ℕ). floatAt (shown p c) (n + i)) (sym (mapped-at (rightStart (p .size)) (p .nodes) a t))
 
     second-is : (q : Bool) → ltb 1 (length once) ≡ q
@@ -249,7 +248,7 @@ module _ (p : Parsed) (k : ℕ) where
       go (yes e) = subst⁻¹ (λ (n : ℕ). LongCell p n (ran c i n)) e (own-long c (long k) i)
       go (no n) = subst⁻¹ (LongCell p j) (others-stay c i j n) (long j)
 
-module _ (p : Parsed) (formed : Formed p) (c : Cells) (long : Long p c) (k : ℕ) (there : k < length (p .nodes)) where
+module _ (p : Parsed) (fine : Fine p) (c : Cells) (long : Long p c) (k : ℕ) (there : k < length (p .nodes)) where
   abbrev kind : NodeKind
   kind = kindAt p k
 
@@ -260,7 +259,7 @@ module _ (p : Parsed) (formed : Formed p) (c : Cells) (long : Long p c) (k : ℕ
   fits-here : (i : ℕ) → sourcesFit kind (length (bs i .left)) ≡ true
   fits-here i =
       ap (sourcesFit kind) (length-map (distinctSources (p .wires) k) (λ a. floatAt (shown p c) (getD (lefts p) a 0 + i)))
-      ∙ formed .sources-fit blank k there
+      ∙ fine .formed .sources-fit blank k there
 
   -- one sample: d is the cells by then
   step-shown : (d : Cells) → LongCell p k (d k) → ((j : ℕ) → j ≢ k → d j ≡ c j) → (i : ℕ) → i < p .size
@@ -269,7 +268,7 @@ module _ (p : Parsed) (formed : Formed p) (c : Cells) (long : Long p c) (k : ℕ
   step-shown d own others i small =
       let s : State = d k .state in
       let fs : List Frame = d k .samples in
-      let b = brought-shown p formed k c d long others i small in
+      let b = brought-shown p fine k c d long others i small in
       let state : stateBy kind s (broughtFrom p k (map (placeIn p d i) (sources (p .wires) k))) ≡ stateBy kind s (bs i) =
       ap (stateBy kind s) b ∙ sym (state-unread kind (bs i) s) in
       let frame : sampleBy kind s (getD fs i silence) (broughtFrom p k (map (placeIn p d i) (sources (p .wires) k))) ≡ sampleBy kind s (getD fs i silence) (bs i) =
@@ -296,11 +295,11 @@ module _ (p : Parsed) (formed : Formed p) (c : Cells) (long : Long p c) (k : ℕ
       let size : ℕ = cellSize (p .size) kind in
       let after : Cells = blocks.runNode (boardOf p) (memoryRules p) k (p .size) c in
       let cell : cellOf (p .size) kind (part (shown p c) at size) ≡ cellIn p c k =
-      ap (cellOf (p .size) kind) (shown-part p formed c long k there)
+      ap (cellOf (p .size) kind) (shown-part p fine c long k there)
       ∙ cell-values (p .size) kind (cellIn p c k) (samples-length kind (c k .samples) (p .size) (long k .samples)) in
       ap (λ (d : Cell). paste (shown p c) at (valuesOf (iter (stepCell kind (p .size) bs) (p .size) d)) size) cell
       ∙ ap (λ (d : Cell). paste (shown p c) at (valuesOf d) size) (sym (cell-shown (p .size) (omega arith)))
-      ∙ paste-shown p formed c long k there (after k) (own-long p k c (long k) (p .size))
+      ∙ paste-shown p fine c long k there (after k) (own-long p k c (long k) (p .size))
       ∙ shown-agree p (put c k (after k)) after (length (p .nodes)) (λ j l. put-after j (ℕ-discrete j k))
     where
       put-after : (j : ℕ) → Dec (j ≡ k)

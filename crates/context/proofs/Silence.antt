@@ -13,7 +13,7 @@ use native.Mathlib.Omega.{arith}
 use borrow.Author.Tests.{eqb-true}
 use lib.Dec.{eqb}
 use lib.ListN.{length, getD}
-use Rattle.leaves.specs.Words.{words, unwords, words-unwords}
+use Rattle.leaves.specs.Words.{words, unwords, words-unwords, Bytes}
 use Rattle.nodes.specs.Kind.{lineOf}
 use Rattle.nodes.specs.Rule.{Frame}
 use Rattle.nodes.specs.History.{Heard}
@@ -28,7 +28,7 @@ use Rattle.reading.proofs.Table.{getD-tab}
 use Rattle.reading.proofs.Order.{each-source}
 use Rattle.reading.proofs.Tail.{tail}
 use Rattle.graph.specs.Answer.{answer}
-use Rattle.graph.specs.Board.{Parsed, Reading, going, refused, whole}
+use Rattle.graph.specs.Board.{Parsed, Reading, blank, going, refused, whole}
 use Rattle.graph.specs.Judge.{readBoard, answerBy}
 use Rattle.graph.specs.Late.{isLate, lateWires}
 use Rattle.context.specs.Memory.{kindAt}
@@ -36,14 +36,13 @@ use Rattle.context.specs.Calls.{listed}
 use Rattle.context.specs.Reading.{Call, block, message, Reply, Timed, silence, reached, IsReading, answerTo, accepts, accepted, inputs, end, outputs, repliesTo}
 use Rattle.context.specs.Claim.{Claim}
 use Rattle.context.specs.Instance.{sent, boardOf}
-use Rattle.graph.specs.Formed.{Formed}
-use Rattle.graph.specs.Tail.{delays, onlyDelays, blank, listedLines, endless, tailOf, tailAnswer}
+use Rattle.context.specs.Fine.{Fine}
+use Rattle.graph.specs.Tail.{delays, onlyDelays, listedLines, endless, tailOf, tailAnswer}
 use Rattle.context.specs.Silence.{QuietInput, played, outputAt, Silent, Tailed}
 use Rattle.graph.specs.declared.answer.Answer.{Answer}
 use Rattle.graph.proofs.Ending.{Ended, board-ends}
 use Rattle.graph.proofs.Lines.{tail-late, tail-on-time}
-use Rattle.graph.proofs.Formed.{whole-formed}
-use Rattle.context.proofs.FormedBoard.{first-destination, lists}
+use Rattle.context.proofs.FineBoard.{fine-board, lists}
 use Rattle.context.proofs.Lawful.{board-sound}
 use Rattle.context.proofs.Told.{end-sent, input-sent}
 use Rattle.context.proofs.Demand.{board-claim}
@@ -101,12 +100,12 @@ figure p other = go (eqb (length (lateWires (listed p) (p .wires))) 0) (onlyDela
 
 -- ---- node 0's samples, in every reading
 
-module _ (p : Parsed) (formed : Formed p) (f : Figure p) where
+module _ (p : Parsed) (fine : Fine p) (f : Figure p) where
   wires-in-time : NoLate (boardOf p)
   unfolding isLate
   wires-in-time k a m e =
       let w = each-source (λ w. isLate (listed p) w ≡ false) (p .wires) (none-late (listed p) (p .wires) (f .in-time)) k a e in
-      ap (λ (b : Bool). b && late (listed p) a k) (sym (ap (λ (b : Bool). b && mem k (listed p)) (lists p formed .closed k a m e) ∙ m))
+      ap (λ (b : Bool). b && late (listed p) a k) (sym (ap (λ (b : Bool). b && mem k (listed p)) (lists p fine .closed k a m e) ∙ m))
       ∙ (λ i. mem (sym (w .2) i) (listed p) && mem (sym (w .3) i) (listed p) && late (listed p) (sym (w .2) i) (sym (w .3) i)) ∙ w .1
 
   module _ (es : List Call) (fit : All (Fits p) es) (s : Timed Frame) (u : Timed Heard) (reads : IsReading p es s u) (since : ℕ)
@@ -115,8 +114,8 @@ module _ (p : Parsed) (formed : Formed p) (f : Figure p) where
     listed-zero : (k : ℕ) → reached p k ≡ true → (t : ℕ) → since + tailOf p ≤ t → t < end p es → ZeroFrame (s t k)
     listed-zero k there t l h =
         tail (boardOf p) (map sent es) s ZeroFrame (λ j. lineOf (kindAt p j)) wires-in-time
-        (λ j m. node-lags p formed es fit s u reads j m (each-delays (p .nodes) (listed p) (f .only) j m) (λ a e. wires-in-time j a m e))
-        (board-sound p formed) since
+        (λ j m. node-lags p fine es fit s u reads j m (each-delays (p .nodes) (listed p) (f .only) j m) (λ a e. wires-in-time j a m e))
+        (board-sound p fine) since
         (λ r m e. subst ZeroFrame (sym (input-sent p es r)) (input r m (subst (λ (n : ℕ). r < n) (end-sent p es) e), inl refl))
         k there t (omega (arith, f .lines, lines-sum p (listed p)))
         (subst (λ (n : ℕ). t < n) (sym (end-sent p es)) h)
@@ -124,9 +123,9 @@ module _ (p : Parsed) (formed : Formed p) (f : Figure p) where
     -- and so node 0, whose zeros are +0
     sink-zero : (t : ℕ) → since + tailOf p ≤ t → t < end p es → s t 0 ≡ silence
     sink-zero =
-        let there = lists p formed .all 0 start in
-        sink-silent p formed es fit s u reads 0 there (λ a e. wires-in-time 0 a there e) (since + tailOf p) (λ t l h. input t (omega arith) h)
-        (λ a e. listed-zero a (lists p formed .closed 0 a there e)) (first-destination p formed)
+        let there = lists p fine .all 0 start in
+        sink-silent p fine es fit s u reads 0 there (λ a e. wires-in-time 0 a there e) (since + tailOf p) (λ t l h. input t (omega arith) h)
+        (λ a e. listed-zero a (lists p fine .closed 0 a there e)) (fine .destination)
 
 -- ---- the output blocks that the calls write
 
@@ -176,38 +175,38 @@ module _ (p : Parsed) (s : Timed Frame) (g : Reply → List ℕ) (w : ℕ → �
 -- ---- the theorem
 
 -- of a board that is read as p
-pub falls-silent : (bytes : List ℕ) (p : Parsed) → readBoard bytes ≡ whole p → tailOf p ≢ endless
+pub falls-silent : (bytes : List ℕ) → Bytes bytes → (p : Parsed) → readBoard bytes ≡ whole p → tailOf p ≢ endless
     → (cs : List Call) (since : ℕ) → QuietInput p (accepted p cs) since → Silent bytes p cs since (tailOf p)
-falls-silent bytes p e other cs since input = record {
+falls-silent bytes b p e other cs since input = record {
   samples = quiet;
   outputs = λ order fit t l m.
       let s = claim .samples in
       let same = claim .as-read s (claim .known) (claim .reads) order fit .replies in
       let zero-frame = quiet s (claim .known) (claim .reads) t l m in
       rw same (
-        output-is p s (λ r. r .left) (λ r. s r 0 .left) (λ n a. refl) (formed .some-size) cs t m ∙ ap (λ (f : Frame). f .left) zero-frame,
-        output-is p s (λ r. r .right) (λ r. s r 0 .right) (λ n a. refl) (formed .some-size) cs t m ∙ ap (λ (f : Frame). f .right) zero-frame,
+        output-is p s (λ r. r .left) (λ r. s r 0 .left) (λ n a. refl) (fine .least-size) cs t m ∙ ap (λ (f : Frame). f .left) zero-frame,
+        output-is p s (λ r. r .right) (λ r. s r 0 .right) (λ n a. refl) (fine .least-size) cs t m ∙ ap (λ (f : Frame). f .right) zero-frame,
       );
 }
   where
-    formed : Formed p
-    formed = whole-formed bytes p e
+    fine : Fine p
+    fine = fine-board bytes b p e
 
     claim : Claim bytes p cs
-    claim = board-claim bytes p e cs
+    claim = board-claim bytes b p e cs
 
     quiet : (s : Timed Frame) (u : Timed Heard) → IsReading p (accepted p cs) s u → (t : ℕ) → since + tailOf p ≤ t
         → t < end p (accepted p cs) → s t 0 ≡ silence
-    quiet s u reads = sink-zero p formed (figure p other) (accepted p cs) (accepted-fit p cs) s u reads since input
+    quiet s u reads = sink-zero p fine (figure p other) (accepted p cs) (accepted-fit p cs) s u reads since input
 
 -- of bytes for which the tail call answers a figure
-pub tail-holds : (bytes : List ℕ) (n : ℕ) → tailAnswer bytes ≡ answer 0 n → n ≢ endless → Tailed bytes n
+pub tail-holds : (bytes : List ℕ) → Bytes bytes → (n : ℕ) → tailAnswer bytes ≡ answer 0 n → n ≢ endless → Tailed bytes n
 unfolding tailAnswer
-tail-holds bytes n = go (readBoard bytes) refl (board-ends bytes)
+tail-holds bytes b n = go (readBoard bytes) refl (board-ends bytes)
   where
     go : (r : Reading) → readBoard bytes ≡ r → Ended r → answerBy tailOf r ≡ answer 0 n → n ≢ endless → Tailed bytes n
     go (going at last p) e d a other = absurd (omega (arith, ap (λ (x : Answer). x .number) a))
     go (refused k w) e d a other = absurd (omega (arith, ap (λ (x : Answer). x .number) a))
     go (whole p) e d a other =
         let is : tailOf p ≡ n = ap (λ (x : Answer). x .place) a in
-        subst (Tailed bytes) is (record { parsed = p; reads = e; silent = falls-silent bytes p e (λ q. other (sym is ∙ q)) })
+        subst (Tailed bytes) is (record { parsed = p; reads = e; silent = falls-silent bytes b p e (λ q. other (sym is ∙ q)) })

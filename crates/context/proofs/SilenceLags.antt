@@ -33,17 +33,16 @@ use Rattle.reading.specs.Tail.{Lags}
 use Rattle.reading.proofs.Table.{mem-head}
 use Rattle.reading.proofs.Tail.{all-map, pass-silent}
 use Rattle.graph.specs.Sources.{distinctSources, secondSource}
-use Rattle.graph.specs.Board.{Parsed}
-use Rattle.graph.proofs.Six.{blank}
+use Rattle.graph.specs.Board.{blank, Parsed}
 use Rattle.context.specs.Memory.{kindAt}
 use Rattle.context.specs.Calls.{listed}
 use Rattle.context.specs.Reading.{Call, block, message, valueOf, Timed, silence, reached, rightSample, accepts, accepted, numberIn, end, inputAt, numberAt, earlier, brings, broughtTo, heldAt, IsReading}
 use Rattle.context.specs.Instance.{mono, sent, boardOf, broughtFrom, readingRules}
-use Rattle.graph.specs.Formed.{Formed}
+use Rattle.context.specs.Fine.{Fine}
 use Rattle.graph.specs.Tail.{delays}
 use Rattle.context.specs.Silence.{Zero, QuietInput}
 use Rattle.graph.proofs.RoundSources.{mem-distinct}
-use Rattle.context.proofs.FormedBoard.{node-sound, listed-there}
+use Rattle.context.proofs.FineBoard.{listed-there}
 use Rattle.context.proofs.ShownRun.{second-source}
 use Rattle.context.proofs.ShownCall.{message-given}
 use Rattle.context.proofs.Told.{end-sent, input-sent}
@@ -110,17 +109,17 @@ none-distinct (x ∷ l) (y ∷ once) same e = absurd (omega arith)
 
 -- ---- a reading
 
-module _ (p : Parsed) (formed : Formed p) (es : List Call) (fit : All (Fits p) es) (s : Timed Frame) (u : Timed Heard) (reads : IsReading p es s u)
+module _ (p : Parsed) (fine : Fine p) (es : List Call) (fit : All (Fits p) es) (s : Timed Frame) (u : Timed Heard) (reads : IsReading p es s u)
     (k : ℕ) (there : reached p k ≡ true) where
   abbrev kind : NodeKind
   kind = kindAt p k
 
   inside : k < length (p .nodes)
-  inside = listed-there p formed k there
+  inside = listed-there p fine k there
 
   -- the number is in range all along
   number-at-fits : (t : ℕ) → numberFits kind (numberAt p es t k) ≡ true
-  number-at-fits t = number-in-fits p es fit (t / p .size) k (toBits binary32 (numberOf kind)) (node-sound p formed k inside .number)
+  number-at-fits t = number-in-fits p es fit (t / p .size) k (toBits binary32 (numberOf kind)) (fine .nodes k inside .number)
 
   number-fits : (t : ℕ) → t ≤ end p es → numberFits kind (u t k .number) ≡ true
   unfolding setNumber
@@ -143,9 +142,9 @@ module _ (p : Parsed) (formed : Formed p) (es : List Call) (fit : All (Fits p) e
     silent : kind ≡ Pass → length (distinctSources (p .wires) k) ≡ 0 → k ≢ p .input → (t : ℕ) → t < end p es → s t k ≡ silence
     unfolding readingRules
     silent pass bare other t h =
-        sym (reading.whole-reached p formed es s t k there)
-        ∙ pass-silent (boardOf p) (readingRules p) (map sent es) (reading.whole p formed es s) (reading.before p formed es s u) (reading.after p formed es s u)
-        (reading.reading-flat p formed es s u reads) k there (formed .some-size) other
+        sym (reading.whole-reached p fine es s t k there)
+        ∙ pass-silent (boardOf p) (readingRules p) (map sent es) (reading.whole p fine es s) (reading.before p fine es s u) (reading.after p fine es s u)
+        (reading.reading-flat p fine es s u reads) k there (fine .least-size) other
         (none-distinct (sources (p .wires) k) (distinctSources (p .wires) k) (λ a. mem-distinct a (sources (p .wires) k)) bare)
         (λ i x held.
         ap (λ (n : NodeKind). sampleHeard n x held (broughtFrom p k [])) pass
@@ -196,7 +195,7 @@ module _ (p : Parsed) (formed : Formed p) (es : List Call) (fit : All (Fits p) e
     oldest-zero pos t l h =
         let n : ℕ = lengthOf kind in
         let none-over : 0 % n ≡ 0 = zero-mod n in
-        let fewest-there = at-least kind (length (distinctSources (p .wires) k)) (formed .sources-fit blank k inside) in
+        let fewest-there = at-least kind (length (distinctSources (p .wires) k)) (fine .formed .sources-fit blank k inside) in
         zero-float _ (past-zero (omega (arith, line-wired kind pos, fewest-there)) t (n - 0 % n - 1) (omega arith) (λ m. omega arith))
 
     -- what stands at its place, where it keeps it: the input, or nothing since time 0
@@ -222,8 +221,8 @@ module _ (p : Parsed) (formed : Formed p) (es : List Call) (fit : All (Fits p) e
         (sample-zero (u t k) (broughtTo p s t k) kind
         (record {
           only = only;
-          line = node-sound p formed k inside .line;
-          sources = ap (sourcesFit kind) (length-map (distinctSources (p .wires) k) _) ∙ formed .sources-fit blank k inside;
+          line = fine .nodes k inside .line;
+          sources = ap (sourcesFit kind) (length-map (distinctSources (p .wires) k) _) ∙ fine .formed .sources-fit blank k inside;
           number = number-fits t (omega arith);
           brought = brought-zero t after h;
           oldest = λ pos. oldest-zero pos t (omega arith) h;

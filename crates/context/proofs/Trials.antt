@@ -13,8 +13,8 @@ use Rattle.graph.specs.Visit.{visitingList}
 use Rattle.graph.specs.Walks.{printed, printedList, printedLate}
 use Rattle.graph.specs.Write.{writeBoard}
 use Rattle.graph.proofs.RoundWorked.{feedback, feedback-judged}
-use Rattle.graph.proofs.JudgeCases as judged
-use Rattle.graph.proofs.VisitCases.{printed-list, printed-late}
+use Rattle.graph.specs.JudgeCases as judged
+use Rattle.graph.specs.VisitCases.{printed-list, printed-late}
 use Rattle.context.specs.Memory.{freshValues}
 use Rattle.context.specs.Calls.{listed}
 use Rattle.context.specs.Claim.{callIn}

@@ -1,5 +1,6 @@
 -- What the contracts of the calls cite, the reading by samples, and the claims.
 pub mod Memory
+pub mod Fine
 pub mod Parts
 pub mod Calls
 pub mod Reading

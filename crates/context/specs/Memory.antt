@@ -8,18 +8,17 @@ use Rattle.nodes.specs.Rule.{Brought}
 use Rattle.nodes.specs.Cell.{valuesOf, freshCell, cellFits}
 use Rattle.nodes.specs.Node.{broughtAt, nodeRun}
 use Rattle.nodes.specs.declared.kind.NodeKind.{NodeKind}
-use Rattle.nodes.specs.declared.kind.NodeKind.the-variants.{Pass}
 use Rattle.nodes.specs.declared.kind.NodeRecord.{NodeRecord}
 use Rattle.graph.specs.Answer.{answer}
 use Rattle.graph.specs.Sources.{distinctSources, secondSource}
-use Rattle.graph.specs.Board.{Parsed}
+use Rattle.graph.specs.Board.{Parsed, blank}
 use Rattle.graph.specs.declared.answer.Answer.{Answer}
 
 -- ---- nodes by number
 
 -- node k of a list; past the end a pass at 0, which is never used
 abbrev pub nodeIn : List NodeRecord → ℕ → NodeRecord
-nodeIn nodes k = getD nodes k (record { kind = Pass; channels = 0; cell = 0 })
+nodeIn nodes k = getD nodes k blank
 
 abbrev pub nodeAt : Parsed → ℕ → NodeRecord
 nodeAt p k = nodeIn (p .nodes) k

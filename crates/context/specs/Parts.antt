@@ -11,7 +11,7 @@ use Rattle.graph.specs.Visit.{Lists}
 use Rattle.context.specs.Memory.{nodeIn, passed}
 use Rattle.context.specs.Calls.{checkValues, listed}
 use Rattle.graph.specs.Read.{parsedOf, Sound}
-use Rattle.graph.specs.Formed.{Formed}
+use Rattle.context.specs.Fine.{Fine}
 use Rattle.graph.specs.Formed.{TableAt}
 use Rattle.graph.specs.declared.board.Board.{Board}
 use Rattle.graph.specs.declared.graph.Order.{Order}
@@ -37,7 +37,7 @@ pub record Starts (start : NodeRecord → ℕ) (nodes : List NodeRecord) (n : �
 -- what the run of the listed nodes asks: an accepted board, its list, and memory that is judged
 pub record Runs (b : Board) (o : Order) (m : List ℕ) : Type 0 where
   pub sound : Sound b
-  pub formed : Formed (parsedOf b)
+  pub fine : Fine (parsedOf b)
   pub table : (v : ℕ) → v < 64 → TableAt b v
   pub lists : Lists (listed (parsedOf b)) (o .nodes) (o .count)
   pub long : length m ≡ memoryLength (parsedOf b)

@@ -8,14 +8,14 @@ ghost use Rattle.leaves.specs.Words.{words};
 ghost use Rattle.context.specs.Memory.{rightStart, checkCells, runNodes};
 ghost use Rattle.context.specs.Calls.{andThen, checkNeeded, checkMemory, checkSizes, checkSamples, asFound, listed, freshOf, blockOf};
 ghost use Rattle.graph.specs.Read.{parsedOf, Sound};
-ghost use Rattle.graph.specs.Formed.{Formed};
+ghost use Rattle.context.specs.Fine.{Fine};
 ghost use Rattle.context.specs.Parts.{CellsIn, StartsFit, Starts, Runs, putNumbers};
 use graph::answer::Answer;
 use graph::board::Board;
 use graph::graph::Order;
 use graph::graph::visiting_list;
 use graph::judge::read_board;
-use graph::sources::wide;
+use leaves::bytes::wide;
 use leaves::bytes::word_at;
 use leaves::float::store;
 use nodes::cell::cell_fits;
@@ -86,7 +86,7 @@ fn blocks_judged(size: usize, input: &[u8], left: usize, right: usize) -> Answer
 // Checks 7 and 8.
 pub fn memory_judged(board: Board, memory: &[u8]) -> Answer
     requires { ⌜ Sound board ⌝ }
-    requires { ⌜ Formed (parsedOf board) ⌝ }
+    requires { ⌜ Fine (parsedOf board) ⌝ }
     ensures { λ r. ⌜ r ≡ checkMemory (parsedOf board) (now (memory .entry)) ⌝ }
 {
     let judged = length_judged(board.values, memory.len());
@@ -100,7 +100,7 @@ pub fn memory_judged(board: Board, memory: &[u8]) -> Answer
 // Checks 7 to 10.
 fn block_judged(board: Board, memory: &[u8], input: &[u8], left: usize, right: usize) -> Answer
     requires { ⌜ Sound board ⌝ }
-    requires { ⌜ Formed (parsedOf board) ⌝ }
+    requires { ⌜ Fine (parsedOf board) ⌝ }
     ensures { λ r. ⌜ r ≡ andThen (checkMemory (parsedOf board) (now (memory .entry)))
         (andThen (checkSizes (board .size) (length (now (input .entry))) left right) (checkSamples 0 (words (now (input .entry))))) ⌝ }
 {

@@ -4,7 +4,7 @@ ghost use Prim.Native.Nat.{_*_, _<_};
 ghost use lib.ListN.{length};
 ghost use Rattle.leaves.specs.Words.{words};
 ghost use Rattle.graph.specs.Read.{parsedOf, Sound};
-ghost use Rattle.graph.specs.Formed.{Formed};
+ghost use Rattle.context.specs.Fine.{Fine};
 ghost use Rattle.context.specs.Calls.{checkNumber, setNumber, messageOf};
 use crate::calls::memory_judged;
 use graph::answer::Answer;
@@ -38,7 +38,7 @@ fn number_judged(board: Board, k: usize, value: f32) -> Answer
 // The value as node k's number, in a memory of the board's length.
 pub fn put_number(board: Board, k: usize, value: f32, memory: &mut [u8])
     requires { ⌜ Sound board ⌝ }
-    requires { ⌜ Formed (parsedOf board) ⌝ }
+    requires { ⌜ Fine (parsedOf board) ⌝ }
     requires { ⌜ k < board .count ⌝ }
     requires { ⌜ length (now memory) ≡ 4 * board .values ⌝ }
     ensures { λ _. ⌜ words (now (memory .exit)) ≡ setNumber (parsedOf board) k value (words (now (memory .entry))) ⌝ }

@@ -1,29 +1,29 @@
 -- What a call knows of the board that `read_board` gives it. Assumes nothing.
 use Prim.Native.Nat.{ℕ, zero, suc, _+_, _≤_, _<_}
-use mathlib.Core.Path.{_≡_, refl, _∙_}
+use mathlib.Core.Path.{_≡_, refl, subst, _∙_}
 use mathlib.Core.List.{List, [], _∷_, _++_}
 use mathlib.Core.Bool.{Bool, true, false}
 use native.Mathlib.Omega.{arith}
 use borrow.Author.Tests.{ltb-true, ltb-false, leb-true, ne-eqb}
 use lib.Dec.{ltb, leb, eqb}
-use lib.ListN.{length, getD, take, List·getD-append}
-use lib.Seq.{length-take-le, getD-take, getD-append-seam, take-take}
+use lib.ListN.{length, getD, take, length-append, List·getD-append}
+use lib.Seq.{length-take-le, getD-append-seam}
 use Rattle.nodes.specs.Kind.{cellSize, fewest, most}
 use Rattle.nodes.specs.declared.kind.NodeRecord.{NodeRecord}
 use Rattle.reading.specs.Table.{mem}
 use Rattle.reading.specs.Order.{Wire, Each, sources}
-use Rattle.graph.specs.Board.{Parsed, refused, whole, cellsOf}
+use Rattle.graph.specs.Board.{Parsed, blank, refused, whole, cellsOf}
 use Rattle.graph.specs.Sources.{addNew, addAll, distinct, distinctSources}
 use Rattle.graph.specs.Wires.{wiresOf}
 use Rattle.graph.specs.Judge.{readBoard}
 use Rattle.graph.specs.Read.{parsedOf, Read}
-use Rattle.graph.specs.Formed.{Formed, NodeAt, TableAt}
+use Rattle.graph.specs.Formed.{Formed, TableAt}
 use Rattle.graph.specs.Write.{WireObeys}
 use Rattle.graph.specs.declared.board.Board.{Board}
 use Rattle.graph.proofs.Choice.{pick, both}
 use Rattle.graph.proofs.Answers.{or-accepts, or-refuses}
-use Rattle.graph.proofs.Six.{most-few, blank}
-use Rattle.graph.proofs.Formed.{snoc-each, whole-formed}
+use Rattle.graph.proofs.Six.{most-few}
+use Rattle.graph.proofs.Formed.{whole-formed}
 
 -- ---- cells stand one after the other
 
@@ -40,6 +40,16 @@ cells-apart N (r ∷ ns) d (suc i) (suc j) l h = omega (arith, cells-apart N ns 
 -- every number of a list is below n
 abbrev Below : ℕ → List ℕ → Type 0
 Below n l = (j : ℕ) → j < length l → getD l j 0 < n
+
+-- what holds at each index of a list, and at its end, holds at each index of the list with one element more
+snoc-each : {A : Type 0} (P : ℕ → Type 0) (xs : List A) (x : A) → ((i : ℕ) → i < length xs → P i) → P (length xs) → (i : ℕ) → i < length (xs ++ (x ∷ [])) → P i
+snoc-each P xs x h e i l = split (ltb i (length xs)) refl
+  where
+    split : (b : Bool) → ltb i (length xs) ≡ b → P i
+    split true q = h i (ltb-true i (length xs) q)
+    split false q =
+        let at-end : length xs ≡ i = omega (arith, ltb-false i (length xs) q, simp length-append at l) in
+        subst P at-end e
 
 below-snoc : (n : ℕ) (l : List ℕ) (x : ℕ) → x < n → Below n l → Below n (l ++ (x ∷ []))
 below-snoc n l x p h =
@@ -87,7 +97,7 @@ few-sources p f v = split (ltb v (length (p .nodes))) refl
         let n = length (distinctSources (p .wires) v) in
         let two = both (leb (fewest k) n) (leb n (most k)) (f .sources-fit blank v (ltb-true v (length (p .nodes)) e)) in
         omega (arith, leb-true n (most k) (two .1), most-few k)
-    split false e = rw (no-sources (length (p .nodes)) (p .wires) v (f .records .joins) (ltb-false v (length (p .nodes)) e)) none-few
+    split false e = rw (no-sources (length (p .nodes)) (p .wires) v (f .joins) (ltb-false v (length (p .nodes)) e)) none-few
 
 -- ---- the board in arrays
 
@@ -105,21 +115,6 @@ module _ (s : List ℕ) (b : Board) (read : Read (readBoard s) b) where
     pub count-is : length (take (b .count) (b .nodes)) ≡ b .count
     count-is = length-take-le (b .count) (b .nodes) (omega (arith, read .sound .nodes-long, read .sound .few-nodes))
 
-    pub node-at : (d : NodeRecord) (i : ℕ) → i < b .count → NodeAt b d i
-    node-at d i l =
-        let formed = accepted-formed .records .nodes d i (rw count-is l) in
-        let same = getD-take (b .count) (b .nodes) i d l in
-        let short : i ≤ b .count = omega arith in
-        let fits : b .count ≤ length (b .nodes) = omega (arith, read .sound .nodes-long, read .sound .few-nodes) in
-        let start : (getD (b .nodes) i d) .cell ≡ cellsOf (b .size) (take i (b .nodes)) = rw (same, take-take i (b .count) (b .nodes) short) at (formed .cell-is) in
-        record {
-          ranged = rw same at (formed .ranged);
-          in-place = rw same at (formed .in-place);
-          channels-are = rw same at (formed .channels-are);
-          cell-is = start;
-          inside = omega (arith, start, read .sound .values-sum, cells-apart (b .size) (b .nodes) d i (b .count) l fits);
-        }
-
     pub table-at : (v : ℕ) → v < 64 → TableAt b v
     table-at v l =
         let ws = wiresOf (b .sources) (b .targets) (b .wires) in
@@ -130,5 +125,5 @@ module _ (s : List ℕ) (b : Board) (read : Read (readBoard s) b) where
           few = omega arith;
           count-is = all;
           source-is = λ j q. table .listed v j l (omega arith) (omega arith);
-          source-in = λ j q. rw (table .listed v j l (omega arith) (omega arith)) (rw count-is at (distinct-below (length (take (b .count) (b .nodes))) ws v (accepted-formed .records .joins) j (omega arith)));
+          source-in = λ j q. rw (table .listed v j l (omega arith) (omega arith)) (rw count-is at (distinct-below (length (take (b .count) (b .nodes))) ws v (accepted-formed .joins) j (omega arith)));
         }

@@ -15,7 +15,7 @@ use Rattle.reading.specs.Order.{Wire, sources}
 use Rattle.reading.specs.Visit.{Walk, markNode, listNode, each, go}
 use Rattle.reading.proofs.Table.{mem-head, mem-other}
 use Rattle.graph.specs.Sources.{distinctSources}
-use Rattle.graph.specs.Phases.{Within}
+use Rattle.graph.specs.Wires.{Within}
 use Rattle.graph.specs.Walking.{Gathered, Stands, unmarked, Visited}
 use Rattle.graph.proofs.Wiring.{within-more}
 use Rattle.graph.proofs.Repeats.{each-append, each-distinct, go-skips, go-new}

@@ -12,7 +12,7 @@ use Rattle.graph.specs.Record.{foundAt}
 use Rattle.graph.specs.Sources.{Tabled}
 use Rattle.graph.specs.Wires.{wiresOf}
 use Rattle.graph.specs.Board.{Parsed, Reading, going, refused, whole, headed, endBy, takeFound, stepOf, run, readRecords}
-use Rattle.graph.specs.Phases.{orRefused, noded, madeOf, HeadRead, NodesRead, WiresRead}
+use Rattle.graph.specs.Parts.{orRefused, noded, madeOf, HeadRead, NodesRead, WiresRead}
 use Rattle.graph.specs.Read.{Sound, Read}
 use Rattle.graph.specs.declared.answer.Answer.{Answer}
 use Rattle.graph.specs.declared.record.Found.{Found}

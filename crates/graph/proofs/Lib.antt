@@ -18,7 +18,6 @@ pub mod Wired
 pub mod Late
 pub mod Placing
 pub mod Lines
-pub mod VisitCases
 pub mod RoundRule
 pub mod RoundBytes
 pub mod RoundRecords
@@ -32,4 +31,3 @@ pub mod RoundWorked
 pub mod Ending
 pub mod Formed
 pub mod Accepted
-pub mod JudgeCases

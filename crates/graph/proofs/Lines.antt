@@ -14,11 +14,11 @@ use Rattle.nodes.specs.declared.kind.NodeRecord.{NodeRecord}
 use Rattle.reading.specs.Table.{mem}
 use Rattle.reading.specs.Order.{Wire}
 use Rattle.reading.proofs.Table.{mem-head, or-right}
-use Rattle.graph.specs.Board.{Parsed, linesOf}
+use Rattle.graph.specs.Board.{Parsed, blank, linesOf}
 use Rattle.graph.specs.Visit.{visitingList}
 use Rattle.graph.specs.Listed.{SourcesBelow}
 use Rattle.graph.specs.Late.{lateWires}
-use Rattle.graph.specs.Tail.{delays, blank, kindAt, onlyDelays, listedLines, endless, tailBy, tailOf, LinesFit}
+use Rattle.graph.specs.Tail.{delays, kindAt, onlyDelays, listedLines, endless, tailBy, tailOf, LinesFit}
 use Rattle.graph.proofs.Listed.{lists-reached}
 
 -- ---- one listed node more

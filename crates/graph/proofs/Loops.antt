@@ -12,9 +12,9 @@ use Rattle.nodes.specs.declared.kind.NodeRecord.{NodeRecord}
 use Rattle.reading.specs.Order.{Wire}
 use Rattle.graph.specs.Answer.{answer}
 use Rattle.graph.specs.Record.{foundAt}
-use Rattle.graph.specs.Board.{Parsed, going, refused, headed, linesOf, cellsOf, endBy, stepOf, run}
-use Rattle.graph.specs.Wires.{wiresOf}
-use Rattle.graph.specs.Phases.{orRefused, noded, wired, nodeRead, wireRead, NodesRead, WiresRead, Within}
+use Rattle.graph.specs.Board.{Parsed, going, refused, headed, linesOf, cellsOf, stepOf, run}
+use Rattle.graph.specs.Wires.{Within, wiresOf}
+use Rattle.graph.specs.Parts.{noded, wired, nodeRead, wireRead, NodesRead, WiresRead}
 use Rattle.graph.specs.declared.answer.Answer.{Answer}
 use Rattle.graph.specs.declared.board.NodeRead.{NodeRead}
 use Rattle.graph.specs.declared.board.NodeRead.the-variants as node
@@ -22,7 +22,6 @@ use Rattle.graph.specs.declared.board.WireRead.{WireRead}
 use Rattle.graph.specs.declared.board.WireRead.the-variants as wire
 use Rattle.graph.proofs.Sums.{lines-snoc, cells-snoc, samples-few}
 use Rattle.graph.proofs.Run.{run-next}
-use Rattle.graph.proofs.Answers.{accepted-as, refused-as}
 use Rattle.graph.proofs.Wiring.{wires-length, wires-stored, within-more}
 use Rattle.graph.proofs.Parts.{NodeStep, node-step, WireStep, wire-step}
 
@@ -101,24 +100,17 @@ module _ (s : List ℕ) (N : ℕ) (nodes : List NodeRecord) (count lines values 
       inside = here .2;
     }
 
-  -- the part ends in an answer
-  module _ (a : Answer) (read : (i : ℕ) → stepOf s (going next 2 (noded N i (take count nodes))) ≡ orRefused a (stepOf s (going next 3 (noded N i (take count nodes))))) where
-    ended : NodesRead s N (record { refused = a; count = count; nodes = nodes; values = values; next = next })
-    ended = record {
-      reads = λ i. stepped i ∙ read i;
-      long = h .long;
-      few = h .few;
-      sum = h .values-sum;
-      small = omega (arith, h .few-values, h .few, h .few-lines);
-      next-is = h .next-is;
-      inside = h .inside;
-    }
-
-  pub nodes-over : {a : Answer} → a ≡ answer 0 0 → NodeStep s next count lines node.Over → NodesRead s N (record { refused = a; count = count; nodes = nodes; values = values; next = next })
-  nodes-over {a} e here = ended a (λ i. here (noded N i (take count nodes)) counted (sym (h .lines-sum)) ∙ accepted-as _ e)
-
-  pub nodes-refused : {a : Answer} (n : ℕ) → a ≡ answer n next → NodeStep s next count lines (node.Refused n) → NodesRead s N (record { refused = a; count = count; nodes = nodes; values = values; next = next })
-  nodes-refused {a} n e here = ended a (λ i. here .0 (noded N i (take count nodes)) counted (sym (h .lines-sum)) ∙ refused-as _ e (here .1))
+  -- the part ends
+  pub nodes-ended : {a : Answer} (n : ℕ) → a ≡ answer n next → NodeStep s next count lines (node.Ends n) → NodesRead s N (record { refused = a; count = count; nodes = nodes; values = values; next = next })
+  nodes-ended n e here = record {
+    reads = λ i. stepped i ∙ here (noded N i (take count nodes)) counted (sym (h .lines-sum)) ∙ rw e;
+    long = h .long;
+    few = h .few;
+    sum = h .values-sum;
+    small = omega (arith, h .few-values, h .few, h .few-lines);
+    next-is = h .next-is;
+    inside = h .inside;
+  }
 
 -- ---- the wires
 
@@ -170,21 +162,15 @@ module _ (s : List ℕ) (start i : ℕ) (ss ts : List ℕ) (count next : ℕ) (h
         inside = here .2;
       }
 
-  module _ (a : Answer) (read : (p : Parsed) → length (p .nodes) ≡ i → stepOf s (going next 3 (wired p (wiresOf ss ts count))) ≡ orRefused a (endBy s next (wired p (wiresOf ss ts count)))) where
-    closed : WiresRead s start i (record { refused = a; count = count; sources = ss; targets = ts; next = next })
-    closed = record {
-      reads = λ p n e. joined p n e ∙ read p n;
-      sources-long = h .sources-long;
-      targets-long = h .targets-long;
-      few = h .few;
-      sources-in = h .sources-in;
-      targets-in = h .targets-in;
-      next-is = h .next-is;
-      inside = h .inside;
-    }
-
-  pub wires-over : {a : Answer} → a ≡ answer 0 0 → WireStep s next i count wire.Over → WiresRead s start i (record { refused = a; count = count; sources = ss; targets = ts; next = next })
-  wires-over {a} e here = closed a (λ p n. here (wired p (wiresOf ss ts count)) n (wires-length ss ts count) ∙ accepted-as _ e)
-
-  pub wires-refused : {a : Answer} (n : ℕ) → a ≡ answer n next → WireStep s next i count (wire.Refused n) → WiresRead s start i (record { refused = a; count = count; sources = ss; targets = ts; next = next })
-  wires-refused {a} n e here = closed a (λ p m. here .0 (wired p (wiresOf ss ts count)) m (wires-length ss ts count) ∙ refused-as _ e (here .1))
+  -- the part ends
+  pub wires-ended : {a : Answer} (n : ℕ) → a ≡ answer n next → WireStep s next i count (wire.Ends n) → WiresRead s start i (record { refused = a; count = count; sources = ss; targets = ts; next = next })
+  wires-ended n e here = record {
+    reads = λ p m z. joined p m z ∙ here (wired p (wiresOf ss ts count)) m (wires-length ss ts count) ∙ rw e;
+    sources-long = h .sources-long;
+    targets-long = h .targets-long;
+    few = h .few;
+    sources-in = h .sources-in;
+    targets-in = h .targets-in;
+    next-is = h .next-is;
+    inside = h .inside;
+  }

@@ -1,8 +1,11 @@
 -- One record of the nodes, and one of the wires, against a step of the reading. Assumes nothing.
-use Prim.Native.Nat.{ℕ, _+_, _≤_, _<_}
+use Prim.Native.Nat.{ℕ, _+_, _≤_}
 use mathlib.Core.Path.{_≡_, refl, sym, ap, _∙_}
 use mathlib.Core.List.{List}
+use mathlib.Core.Bool.{cond}
 use native.Mathlib.Omega.{arith}
+use borrow.Author.Tests.{ne-eqb}
+use lib.Dec.{eqb}
 use lib.ListN.{length}
 use Rattle.leaves.specs.Bytes.{u16At, u32At}
 use Rattle.nodes.specs.Kind.{ruleOf}
@@ -10,7 +13,7 @@ use Rattle.nodes.specs.declared.kind.Rule.{Rule}
 use Rattle.nodes.specs.declared.kind.Rule.the-variants as rule
 use Rattle.graph.specs.Record.{foundAt}
 use Rattle.graph.specs.Board.{Parsed, Reading, going, refused, linesOf, withNode, withWire, nodeFits, wireFits, nodeBy, endBy, takeFound, stepOf}
-use Rattle.graph.specs.Phases.{nodeBody, nodeRead, wireRead, HeadRead}
+use Rattle.graph.specs.Parts.{nodeBody, nodeRead, wireRead, HeadRead}
 use Rattle.graph.specs.declared.record.Found.{Found}
 use Rattle.graph.specs.declared.record.Found.the-variants.{Head, Node, Wire, End, Refused}
 use Rattle.graph.specs.declared.board.Head as head-type
@@ -42,15 +45,14 @@ module _ (s : List ℕ) (at i lines : ℕ) where
 
   abbrev pub NodeStep : NodeRead → Type 0
   NodeStep (node.Is k) = Steps (λ p. going (at + 14) 2 (withNode p k)) × NodeFits i lines k × (at + 14 ≤ length s)
-  NodeStep node.Over = Steps (λ p. stepOf s (going at 3 p))
-  NodeStep (node.Refused n) = Steps (λ p. refused n at) × (0 < n)
+  NodeStep (node.Ends n) = Steps (λ p. cond (eqb n 0) (stepOf s (going at 3 p)) (refused n at))
 
   node-ruled : (r : Rule) → ((p : Parsed) → stepOf s (going at 2 p) ≡ nodeBy at p r) → at + 14 ≤ length s → NodeStep (nodeBody i lines r)
-  node-ruled rule.Broken e h = (λ p _ _. e p, omega arith)
+  node-ruled rule.Broken e h = λ p _ _. e p
   node-ruled (rule.Is k) e h =
       pick NodeStep (nodeFits i lines k) _ _
       (λ q. (λ p u v. e p ∙ rw (u, v, q), node-fits i lines k q, h))
-      (λ q. (λ p u v. e p ∙ rw (u, v, q), omega arith))
+      (λ q. λ p u v. e p ∙ rw (u, v, q))
 
   node-over : Over (foundAt s at 2) → (p : Parsed) → stepOf s (going at 2 p) ≡ stepOf s (going at 3 p)
   unfolding stepOf
@@ -62,7 +64,7 @@ module _ (s : List ℕ) (at i lines : ℕ) where
   node-found Node e h = node-ruled (ruleOf (u16At s (at + 4)) (u32At s (at + 6)) (u32At s (at + 10))) (λ p. ap (takeFound s at p) e) (h .0)
   node-found Wire e h = λ p _ _. node-over (rw e tt) p
   node-found End e h = λ p _ _. node-over (rw e tt) p
-  node-found (Refused n) e h = (λ p _ _. ap (takeFound s at p) e, h)
+  node-found (Refused n) e h = λ p _ _. ap (takeFound s at p) e ∙ rw (ne-eqb n 0 (λ z. omega arith))
 
   pub node-step : NodeStep (nodeRead s at i lines (foundAt s at 2))
   node-step = node-found (foundAt s at 2) refl (found-room s at 2)
@@ -74,8 +76,7 @@ module _ (s : List ℕ) (at i w : ℕ) where
 
   abbrev pub WireStep : WireRead → Type 0
   WireStep (wire.Is a t) = Joins (λ p. going (at + 8) 3 (withWire p a t)) × WireFits i w a t × (at + 8 ≤ length s)
-  WireStep wire.Over = Joins (λ p. endBy s at p)
-  WireStep (wire.Refused n) = Joins (λ p. refused n at) × (0 < n)
+  WireStep (wire.Ends n) = Joins (λ p. cond (eqb n 0) (endBy s at p) (refused n at))
 
   wire-found : (f : Found) → foundAt s at 3 ≡ f → Room (length s) at 3 f → WireStep (wireRead s at i w f)
   unfolding stepOf takeFound wireRead
@@ -86,9 +87,9 @@ module _ (s : List ℕ) (at i w : ℕ) where
       let t = u16At s (at + 6) in
       pick WireStep (wireFits i w a t) _ _
       (λ q. (λ p u v. ap (takeFound s at p) e ∙ rw (u, v, q), wire-fits i w a t q, h .0))
-      (λ q. (λ p u v. ap (takeFound s at p) e ∙ rw (u, v, q), omega arith))
+      (λ q. λ p u v. ap (takeFound s at p) e ∙ rw (u, v, q))
   wire-found End e h = λ p _ _. ap (takeFound s at p) e
-  wire-found (Refused n) e h = (λ p _ _. ap (takeFound s at p) e, h)
+  wire-found (Refused n) e h = λ p _ _. ap (takeFound s at p) e ∙ rw (ne-eqb n 0 (λ z. omega arith))
 
   pub wire-step : WireStep (wireRead s at i w (foundAt s at 3))
   wire-step = wire-found (foundAt s at 3) refl (found-room s at 3)

@@ -15,7 +15,7 @@ use Rattle.reading.specs.Order.{Wire}
 use Rattle.graph.specs.Answer.{answer}
 use Rattle.graph.specs.Board.{Parsed, Reading, going, refused, whole, memoryLength, readRecords}
 use Rattle.graph.specs.Judge.{checkSix, thenSix, readBoard, answerBy, judgeOf}
-use Rattle.graph.specs.Write.{NodeCard, Card, writeBoard, parsedOf, NodeObeys, WireObeys, SourcesObey, noNode, noWire, Obeys}
+use Rattle.graph.specs.Write.{NodeCard, Card, writeBoard, asRead, NodeObeys, WireObeys, SourcesObey, noNode, noWire, Obeys}
 use Rattle.graph.specs.declared.answer.Answer.{Answer}
 use Rattle.graph.proofs.Run.{refused-is-not-whole, going-is-not-whole}
 use Rattle.graph.proofs.Ending.{Ended, board-ends}
@@ -39,7 +39,7 @@ module _ (c : Card) (h : Obeys c) where
   nodes-obey : EachFrom NodeObeys 0 (c .nodes)
   nodes-obey = each-from NodeObeys noNode (c .nodes) (h .nodes)
 
-  records : readRecords (writeBoard c) ≡ whole (parsedOf c)
+  records : readRecords (writeBoard c) ≡ whole (asRead c)
   records =
       let i : c .input < length (c .nodes) = beyond (c .nodes) (c .input) (h .input-pass) in
       records-read c (omega (arith, h .most-size)) (omega (arith, h .few-nodes))
@@ -57,12 +57,12 @@ module _ (c : Card) (h : Obeys c) where
   }
 
   -- every board that obeys is read, and read as what was written
-  pub write-read : readBoard (writeBoard c) ≡ whole (parsedOf c)
+  pub write-read : readBoard (writeBoard c) ≡ whole (asRead c)
   unfolding readBoard
   write-read = ap thenSix records ∙ six-in c nodes-obey six
 
   -- the judge accepts it, with the memory's length
-  pub judge-written : judgeOf (writeBoard c) ≡ answer 0 (memoryLength (parsedOf c))
+  pub judge-written : judgeOf (writeBoard c) ≡ answer 0 (memoryLength (asRead c))
   unfolding judgeOf
   judge-written = ap (answerBy memoryLength) write-read
 
@@ -72,7 +72,7 @@ pub record Accepted (s : List ℕ) (p : Parsed) : Type 0 where
   pub card : Card
   pub obeys : Obeys card
   pub bytes : s ≡ writeBoard card
-  pub parsed : parsedOf card ≡ p
+  pub parsed : asRead card ≡ p
 
 module _ (s : List ℕ) (p q : Parsed) (w : Written s q) (e : checkSix q ≡ whole p) where
   accepted : Accepted s p

@@ -9,7 +9,7 @@ use borrow.Author.Tests.{eqb-true}
 use lib.ListN.{length, drop, length-drop}
 use lib.Dec.{eqb}
 use lib.Seq.{drop-drop, drop-length}
-use Rattle.leaves.specs.Bytes.{u16At, u32At}
+use Rattle.leaves.specs.Bytes.{u16At, u32At, u16Bytes, u32Bytes}
 use Rattle.leaves.specs.Words.{Bytes}
 use Rattle.nodes.specs.Kind.{ruleOf}
 use Rattle.nodes.specs.declared.kind.NodeKind.{NodeKind}
@@ -18,7 +18,7 @@ use Rattle.nodes.specs.declared.kind.Rule.the-variants.{Is, Broken}
 use Rattle.reading.specs.Order.{Wire}
 use Rattle.graph.specs.Record.{foundAt}
 use Rattle.graph.specs.Board.{Parsed, going, refused, whole, wire, headed, withNode, withWire, linesOf, sizeFits, nodeFits, wireFits, nodeBy, wireBy, endBy, headBy, takeFound, stepOf, run, readRecords}
-use Rattle.graph.specs.Write.{NodeCard, Card, u16Bytes, u32Bytes, headBytes, nodeBytes, wireBytes, endBytes, nodesBytes, wiresBytes, writeBoard, kindOf, parsedOf}
+use Rattle.graph.specs.Write.{NodeCard, Card, headBytes, nodeBytes, wireBytes, endBytes, nodesBytes, wiresBytes, writeBoard, kindOf, asRead}
 use Rattle.graph.specs.declared.record.Found.{Found}
 use Rattle.graph.specs.declared.record.Found.the-variants.{Head, Node, End, Refused}
 use Rattle.graph.specs.declared.record.Found.the-variants as found
@@ -215,10 +215,10 @@ module _ (s : List ℕ) (h : Bytes s) (q : Parsed) where
 pub record Written (s : List ℕ) (q : Parsed) : Type 0 where
   pub card : Card
   pub bytes : s ≡ writeBoard card
-  pub result : parsedOf card ≡ q
+  pub result : asRead card ≡ q
   pub size-fits : sizeFits (card .size) ≡ true
   pub nodes-fit : NodesFit 0 0 (card .nodes)
-  pub wires-fit : WiresFit (length (parsedOf card .nodes)) 0 (card .wires)
+  pub wires-fit : WiresFit (length (asRead card .nodes)) 0 (card .wires)
 
 module _ (s : List ℕ) (h : Bytes s) (q : Parsed) (n : ℕ) where
   head-left : Stands s 1 8 → run n s (headBy 0 (u16At s 4) (u16At s 6)) ≡ whole q → Written s q

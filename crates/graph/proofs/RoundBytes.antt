@@ -6,10 +6,10 @@ use mathlib.Core.List.{List, [], _∷_, _++_}
 use native.Mathlib.Omega.{arith}
 use lib.ListN.{length, getD, drop}
 use lib.Seq.{getD-drop}
-use Rattle.leaves.specs.Bytes.{u16At, u32At}
-use Rattle.leaves.specs.Words.{word, word-split, Bytes}
+use Rattle.leaves.specs.Bytes.{u16At, u32At, u16Bytes, u32Bytes}
+use Rattle.leaves.specs.Words.{word, word-digits, Bytes}
 use Rattle.reading.specs.Order.{Wire}
-use Rattle.graph.specs.Write.{NodeCard, Card, u16Bytes, u32Bytes, headBytes, nodeBytes, wireBytes, endBytes, nodesBytes, wiresBytes, writeBoard}
+use Rattle.graph.specs.Write.{NodeCard, Card, headBytes, nodeBytes, wireBytes, endBytes, nodesBytes, wiresBytes, writeBoard}
 
 -- ---- the part from an offset on
 
@@ -32,9 +32,6 @@ module _ (s : List ℕ) (at : ℕ) where
 
 pub u16-back : (v : ℕ) → v < 65536 → v % 256 + v / 256 % 256 * 256 ≡ v
 u16-back v h = omega arith
-
-pub u32-back : (v : ℕ) → v < 4294967296 → word (v % 256) (v / 256 % 256) (v / 65536 % 256) (v / 16777216 % 256) ≡ v
-u32-back v h = let q : v / 16777216 % 256 ≡ v / 16777216 = omega arith in rw q (word-split v h)
 
 pub u16-small : (b : List ℕ) (k : ℕ) → Bytes b → u16At b k < 65536
 u16-small b k h = omega (arith, h k, h (k + 1))
@@ -59,18 +56,9 @@ u32-split (x ∷ []) v h l e = absurd (omega arith)
 u32-split (x ∷ y ∷ []) v h l e = absurd (omega arith)
 u32-split (x ∷ y ∷ z ∷ []) v h l e = absurd (omega arith)
 u32-split (x ∷ y ∷ z ∷ w ∷ b) v h l e =
-    let hx : x < 256 = h 0 in
-    let hy : y < 256 = h 1 in
-    let hz : z < 256 = h 2 in
-    let hw : w < 256 = h 3 in
-    let ex : x ≡ v % 256 = omega arith in
-    let qy : v / 256 ≡ y + z * 256 + w * 65536 = omega arith in
-    let qz : v / 65536 ≡ z + w * 256 = omega arith in
-    let qw : v / 16777216 ≡ w = omega arith in
-    let ey : y ≡ v / 256 % 256 = rw qy (omega arith) in
-    let ez : z ≡ v / 65536 % 256 = rw qz (omega arith) in
-    let ew : w ≡ v / 16777216 % 256 = rw qw (omega arith) in
-    λ i. ex i ∷ ey i ∷ ez i ∷ ew i ∷ b
+    let digits = word-digits x y z w v (h 0) (h 1) (h 2) e in
+    let last : w ≡ v / 16777216 % 256 = omega (arith, digits .3, h 3) in
+    λ i. digits .0 i ∷ digits .1 i ∷ digits .2 i ∷ last i ∷ b
 
 -- ---- what is written is bytes
 

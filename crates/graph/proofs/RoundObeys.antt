@@ -1,4 +1,4 @@
--- The rules that a card must obey against what the reader asks: of each node and wire in turn, and in check 6. Assumes nothing.
+-- The rules that a card must obey against what the reader asks, of each node and of each wire in turn. Assumes nothing.
 use Prim.Native.Nat.{ℕ, zero, suc, _+_, _≤_, _<_}
 use mathlib.Core.Path.{_≡_, refl, ap, subst}
 use mathlib.Core.Logic.{_↔_}
@@ -13,7 +13,7 @@ use Rattle.nodes.specs.declared.kind.NodeKind.{NodeKind}
 use Rattle.nodes.specs.declared.kind.NodeKind.the-variants.{Pass, Sum, Destination, Balance, Mul, Add, Delay, AllPass, OnePole, Sine}
 use Rattle.reading.specs.Order.{Wire}
 use Rattle.graph.specs.Board.{placed}
-use Rattle.graph.specs.Write.{NodeCard, kindOf, FieldsObey, NodeObeys, WireObeys, Each, linesOfCards}
+use Rattle.graph.specs.Write.{NodeCard, kindOf, FieldsObey, NodeObeys, WireObeys, EachAt, linesOfCards}
 use Rattle.graph.proofs.RoundRule.{kind-kept, kind-told, destination-is}
 use Rattle.graph.proofs.RoundRun.{NodeFits, NodesFit, WireFits, WiresFit}
 
@@ -36,10 +36,10 @@ module _ {A : Type 0} (P : ℕ → A → Type 0) (z : A) where
   on-from (x ∷ xs) i h zero l = subst (λ (k : ℕ). P k x) (omega arith) (h .0)
   on-from (x ∷ xs) i h (suc j) l = subst (λ (k : ℕ). P k (getD xs j z)) (omega arith) (on-from xs (i + 1) (h .1) j (omega arith))
 
-  pub each-from : (xs : List A) → Each P z xs → EachFrom P 0 xs
+  pub each-from : (xs : List A) → EachAt P z xs → EachFrom P 0 xs
   each-from xs h = from-on xs 0 (λ j l. subst (λ (k : ℕ). P k (getD xs j z)) (omega arith) (h j l))
 
-  pub from-each : (xs : List A) → EachFrom P 0 xs → Each P z xs
+  pub from-each : (xs : List A) → EachFrom P 0 xs → EachAt P z xs
   from-each xs h j l = subst (λ (k : ℕ). P k (getD xs j z)) (omega arith) (on-from xs 0 h j l)
 
 -- ---- nodes

@@ -10,18 +10,19 @@ use lib.ListN.{length, drop, length-append, length-drop}
 use lib.Dec.{leb}
 use lib.Seq.{append-snoc, drop-drop}
 use Rattle.leaves.specs.Bytes.{u16At, u32At}
+use Rattle.leaves.specs.Words.{word-split}
 use Rattle.nodes.specs.Kind.{ruleOf, lineOf, channelsOf, cellSize}
 use Rattle.nodes.specs.declared.kind.NodeRecord.{NodeRecord}
 use Rattle.nodes.specs.declared.kind.Rule.the-variants.{Is}
 use Rattle.reading.specs.Order.{Wire}
 use Rattle.graph.specs.Record.{inOrder, foundOf, foundAt}
 use Rattle.graph.specs.Board.{Parsed, going, refused, whole, headed, withNode, withWire, linesOf, cellsOf, sizeFits, nodeFits, wireFits, nodeBy, wireBy, headBy, takeFound, stepOf, run, readRecords}
-use Rattle.graph.specs.Write.{NodeCard, Card, headBytes, nodeBytes, wireBytes, endBytes, nodesBytes, wiresBytes, writeBoard, kindOf, recordsFrom, parsedOf}
+use Rattle.graph.specs.Write.{NodeCard, Card, headBytes, nodeBytes, wireBytes, endBytes, nodesBytes, wiresBytes, writeBoard, kindOf, recordsFrom, asRead}
 use Rattle.graph.specs.declared.record.Found.the-variants.{Head, Node, End}
 use Rattle.graph.specs.declared.record.Found.the-variants as found
 use Rattle.graph.proofs.Sums.{lines-snoc, cells-snoc}
 use Rattle.graph.proofs.Run.{run-done}
-use Rattle.graph.proofs.RoundBytes.{u16-on, u32-on, u16-back, u32-back}
+use Rattle.graph.proofs.RoundBytes.{u16-on, u32-on, u16-back}
 use Rattle.graph.proofs.RoundRecords.{found-in}
 
 -- ---- a board with more nodes, and with more wires
@@ -113,8 +114,8 @@ module _ (s : List ℕ) (at : ℕ) where
         let b = nodeBytes d ++ rest in
         let fo : foundAt s at last ≡ Node = finds b 2 14 high e refl refl (omega arith) in
         let t : u16At s (at + 4) ≡ d .type = u16-read b 4 e ∙ u16-back (d .type) (h .type-small) in
-        let n : u32At s (at + 6) ≡ d .n = u32-read b 6 e ∙ u32-back (d .n) (h .n-small) in
-        let f : u32At s (at + 10) ≡ d .f = u32-read b 10 e ∙ u32-back (d .f) (h .f-small) in
+        let n : u32At s (at + 6) ≡ d .n = u32-read b 6 e ∙ word-split (d .n) (h .n-small) in
+        let f : u32At s (at + 10) ≡ d .f = u32-read b 10 e ∙ word-split (d .f) (h .f-small) in
         ap (takeFound s at p) fo ∙ (λ i. nodeBy at p (ruleOf (t i) (n i) (f i))) ∙ ap (nodeBy at p) (h .rule)
         ∙ ap (λ (x : Bool). cond x (going (at + 14) 2 (withNode p (kindOf d))) (refused 4 at)) (h .fits)
 
@@ -181,7 +182,7 @@ head-step s p N i rest e hN hi fits =
 
 -- the records of a card, each as the reader asks it, are read whole
 pub records-read : (c : Card) → c .size < 65536 → c .input < 65536 → sizeFits (c .size) ≡ true → NodesFit 0 0 (c .nodes)
-    → WiresFit (length (parsedOf c .nodes)) 0 (c .wires) → readRecords (writeBoard c) ≡ whole (parsedOf c)
+    → WiresFit (length (asRead c .nodes)) 0 (c .wires) → readRecords (writeBoard c) ≡ whole (asRead c)
 unfolding readRecords run writeBoard
 records-read c hN hi fits h k =
     let rest = nodesBytes (c .nodes) ++ wiresBytes (c .wires) ++ endBytes in

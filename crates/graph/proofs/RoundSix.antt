@@ -14,7 +14,7 @@ use Rattle.reading.specs.Order.{Wire, sources}
 use Rattle.graph.specs.Sources.{distinctSources}
 use Rattle.graph.specs.Board.{Parsed, Reading, refused, whole}
 use Rattle.graph.specs.Judge.{passAt, inputFits, checkSources, checkSix}
-use Rattle.graph.specs.Write.{NodeCard, Card, kindOf, recordsFrom, parsedOf, NodeObeys, SourcesObey, noNode}
+use Rattle.graph.specs.Write.{NodeCard, Card, kindOf, recordsFrom, asRead, NodeObeys, SourcesObey, noNode}
 use Rattle.graph.proofs.Run.{refused-is-not-whole}
 use Rattle.graph.proofs.RoundRule.{pass-is}
 use Rattle.graph.proofs.RoundObeys.{EachFrom}
@@ -104,29 +104,29 @@ pub record Six (c : Card) : Type 0 where
   pub sources : EachFrom (SourcesObey (c .wires)) 0 (c .nodes)
 
 module _ (c : Card) (known : EachFrom NodeObeys 0 (c .nodes)) where
-  count-is : length (parsedOf c .nodes) ≡ length (c .nodes)
+  count-is : length (asRead c .nodes) ≡ length (c .nodes)
   count-is = records-length (c .size) 0 (c .nodes)
 
-  pass-is-at : passAt (parsedOf c .nodes) (c .input) ≡ eqb ((getD (c .nodes) (c .input) noNode) .type) 1
+  pass-is-at : passAt (asRead c .nodes) (c .input) ≡ eqb ((getD (c .nodes) (c .input) noNode) .type) 1
   pass-is-at = pass-at (c .size) (c .nodes) 0 (c .input) 0 known
 
   abbrev empty : Bool
   empty = eqb (length (sources (c .wires) (c .input))) 0
 
-  pub six-in : Six c → checkSix (parsedOf c) ≡ whole (parsedOf c)
+  pub six-in : Six c → checkSix (asRead c) ≡ whole (asRead c)
   six-in h =
-      let p = parsedOf c in
+      let p = asRead c in
       let some : eqb (length (p .nodes)) 0 ≡ false = ne-eqb (length (p .nodes)) 0 (λ e. omega (arith, count-is, h .some-node)) in
       let input : inputFits p ≡ true =
       and-eq-true-iff (passAt (p .nodes) (c .input)) empty .1
       (pass-is-at ∙ eq-eqb _ _ (h .input-pass), eq-eqb _ _ (free-in (c .input) (c .wires) 0 (h .input-free))) in
       (λ i. cond (some i) (refused 6 0) (cond (input i) (checkSources p 0 (p .nodes)) (refused 6 (c .input)))) ∙ each-in p (c .size) (c .nodes) 0 0 (h .sources)
 
-  pub six-told : (q : Parsed) → checkSix (parsedOf c) ≡ whole q → Six c × (parsedOf c ≡ q)
-  six-told q = go (eqb (length (parsedOf c .nodes)) 0) refl (inputFits (parsedOf c)) refl
+  pub six-told : (q : Parsed) → checkSix (asRead c) ≡ whole q → Six c × (asRead c ≡ q)
+  six-told q = go (eqb (length (asRead c .nodes)) 0) refl (inputFits (asRead c)) refl
     where
       p : Parsed
-      p = parsedOf c
+      p = asRead c
 
       go : (b : Bool) → eqb (length (p .nodes)) 0 ≡ b → (f : Bool) → inputFits p ≡ f
           → cond b (refused 6 0) (cond f (checkSources p 0 (p .nodes)) (refused 6 (c .input))) ≡ whole q → Six c × (p ≡ q)

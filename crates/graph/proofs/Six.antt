@@ -20,10 +20,6 @@ use Rattle.graph.specs.Sources.{addNew, addAll, distinct, distinctSource
 use Rattle.graph.specs.Judge.{passAt, inputFits, checkSources, checkSix, thenSix, readBoard, answerBy, judgeOf}
 use Rattle.graph.proofs.Choice.{pick}
 
--- what the code's reads take for an element past the end
-abbrev pub blank : NodeRecord
-blank = record { kind = Pass; channels = 0; cell = 0 }
-
 -- ---- the counts of the table, nine standing for more than eight
 
 fewest-few : (k : NodeKind) → fewest k ≤ 9

@@ -8,17 +8,16 @@ use mathlib.Core.List.{List}
 use Rattle.reading.specs.Order.{Wire, Each}
 use Rattle.reading.proofs.Order.{each-source}
 use Rattle.graph.specs.Judge.{readBoard}
-use Rattle.graph.specs.Phases.{Within}
-use Rattle.graph.specs.Wires.{wiresFrom, wiresOf}
+use Rattle.graph.specs.Wires.{Within, wiresFrom, wiresOf}
 use Rattle.graph.specs.Read.{parsedOf, Read}
 use Rattle.graph.specs.Write.{WireObeys}
 use Rattle.graph.specs.Visit.{visitingList, Lists}
 use Rattle.graph.specs.Walking.{Table, Gathered}
-use Rattle.graph.specs.Listed.{SourcesBelow, ListsReached}
+use Rattle.graph.specs.Listed.{SourcesBelow}
 use Rattle.graph.specs.Tail.{tailBy, tailOf, LinesFit}
 use Rattle.graph.specs.declared.board.Board.{Board}
 use Rattle.graph.proofs.Accepted.{accepted-formed, count-is, table-at}
-use Rattle.graph.proofs.Listed.{lists-reached, listed-within}
+use Rattle.graph.proofs.Listed.{listed-within}
 use Rattle.graph.proofs.Lines.{tail-of, lines-fit}
 
 joins-below : (n : ℕ) (ws : List Wire) → Each (WireObeys n) ws → SourcesBelow ws n
@@ -43,7 +42,7 @@ module _ (s : List ℕ) (b : Board) (read : Read (readBoard s) b) (accepted : b 
   some-nodes = subst (λ (n : ℕ). 0 < n) (count-is s b read accepted) (accepted-formed s b read accepted .some-nodes)
 
   pub sources-below : SourcesBelow (wiresIn b) (b .count)
-  sources-below = subst (SourcesBelow (wiresIn b)) (count-is s b read accepted) (joins-below _ (wiresIn b) (accepted-formed s b read accepted .records .joins))
+  sources-below = subst (SourcesBelow (wiresIn b)) (count-is s b read accepted) (joins-below _ (wiresIn b) (accepted-formed s b read accepted .joins))
 
   -- the two ends of the wires, in their arrays
   pub sources-within : Within 64 (b .sources) (b .wires)
@@ -62,17 +61,13 @@ module _ (s : List ℕ) (b : Board) (read : Read (readBoard s) b) (accepted : b 
   pub gathered : Gathered (wiresIn b) (b .counts) (b .lists)
   gathered = record { size = λ v h. table-at s b read accepted v h .count-is; source = λ v j h l. table-at s b read accepted v h .source-is j l }
 
-  -- what holds of the visiting list
-  pub lists-all : ListsReached (wiresIn b) (visitingList (wiresIn b))
-  lists-all = lists-reached (wiresIn b) (λ k i e. le-trans (sources-below k i e) (read .sound .few-nodes))
-
   module _ (nodes : List ℕ) (count : ℕ) (l : Lists (visitingList (wiresIn b)) nodes count) where
     -- listed nodes are the board's
     pub listed-in : Within (b .count) nodes count
     listed-in = listed-within (wiresIn b) nodes count l (b .count) some-nodes (read .sound .few-nodes) sources-below
 
     pub lines-listed : LinesFit (b .nodes) nodes count
-    lines-listed = lines-fit (parsedOf b) (b .nodes) (b .count) refl some-nodes (read .sound .few-nodes) sources-below (accepted-formed s b read accepted .records .few-lines) nodes count listed-in
+    lines-listed = lines-fit (parsedOf b) (b .nodes) (b .count) refl some-nodes (read .sound .few-nodes) sources-below (accepted-formed s b read accepted .few-lines) nodes count listed-in
 
   pub board-tail : tailBy (b .nodes) (wiresIn b) (visitingList (wiresIn b)) ≡ tailOf (parsedOf b)
   board-tail = tail-of (parsedOf b) (b .nodes) (b .count) refl some-nodes (read .sound .few-nodes) sources-below

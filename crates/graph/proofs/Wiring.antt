@@ -9,8 +9,7 @@ use native.Mathlib.Omega.{arith}
 use lib.ListN.{length, getD, set}
 use lib.Seq.{getD-set-same, getD-set-other}
 use Rattle.graph.specs.Board.{wire}
-use Rattle.graph.specs.Wires.{wiresFrom, wiresOf}
-use Rattle.graph.specs.Phases.{Within}
+use Rattle.graph.specs.Wires.{Within, wiresFrom, wiresOf}
 
 -- a number stored at the next place
 pub within-more : (n : ℕ) (l : List ℕ) (w a : ℕ) → w < length l → a < n → Within n l w → Within n (set l w a) (w + 1)

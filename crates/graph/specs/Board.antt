@@ -8,6 +8,7 @@ use lib.Dec.{ltb, leb, eqb}
 use Rattle.leaves.specs.Bytes.{u16At, u32At}
 use Rattle.nodes.specs.Kind.{ruleOf, lineOf, channelsOf, cellSize, isDestination}
 use Rattle.nodes.specs.declared.kind.NodeKind.{NodeKind}
+use Rattle.nodes.specs.declared.kind.NodeKind.the-variants.{Pass}
 use Rattle.nodes.specs.declared.kind.NodeRecord.{NodeRecord}
 use Rattle.nodes.specs.declared.kind.Rule.{Rule}
 use Rattle.nodes.specs.declared.kind.Rule.the-variants.{Is, Broken}
@@ -23,6 +24,10 @@ pub record Parsed : Type 0 where
   pub input : ℕ
   pub nodes : List NodeRecord
   pub wires : List Wire
+
+-- what fills an array of nodes, and stands past its end
+abbrev pub blank : NodeRecord
+blank = record { kind = Pass; channels = 0; cell = 0 }
 
 abbrev pub wire : ℕ → ℕ → Wire
 wire s t = record { source = s; target = t }

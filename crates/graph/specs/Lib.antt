@@ -1,18 +1,21 @@
--- What the contracts of `graph` cite: document 01's boards, judge and calls.
+-- What the contracts of `graph` cite: document 01's boards, judge, visiting list, late wires and tail, with worked cases.
 pub mod Answer
 pub mod Record
-pub mod Sources
 pub mod Board
+pub mod Sources
 pub mod Judge
-pub mod Wires
-pub mod Phases
-pub mod Gather
-pub mod Read
+pub mod JudgeCases
+pub mod Write
 pub mod Visit
 pub mod Listed
 pub mod Late
-pub mod Tail
 pub mod Walks
-pub mod Write
+pub mod Tail
+pub mod VisitCases
+-- the same in arrays, as the code has it
+pub mod Wires
+pub mod Parts
+pub mod Gather
+pub mod Read
 pub mod Formed
 pub mod Walking

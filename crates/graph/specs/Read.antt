@@ -4,8 +4,8 @@ use mathlib.Core.Path.{_≡_}
 use lib.ListN.{length, take}
 use Rattle.graph.specs.Board.{Parsed, Reading, whole, cellsOf}
 use Rattle.graph.specs.Sources.{Tabled}
-use Rattle.graph.specs.Wires.{wiresOf}
-use Rattle.graph.specs.Phases.{orRefused, Within}
+use Rattle.graph.specs.Wires.{Within, wiresOf}
+use Rattle.graph.specs.Parts.{orRefused}
 use Rattle.graph.specs.declared.board.Board.{Board}
 
 -- what the arrays say, as far as they are filled

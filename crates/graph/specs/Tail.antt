@@ -10,7 +10,7 @@ use Rattle.nodes.specs.declared.kind.NodeKind.{NodeKind}
 use Rattle.nodes.specs.declared.kind.NodeKind.the-variants.{Pass, Sum, Destination, Balance, Mul, Add, Delay, AllPass, OnePole, Sine}
 use Rattle.nodes.specs.declared.kind.NodeRecord.{NodeRecord}
 use Rattle.reading.specs.Order.{Wire}
-use Rattle.graph.specs.Board.{Parsed}
+use Rattle.graph.specs.Board.{Parsed, blank}
 use Rattle.graph.specs.Judge.{readBoard, answerBy}
 use Rattle.graph.specs.Visit.{visitingList}
 use Rattle.graph.specs.Late.{lateWires}
@@ -29,9 +29,6 @@ delays (Delay n) = true
 delays (AllPass n f) = false
 delays (OnePole f) = false
 delays (Sine f) = false
-
-abbrev pub blank : NodeRecord
-blank = record { kind = Pass; channels = 0; cell = 0 }
 
 -- the type of node k; a listed node is never missing
 abbrev pub kindAt : List NodeRecord → ℕ → NodeKind

@@ -1,7 +1,7 @@
 -- A board as document 01, "Board bytes", describes it, without a word on how it is read: a card with a block size, an input node, node
 -- descriptions and wires; the bytes that are written for it; the rules that it must obey; and what a reader makes of it.
 -- `proofs/Round.antt` shows that the judge accepts exactly the bytes of the cards that obey. Definitions only.
-use Prim.Native.Nat.{ℕ, _+_, _/_, _%_, _<_, _≤_}
+use Prim.Native.Nat.{ℕ, _+_, _%_, _<_, _≤_}
 use mathlib.Core.Path.{_≡_}
 use mathlib.Core.Logic.{_↔_}
 use mathlib.Core.Bool.{true, cond}
@@ -9,6 +9,7 @@ use mathlib.Core.List.{List, [], _∷_, _++_}
 use lib.ListN.{length, getD}
 use lib.Dec.{eqb}
 use lib.Ieee.{le, ofBits, binary32}
+use Rattle.leaves.specs.Bytes.{u16Bytes, u32Bytes}
 use Rattle.nodes.specs.Kind.{lineOf, channelsOf, cellSize, fewest, most}
 use Rattle.nodes.specs.declared.kind.NodeKind.{NodeKind}
 use Rattle.nodes.specs.declared.kind.NodeKind.the-variants.{Pass, Sum, Destination, Balance, Mul, Add, Delay, AllPass, OnePole, Sine}
@@ -30,13 +31,6 @@ pub record Card : Type 0 where
   pub wires : List Wire
 
 -- ---- the bytes
-
--- a number in 2 bytes, and in 4, the lowest first
-abbrev pub u16Bytes : ℕ → List ℕ
-u16Bytes v = v % 256 ∷ v / 256 % 256 ∷ []
-
-abbrev pub u32Bytes : ℕ → List ℕ
-u32Bytes v = v % 256 ∷ v / 256 % 256 ∷ v / 65536 % 256 ∷ v / 16777216 % 256 ∷ []
 
 -- a record: its length, its kind, its body
 abbrev pub headBytes : ℕ → ℕ → List ℕ
@@ -85,14 +79,14 @@ recordsFrom N start [] = []
 recordsFrom N start (d ∷ ds) =
     record { kind = kindOf d; channels = channelsOf (kindOf d); cell = start } ∷ recordsFrom N (start + cellSize N (kindOf d)) ds
 
-abbrev pub parsedOf : Card → Parsed
-parsedOf c = record { size = c .size; input = c .input; nodes = recordsFrom (c .size) 0 (c .nodes); wires = c .wires }
+abbrev pub asRead : Card → Parsed
+asRead c = record { size = c .size; input = c .input; nodes = recordsFrom (c .size) 0 (c .nodes); wires = c .wires }
 
 -- ---- the rules
 
 -- P of each element of a list and its number; z stands past the end
-abbrev pub Each : {A : Type 0} → (ℕ → A → Type 0) → A → List A → Type 0
-Each P z xs = (i : ℕ) → i < length xs → P i (getD xs i z)
+abbrev pub EachAt : {A : Type 0} → (ℕ → A → Type 0) → A → List A → Type 0
+EachAt P z xs = (i : ℕ) → i < length xs → P i (getD xs i z)
 
 -- what stands past the end: no type has the number 0
 abbrev pub noNode : NodeCard
@@ -167,10 +161,10 @@ pub record Obeys (c : Card) : Type 0 where
   pub most-size : c .size ≤ 128
   pub some-node : 1 ≤ length (c .nodes)
   pub few-nodes : length (c .nodes) ≤ 64
-  pub nodes : Each NodeObeys noNode (c .nodes)
+  pub nodes : EachAt NodeObeys noNode (c .nodes)
   pub few-lines : linesOfCards (c .nodes) ≤ 262144
   pub few-wires : length (c .wires) ≤ 128
-  pub wires : Each (λ j. WireObeys (length (c .nodes))) noWire (c .wires)
-  pub sources : Each (SourcesObey (c .wires)) noNode (c .nodes)
+  pub wires : EachAt (λ j. WireObeys (length (c .nodes))) noWire (c .wires)
+  pub sources : EachAt (SourcesObey (c .wires)) noNode (c .nodes)
   pub input-pass : (getD (c .nodes) (c .input) noNode) .type ≡ 1
-  pub input-free : Each (λ j w. w .target ≡ c .input → ⊥) noWire (c .wires)
+  pub input-free : EachAt (λ j w. w .target ≡ c .input → ⊥) noWire (c .wires)

@@ -6,7 +6,7 @@ ghost use lib.ListN.{length};
 ghost use Rattle.leaves.specs.Bytes.{u16At};
 ghost use Rattle.graph.specs.Record.{foundAt};
 ghost use Rattle.graph.specs.Board.{Parsed, going, refused, whole, headed, placed, nodeFits, wireFits, headBy, endBy, stepOf, readRecords};
-ghost use Rattle.graph.specs.Phases.{orRefused, nodeRead, wireRead, madeOf, HeadRead, NodesRead, WiresRead};
+ghost use Rattle.graph.specs.Parts.{orRefused, nodeRead, wireRead, madeOf, HeadRead, NodesRead, WiresRead};
 ghost use Rattle.graph.specs.Read.{Read};
 use crate::answer::Answer;
 use crate::reader::read_record;
@@ -104,17 +104,16 @@ pub struct Board {
     pub seconds: [u8; 64],
 }
 
-// One record of the nodes or of the wires: what it says, or that the part is over, or a refusal.
+// One record of the nodes or of the wires: what it says, or the number that ends the part, 0 where
+// another kind follows and else the refusal's.
 pub enum NodeRead {
     Is(NodeKind),
-    Over,
-    Refused(u32),
+    Ends(u32),
 }
 
 pub enum WireRead {
     Is(u8, u8),
-    Over,
-    Refused(u32),
+    Ends(u32),
 }
 
 // A refusal in place of a head.
@@ -192,10 +191,10 @@ fn node_body(s: &[u8], at: usize, i: usize, lines: usize) -> NodeRead
             if node_fits(i, lines, k) {
                 NodeRead::Is(k)
             } else {
-                NodeRead::Refused(4)
+                NodeRead::Ends(4)
             }
         }
-        Rule::Broken => NodeRead::Refused(4),
+        Rule::Broken => NodeRead::Ends(4),
     }
 }
 
@@ -205,11 +204,11 @@ fn node_at(s: &[u8], at: usize, i: usize, lines: usize) -> NodeRead
     ensures { λ r. ⌜ r ≡ nodeRead (now (s .entry)) at i lines (foundAt (now (s .entry)) at 2) ⌝ }
 {
     match read_record(s, at, 2) {
-        Found::Head => NodeRead::Over,
+        Found::Head => NodeRead::Ends(0),
         Found::Node => node_body(s, at, i, lines),
-        Found::Wire => NodeRead::Over,
-        Found::End => NodeRead::Over,
-        Found::Refused(number) => NodeRead::Refused(number),
+        Found::Wire => NodeRead::Ends(0),
+        Found::End => NodeRead::Ends(0),
+        Found::Refused(number) => NodeRead::Ends(number),
     }
 }
 
@@ -247,8 +246,7 @@ fn read_nodes(s: &[u8], size: usize) -> Nodes
                 values += 3 + size * channels + line;
                 next += 14;
             }
-            NodeRead::Over => return Nodes::new(Answer::new(0, 0), count, nodes, values, next),
-            NodeRead::Refused(number) => {
+            NodeRead::Ends(number) => {
                 return Nodes::new(Answer::new(number, next), count, nodes, values, next);
             }
         }
@@ -272,7 +270,7 @@ fn wire_body(s: &[u8], at: usize, i: usize, w: usize) -> WireRead
     if wire_fits(i, w, a, t) {
         WireRead::Is(a as u8, t as u8)
     } else {
-        WireRead::Refused(5)
+        WireRead::Ends(5)
     }
 }
 
@@ -282,11 +280,11 @@ fn wire_at(s: &[u8], at: usize, i: usize, w: usize) -> WireRead
     ensures { λ r. ⌜ r ≡ wireRead (now (s .entry)) at i w (foundAt (now (s .entry)) at 3) ⌝ }
 {
     match read_record(s, at, 3) {
-        Found::Head => WireRead::Over,
-        Found::Node => WireRead::Over,
+        Found::Head => WireRead::Ends(0),
+        Found::Node => WireRead::Ends(0),
         Found::Wire => wire_body(s, at, i, w),
-        Found::End => WireRead::Over,
-        Found::Refused(number) => WireRead::Refused(number),
+        Found::End => WireRead::Ends(0),
+        Found::Refused(number) => WireRead::Ends(number),
     }
 }
 
@@ -307,8 +305,7 @@ fn read_wires(s: &[u8], start: usize, i: usize) -> Wires
                 count += 1;
                 next += 8;
             }
-            WireRead::Over => return Wires::new(Answer::new(0, 0), count, sources, targets, next),
-            WireRead::Refused(number) => {
+            WireRead::Ends(number) => {
                 return Wires::new(Answer::new(number, next), count, sources, targets, next);
             }
         }
@@ -383,6 +380,9 @@ fn read_last(s: &[u8], head: Head, read: Nodes, wired: Wires) -> Board
 }
 
 // The board that the records make, or the first refusal: checks 1 to 5.
+// Ruled out, and tried by must-fail edits: a block size of 129 (size_129), a node 0 of another type
+// (node_0_anything), a 65th node (node_65), lines of 262,145 (lines_one_more), a wire from a node to
+// itself (self_wire), a 129th wire (wire_129).
 pub fn read_records(s: &[u8]) -> Board
     ensures { λ r. ⌜ Read (readRecords (now (s .entry))) r ⌝ }
 {

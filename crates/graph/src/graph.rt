@@ -5,12 +5,11 @@ ghost use Prim.Native.Nat.{ℕ, _<_, _≤_};
 ghost use lib.ListN.{length, take};
 ghost use Rattle.reading.specs.Order.{Wire};
 ghost use Rattle.graph.specs.Board.{wire};
-ghost use Rattle.graph.specs.Wires.{wiresOf};
-ghost use Rattle.graph.specs.Phases.{Within};
+ghost use Rattle.graph.specs.Wires.{Within, wiresOf};
 ghost use Rattle.graph.specs.Visit.{visitingList, Lists};
 ghost use Rattle.graph.specs.Walking.{Table, Gathered, Ready, Visited};
 ghost use Rattle.graph.specs.Late.{isLate, lateWires, Placed};
-use crate::sources::wide;
+use leaves::bytes::wide;
 
 // The walk from `node`, which is not marked yet: marks it, goes to each of its sources that is not
 // marked, then lists it after the `count` nodes listed so far. Returns how many are listed then.
@@ -48,6 +47,8 @@ pub struct Order {
 }
 
 // The visiting list of the wires whose sources are gathered in the two arrays.
+// Ruled out, and tried by must-fail edits: a node listed before its sources (lists_before_sources), the
+// newest wire first (newest_wire_first).
 pub fn visiting_list<'a>(counts: &'a [u8; 64], lists: &'a [u8; 512]) -> Order
     requires { ⌜ Table (now counts) (now lists) ⌝ }
     ensures { λ r. ⌜ ((ws : List Wire) → Gathered ws (now (counts .entry)) (now (lists .entry)) → Lists (visitingList ws) (r .nodes) (r .count)) ⌝ }
@@ -74,6 +75,8 @@ pub fn places(nodes: &[u8; 64], count: usize) -> [u8; 64]
 }
 
 // Whether a wire is late in the list of `count` nodes whose places are given.
+// Ruled out, and tried by must-fail edits: late for on time (late_inverted), the plate's loop broken at
+// fb2 to wet7 (plate_loop_elsewhere).
 pub fn is_late(places: &[u8; 64], count: usize, source: usize, target: usize) -> bool
     requires { ⌜ (source < 64) × (target < 64) ⌝ }
     ensures { λ r. ⌜ ((l : List ℕ) → length l ≡ count → Placed l (now (places .entry)) → r ≡ isLate l (wire source target)) ⌝ }

@@ -3,12 +3,12 @@ ghost use mathlib.Core.Path.{_≡_};
 ghost use lib.ListN.{take};
 ghost use Rattle.graph.specs.Board.{whole};
 ghost use Rattle.graph.specs.Judge.{inputFits, checkSources, checkSix, readBoard, judgeOf};
-ghost use Rattle.graph.specs.Phases.{orRefused};
+ghost use Rattle.graph.specs.Parts.{orRefused};
 ghost use Rattle.graph.specs.Read.{parsedOf, Sound, Read};
 use crate::answer::Answer;
 use crate::board::Board;
 use crate::board::read_records;
-use crate::sources::wide;
+use leaves::bytes::wide;
 use nodes::kind::is_pass;
 use nodes::kind::sources_fit;
 
@@ -60,6 +60,8 @@ fn judged(board: Board) -> Answer
 }
 
 // The board that the bytes hold, or the first refusal: checks 1 to 6.
+// Ruled out, and tried by must-fail edits: one that refuses every board (refuses_all), one that takes an
+// input node with wires in (input_with_wires).
 pub fn read_board(s: &[u8]) -> Board
     ensures { λ r. ⌜ Read (readBoard (now (s .entry))) r ⌝ }
 {
@@ -74,6 +76,8 @@ pub fn read_board(s: &[u8]) -> Board
 }
 
 // The board judge: a refusal, or 0 and the memory's length.
+// Ruled out: a memory length that is not the sum of the cells (memory_invented, one_channel), a count of
+// wires and not of distinct sources (repeat_counts).
 pub fn judge(s: &[u8]) -> Answer
     ensures { λ r. ⌜ r ≡ judgeOf (now (s .entry)) ⌝ }
 {

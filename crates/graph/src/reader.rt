@@ -19,6 +19,7 @@ pub fn open<'a>(bytes: &'a [u8], at: usize) -> Reader<'a>
 }
 
 // What stands at the reader's offset, after a record of kind `last` (0: none).
+// Ruled out, and tried by a must-fail edit: a reader that forgets its offset (reader_forgets_offset).
 pub fn next<'a>(r: Reader<'a>, last: u16) -> Found
     ensures { λ f. ⌜ f ≡ foundAt (now (r .entry .bytes)) (r .entry .at) last ⌝ }
 {

@@ -3,8 +3,8 @@ ghost use mathlib.Core.Path.{_≡_};
 ghost use Prim.Native.Nat.{_+_, _≤_};
 ghost use Rattle.graph.specs.Sources.{Tabled};
 ghost use Rattle.graph.specs.Gather.{among, countWith, listWith, secondWith};
-ghost use Rattle.graph.specs.Phases.{Within};
-ghost use Rattle.graph.specs.Wires.{wiresOf};
+ghost use Rattle.graph.specs.Wires.{Within, wiresOf};
+use leaves::bytes::wide;
 
 // For each node: how many distinct sources it has, nine standing for more than eight; the first
 // eight of them by first wire, from 8 * node on; and the source of the second wire.
@@ -12,12 +12,6 @@ pub struct Table {
     pub counts: [u8; 64],
     pub lists: [u8; 512],
     pub seconds: [u8; 64],
-}
-
-pub fn wide(x: u8) -> usize
-    ensures { λ r. ⌜ r ≡ x ⌝ }
-{
-    x as usize
 }
 
 // Whether x is one of the n numbers from `start` on.
@@ -61,6 +55,8 @@ fn second(n: u8, old: u8, x: u8) -> u8
 }
 
 // The table of the wires, each into a node below 64.
+// Ruled out, and tried by must-fail edits: a repeated wire that counts twice (repeat_counts), sources
+// from the newest wire on (newest_wire_first).
 pub fn table_of(sources: &[u8; 128], targets: &[u8; 128], wires: usize) -> Table
     requires { ⌜ (wires ≤ 128) × Within 64 (now targets) wires ⌝ }
     ensures { λ r. ⌜ Tabled (wiresOf (now (sources .entry)) (now (targets .entry)) wires) (r .counts) (r .lists) (r .seconds) ⌝ }

@@ -3,15 +3,14 @@ ghost use mathlib.Core.Path.{_≡_};
 ghost use mathlib.Core.Bool.{cond};
 ghost use Prim.Native.Nat.{_≤_};
 ghost use lib.ListN.{length, take};
-ghost use Rattle.graph.specs.Wires.{wiresOf};
-ghost use Rattle.graph.specs.Phases.{Within};
+ghost use Rattle.graph.specs.Wires.{Within, wiresOf};
 ghost use Rattle.graph.specs.Tail.{delays, onlyDelays, listedLines, endless, tailBy, tailAnswer, LinesFit};
 use crate::answer::Answer;
 use crate::graph::late_count;
 use crate::graph::places;
 use crate::graph::visiting_list;
 use crate::judge::read_board;
-use crate::sources::wide;
+use leaves::bytes::wide;
 use nodes::kind::NodeKind;
 use nodes::kind::NodeRecord;
 use nodes::kind::line_of;
@@ -81,6 +80,9 @@ fn tail<'a>(
 }
 
 // The tail call: a refusal, or 0 and the tail.
+// Ruled out, and tried by must-fail edits: each tail endless (tail_endless_on_time), an answer before the
+// nodes are visited (tail_before_visiting), lines of nodes that are not listed (tail_unlisted_lines), an
+// add taken for a delay (tail_adds_quiet).
 pub fn tail_of(s: &[u8]) -> Answer
     ensures { λ r. ⌜ r ≡ tailAnswer (now (s .entry)) ⌝ }
 {

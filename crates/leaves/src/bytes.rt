@@ -3,7 +3,8 @@
 ghost use mathlib.Core.Path.{_≡_};
 ghost use Prim.Native.Nat.{_+_, _*_, _≤_};
 ghost use lib.ListN.{length, getD, set};
-ghost use Rattle.leaves.specs.Bytes.{u16At, u32At};
+ghost use lib.Seq.{sets};
+ghost use Rattle.leaves.specs.Bytes.{u16At, u32At, u16Bytes, u32Bytes};
 ghost use Rattle.leaves.specs.Words.{words, word};
 
 // A byte as an index or a count.
@@ -41,13 +42,32 @@ pub fn u32_at(s: &[u8], at: usize) -> u32
     joined(s[at], s[at + 1], s[at + 2], s[at + 3])
 }
 
+// Stores v in the two bytes at `at`, the lowest first.
+pub fn put_u16(s: &mut [u8], at: usize, v: u16)
+    requires { ⌜ at + 2 ≤ length (now s) ⌝ }
+    ensures { λ _. ⌜ now (s .exit) ≡ sets (now (s .entry)) at (u16Bytes v) ⌝ }
+{
+    s[at] = (v % 256) as u8;
+    s[at + 1] = (v / 256 % 256) as u8;
+}
+
+// Stores v in the four bytes at `at`, the lowest first.
+pub fn put_u32(s: &mut [u8], at: usize, v: u32)
+    requires { ⌜ at + 4 ≤ length (now s) ⌝ }
+    ensures { λ _. ⌜ now (s .exit) ≡ sets (now (s .entry)) at (u32Bytes v) ⌝ }
+{
+    s[at] = (v % 256) as u8;
+    s[at + 1] = (v / 256 % 256) as u8;
+    s[at + 2] = (v / 65536 % 256) as u8;
+    s[at + 3] = (v / 16777216 % 256) as u8;
+}
+
 // The word at k, counted in words.
 pub fn word_at(mem: &[u8], k: usize) -> u32
     requires { ⌜ 4 * k + 4 ≤ length (now mem) ⌝ }
     ensures { λ r. ⌜ r ≡ getD (words (now (mem .entry))) k 0 ⌝ }
 {
-    let at = 4 * k;
-    joined(mem[at], mem[at + 1], mem[at + 2], mem[at + 3])
+    u32_at(mem, 4 * k)
 }
 
 // Stores v as the word at k.
@@ -55,9 +75,5 @@ pub fn put_word(mem: &mut [u8], k: usize, v: u32)
     requires { ⌜ 4 * k + 4 ≤ length (now mem) ⌝ }
     ensures { λ _. ⌜ words (now (mem .exit)) ≡ set (words (now (mem .entry))) k v ⌝ }
 {
-    let at = 4 * k;
-    mem[at] = (v % 256) as u8;
-    mem[at + 1] = (v / 256 % 256) as u8;
-    mem[at + 2] = (v / 65536 % 256) as u8;
-    mem[at + 3] = (v / 16777216) as u8;
+    put_u32(mem, 4 * k, v);
 }

@@ -5,8 +5,7 @@ ghost use mathlib.Core.List.{[], _∷_, _++_};
 ghost use Prim.Native.Nat.{_+_, _*_, _<_, _≤_};
 ghost use lib.ListN.{length, take};
 ghost use Rattle.graph.specs.Judge.{readBoard};
-ghost use Rattle.graph.specs.Phases.{Within};
-ghost use Rattle.graph.specs.Wires.{wiresOf};
+ghost use Rattle.graph.specs.Wires.{Within, wiresOf};
 ghost use Rattle.graph.specs.Visit.{visitingList};
 ghost use Rattle.graph.specs.Walking.{Table, Gathered};
 ghost use Rattle.graph.specs.Late.{lateWires, Placed};
@@ -15,7 +14,7 @@ use graph::graph::is_late;
 use graph::graph::places;
 use graph::graph::visiting_list;
 use graph::judge::read_board;
-use graph::sources::wide;
+use leaves::bytes::wide;
 
 fn put(out: &mut [u8], at: usize, byte: u8) -> usize
     requires { ⌜ at < length (now out) ⌝ }

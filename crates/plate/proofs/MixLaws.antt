@@ -12,7 +12,7 @@ use lib.Ieee.Fits.{sub-fits}
 use lib.ListN.{length, getD, length-set}
 use lib.Seq.{getD-set-same, getD-set-other}
 use Rattle.leaves.specs.Floors.{f1, finiteF}
-use Rattle.leaves.specs.Words.{words, unwords, length-words, words-unwords, length-unwords}
+use Rattle.leaves.specs.Words.{words, unwords, length-words, words-unwords, length-unwords, Bytes}
 use Rattle.nodes.specs.Cell.{takesNumber, valueFits}
 use Rattle.nodes.specs.declared.kind.NodeKind.{NodeKind}
 use Rattle.nodes.specs.declared.kind.NodeKind.the-variants.{Pass, Sum, Destination, Balance, Mul, Add, Delay, AllPass, OnePole, Sine}
@@ -21,9 +21,9 @@ use Rattle.graph.specs.Board.{Parsed, Reading, going, refused, whole, memoryLen
 use Rattle.graph.specs.Judge.{readBoard}
 use Rattle.context.specs.Memory.{passed, nodeAt, kindAt}
 use Rattle.context.specs.Calls.{andThen, checkMemory, changeBy, checkNumber, checkMessage, setNumber, messageOf}
-use Rattle.graph.specs.Formed.{Formed}
+use Rattle.context.specs.Fine.{Fine}
 use Rattle.graph.proofs.Ending.{Ended, board-ends}
-use Rattle.graph.proofs.Formed.{whole-formed}
+use Rattle.context.proofs.FineBoard.{fine-board}
 use Rattle.context.proofs.CallCells.{cell-in, cell-apart}
 use Rattle.context.proofs.CallChecks.{then-both}
 use Rattle.context.proofs.CallBy.{change-passes}
@@ -65,7 +65,7 @@ mul-fits (Sine f) x e n = absurd (false≢true e)
 
 -- ---- one number message to a mul
 
-module _ (s : List ℕ) (p : Parsed) (reads : readBoard s ≡ whole p) (formed : Formed p) where
+module _ (s : List ℕ) (p : Parsed) (reads : readBoard s ≡ whole p) (fine : Fine p) where
   -- memory that every check up to 8 passes, and its words
   record Ready (m ws : List ℕ) : Type 0 where
     is : words m ≡ ws
@@ -91,8 +91,8 @@ module _ (s : List ℕ) (p : Parsed) (reads : readBoard s ≡ whole p) (formed :
     ready : Ready (unwords (setNumber p k x ws)) (setNumber p k x ws)
     ready = record {
       is = words-unwords (setNumber p k x ws);
-      size = length-unwords (setNumber p k x ws) ∙ omega (arith, set-long p formed ws all k x (mul .0), all);
-      judged = set-judged p formed ws all k x (mul .0) fit (mul-fits (kindAt p k) x (mul .1) number) (r .judged);
+      size = length-unwords (setNumber p k x ws) ∙ omega (arith, set-long p fine ws all k x (mul .0), all);
+      judged = set-judged p fine ws all k x (mul .0) fit (mul-fits (kindAt p k) x (mul .1) number) (r .judged);
     }
 
   -- ---- the four
@@ -152,10 +152,10 @@ module _ (s : List ℕ) (p : Parsed) (reads : readBoard s ≡ whole p) (formed :
 
     -- two of the nodes, the first before the second, have their numbers at different places
     apart : (j k : ℕ) → j < k → k < length (p .nodes) → nodeAt p j .cell ≡ nodeAt p k .cell → ⊥
-    apart j k h there e = omega (arith, cell-apart p formed j k h there)
+    apart j k h there e = omega (arith, cell-apart p fine j k h there)
 
     inside : (k : ℕ) → k < length (p .nodes) → nodeAt p k .cell < length (words m)
-    inside k there = omega (arith, cell-in p formed k there, all m (words m) start 41 (told .left-wet) mix fit (told .number))
+    inside k there = omega (arith, cell-in p fine k there, all m (words m) start 41 (told .left-wet) mix fit (told .number))
 
     -- node k's number is set, and what others then set leaves it
     set-here : (ws : List ℕ) (k : ℕ) (x : Float) → length ws ≡ length (words m) → k < length (p .nodes)
@@ -209,19 +209,19 @@ told-of s m mix = go (readBoard s) refl (board-ends s)
         let two = then-both (checkMemory p m) (checkMix p mix) (change-passes m (λ q. checkMixed q m mix) (λ q. setMix q mix (words m)) p z) in
         record { parsed = p; reads = e; memory = memory-told p m (two .0); muls = mix-told p mix (two .1) }
 
-pub mix-four : (s m : List ℕ) (mix : Float) → T (fits binary32 mix) → (mixOf s m mix) .0 .number ≡ 0 → IsFour s m mix
-mix-four s m mix fit z =
+pub mix-four : (s m : List ℕ) (mix : Float) → Bytes s → T (fits binary32 mix) → (mixOf s m mix) .0 .number ≡ 0 → IsFour s m mix
+mix-four s m mix small fit z =
     let k = told-of s m mix z in
-    four s (k .parsed) (k .reads) (whole-formed s (k .parsed) (k .reads)) m mix (k .memory) (k .muls) fit
+    four s (k .parsed) (k .reads) (fine-board s small (k .parsed) (k .reads)) m mix (k .memory) (k .muls) fit
 
-pub mix-holds : (s m : List ℕ) (mix : Float) → T (fits binary32 mix) → (mixOf s m mix) .0 .number ≡ 0
+pub mix-holds : (s m : List ℕ) (mix : Float) → Bytes s → T (fits binary32 mix) → (mixOf s m mix) .0 .number ≡ 0
     → (p : Parsed) → readBoard s ≡ whole p → HoldsMix p mix (words ((mixOf s m mix) .1))
-mix-holds s m mix fit z p e =
+mix-holds s m mix small fit z p e =
     let k = told-of s m mix z in
     let q = k .parsed in
-    let formed = whole-formed s q (k .reads) in
+    let fine = fine-board s small q (k .reads) in
     let same : q ≡ p = cc (sym (k .reads) ∙ e) in
-    let left = holds s q (k .reads) formed m mix (k .memory) (k .muls) fit in
-    let bytes : (mixOf s m mix) .1 ≡ unwords (setMix q mix (words m)) = ap bytes-of (mixed s q (k .reads) formed m mix (k .memory) (k .muls) fit) in
+    let left = holds s q (k .reads) fine m mix (k .memory) (k .muls) fit in
+    let bytes : (mixOf s m mix) .1 ≡ unwords (setMix q mix (words m)) = ap bytes-of (mixed s q (k .reads) fine m mix (k .memory) (k .muls) fit) in
     subst (λ (x : Parsed). HoldsMix x mix (words ((mixOf s m mix) .1))) same
     (subst (HoldsMix q mix) (sym (ap words bytes ∙ words-unwords (setMix q mix (words m)))) left)

@@ -25,7 +25,7 @@ use Rattle.graph.specs.Late.{isLate, lateWires}
 use Rattle.graph.specs.Sources.{distinct}
 use Rattle.graph.specs.Tail.{endless, tailBy, tailOf}
 use Rattle.graph.specs.Visit.{visitingList}
-use Rattle.graph.specs.Write.{NodeCard, Card, kindOf, parsedOf, NodeObeys, WireObeys, SourcesObey, Obeys, noNode, noWire}
+use Rattle.graph.specs.Write.{NodeCard, Card, kindOf, asRead as parsedOf, NodeObeys, WireObeys, SourcesObey, Obeys, noNode, noWire}
 use Rattle.graph.proofs.RoundObeys.{from-each, nodes-told, wires-told}
 use Rattle.graph.proofs.RoundRule.{kind-told}
 use Rattle.graph.proofs.RoundRun.{NodeFits, NodesFit, WireFits, WiresFit}

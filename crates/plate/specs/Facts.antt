@@ -16,7 +16,7 @@ use Rattle.graph.specs.Judge.{judgeOf}
 use Rattle.graph.specs.Late.{lateWires}
 use Rattle.graph.specs.Tail.{endless, tailOf}
 use Rattle.graph.specs.Visit.{visitingList}
-use Rattle.graph.specs.Write.{NodeCard, writeBoard, parsedOf, Obeys}
+use Rattle.graph.specs.Write.{NodeCard, writeBoard, asRead as parsedOf, Obeys}
 use Rattle.plate.specs.Plate.{plateNodes, plateWires, plateCard, dryOf, plateBytes, writeOf}
 
 -- the lines of the all-passes, in node order

@@ -4,7 +4,7 @@ ghost use Prim.Native.Nat.{_*_, _<_};
 ghost use lib.ListN.{length};
 ghost use Rattle.leaves.specs.Words.{words};
 ghost use Rattle.graph.specs.Read.{parsedOf, Sound};
-ghost use Rattle.graph.specs.Formed.{Formed};
+ghost use Rattle.context.specs.Fine.{Fine};
 ghost use Rattle.plate.specs.Mix.{isMul, checkMul, checkMix, setMix, mixOf};
 use context::calls::memory_judged;
 use context::message::put_number;
@@ -80,7 +80,7 @@ fn mix_judged(board: Board, mix: f32) -> Answer
 // The two wet numbers, then the two dry ones.
 fn put_mix(board: Board, mix: f32, memory: &mut [u8])
     requires { ⌜ Sound board ⌝ }
-    requires { ⌜ Formed (parsedOf board) ⌝ }
+    requires { ⌜ Fine (parsedOf board) ⌝ }
     requires { ⌜ 49 < board .count ⌝ }
     requires { ⌜ length (now memory) ≡ 4 * board .values ⌝ }
     ensures { λ _. ⌜ words (now (memory .exit)) ≡ setMix (parsedOf board) mix (words (now (memory .entry))) ⌝ }

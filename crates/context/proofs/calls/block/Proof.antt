@@ -10,9 +10,9 @@ use Rattle.context.specs.Memory.{runNodes, runBlock}
 use Rattle.context.specs.Calls.{Left, asFound, checkBlock, ranBlock, blockIn, listed}
 use Rattle.graph.specs.Board.{Parsed}
 use Rattle.graph.specs.Read.{parsedOf}
-use Rattle.graph.specs.Formed.{Formed}
+use Rattle.context.specs.Fine.{Fine}
 use Rattle.graph.specs.declared.answer.Answer.{Answer}
-use Rattle.graph.proofs.Accepted.{accepted-formed}
+use Rattle.context.proofs.FineBoard.{accepted-fine}
 use Rattle.context.proofs.CallBy.{call-refused, call-lacking}
 use Rattle.context.proofs.CallCells.{count-nodes}
 use Rattle.context.proofs.CallAccepted.{AcceptedRun, checked, board-table, board-gathered, few-bytes, input-room, output-room, input-put, input-runs}
@@ -51,12 +51,12 @@ module _ (c : tie.Else1) where
   abbrev reading : tie.After-read-board
   reading = c .before .before .before
 
-  formed : Formed (parsedOf (reading .read-board .result))
-  formed =
-      accepted-formed (start .args .s .now) (reading .read-board .result) (reading .read-board .ensures) (c .if1 .left)
+  fine : Fine (parsedOf (reading .read-board .result))
+  fine =
+      accepted-fine (start .args .s .now) (λ i. omega (arith, c .before .before .before .before .before .before .before .before .shared-slice-known .given i)) (reading .read-board .result) (reading .read-board .ensures) (c .if1 .left)
 
 block-judged-requires : tie.Need-block-judged-requires
-block-judged-requires c κs = (c .before .before .before .before .read-board .ensures .sound, formed (c .before))
+block-judged-requires c κs = (c .before .before .before .before .read-board .ensures .sound, fine (c .before))
 
 same-length : tie.Need-same-length
 same-length c = search needs
@@ -80,7 +80,7 @@ module _ (c : tie.Else2) where
   accepted = record {
     read = reading else .read-board .ensures;
     accepted = else .if1 .left;
-    formed = formed else;
+    fine = fine else;
     passes = ap (λ (a : Answer). a .number) (sym (c .before .before .block-judged .ensures)) ∙ c .if2 .left;
   }
 
@@ -99,7 +99,7 @@ module _ (c : tie.After-run) where
   kept = c .run .kept .1 .1 .0 ∙ before-run c .copy .kept .1 .1 .0
 
   size-small : reading (else chosen) .read-board .result .size ≤ 128
-  size-small = accepted chosen .formed .records .small-size
+  size-small = accepted chosen .fine .most-size
 
   ran : words (c .run .last .1 .1 .0)
       ≡ runBlock (parsedOf (reading (else chosen) .read-board .result)) (listed (parsedOf (reading (else chosen) .read-board .result))) (words (start (else chosen) .args .input .now))
@@ -115,7 +115,7 @@ mul-node c = search needs
 element-copy-out-node : tie.Need-element-copy-out-node
 element-copy-out-node c =
     let run = accepted c in
-    omega (arith, run .formed .input-in, count-nodes _ (run .read .sound), run .read .sound .few-nodes)
+    omega (arith, run .fine .input-there, count-nodes _ (run .read .sound), run .read .sound .few-nodes)
 
 add-copy : tie.Need-add-copy
 add-copy c = let run = accepted (c .before .before .before) in omega (arith, input-room run, few-bytes run)

@@ -7,10 +7,10 @@ use borrow.Author.Needs.{needs}
 use Rattle.leaves.specs.Words.{words}
 use Rattle.graph.specs.Board.{Parsed, cellsOf}
 use Rattle.graph.specs.Read.{parsedOf, Sound}
-use Rattle.graph.specs.Formed.{Formed}
+use Rattle.context.specs.Fine.{Fine}
 use Rattle.graph.specs.declared.answer.Answer.{Answer}
 use Rattle.graph.specs.declared.board.Board.{Board}
-use Rattle.graph.proofs.Accepted.{accepted-formed}
+use Rattle.context.proofs.FineBoard.{accepted-fine}
 use Rattle.context.specs.Memory.{freshValues}
 use Rattle.context.specs.Calls.{checkNeeded, checkLength, freshOf}
 use Rattle.context.specs.Parts.{putNumbers}
@@ -71,15 +71,15 @@ module _ (c : tie.After-clear) where
   long : length (start .args .memory .now) ≡ 4 * reading .read-board .result .values
   long = needed-long _ _ (ap (λ (a : Answer). a .number) (sym (judging .length-judged .ensures)) ∙ c .before .before .if2 .left)
 
-  formed : Formed (parsedOf (reading .read-board .result))
-  formed = accepted-formed (start .args .s .now) (reading .read-board .result) (reading .read-board .ensures) accepted
+  fine : Fine (parsedOf (reading .read-board .result))
+  fine = accepted-fine (start .args .s .now) (λ i. omega (arith, reading .before .before .shared-slice-known .given i)) (reading .read-board .result) (reading .read-board .ensures) accepted
 
 put-numbers-requires : tie.Need-put-numbers-requires
 put-numbers-requires c κs =
     let cleared = c .before .before .before .before in
     let board = (reading cleared) .read-board in
     let sound = board .ensures .sound in
-    (sound .nodes-long, sound .few-nodes, cells-in (board .result) sound (formed cleared) (cleared .clear .last .0) (cleared .clear .kept .0 ∙ long cleared))
+    (sound .nodes-long, sound .few-nodes, cells-in (board .result) sound (fine cleared) (cleared .clear .last .0) (cleared .clear .kept .0 ∙ long cleared))
 
 new-requires : tie.Need-new-requires
 new-requires c κs = search needs
@@ -102,7 +102,7 @@ returns-3 c =
     change-done (start cleared .args .s .now) (board .result) (board .ensures) m (check (start cleared)) freshValues (accepted cleared)
     (judged .result) (length-is (start cleared) (board .result) (board .ensures .sound) (judged .result) (judged .ensures)) (cleared .before .before .if2 .left)
     (stored .last .1 .1 .0) (stored .kept .1 .1 .0 ∙ cleared .clear .kept .0 ∙ long cleared) (λ i. omega (arith, c .before .slice-known3 .given i))
-    (stored .ensures ∙ ap (putNumbers (p .nodes)) zeros ∙ numbers-fresh p (formed cleared))
+    (stored .ensures ∙ ap (putNumbers (p .nodes)) zeros ∙ numbers-fresh p (fine cleared))
     (c .new .result) (c .new .ensures)
 
 pub fresh-spec : {M : Type 1} → statement M

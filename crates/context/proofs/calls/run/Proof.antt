@@ -26,12 +26,12 @@ abbrev μ-loop : tie.MeasureT-loop
 starts-requires : tie.Need-starts-requires Inv-loop μ-loop
 starts-requires c κs =
     let start = c .before .before .before .before .before .before in
-    (start .pre .sound .nodes-long, start .pre .sound .few-nodes, omega arith, starts-fit (start .args .board) (start .pre .sound) (start .pre .formed))
+    (start .pre .sound .nodes-long, start .pre .sound .few-nodes, omega arith, starts-fit (start .args .board) (start .pre .sound) (start .pre .fine))
 
 starts-requires-2 : tie.Need-starts-requires-2 Inv-loop μ-loop
 starts-requires-2 c κs =
     let start = c .before .before .before .before .before .before .before in
-    (start .pre .sound .nodes-long, start .pre .sound .few-nodes, start .pre .sound .small-size, starts-fit (start .args .board) (start .pre .sound) (start .pre .formed))
+    (start .pre .sound .nodes-long, start .pre .sound .few-nodes, start .pre .sound .small-size, starts-fit (start .args .board) (start .pre .sound) (start .pre .fine))
 
 loop-holds : tie.Need-loop-holds Inv-loop μ-loop
 loop-holds c =
@@ -118,7 +118,7 @@ module _ (c : tie.After-wide3 Inv-loop μ-loop) where
   ready : Ready (at .loop .memory) (nodeIn (board .nodes) k .kind) (board .size) (nodeIn (board .nodes) k .cell)
       (take (8 * k + n - 8 * k) (drop (8 * k) (board .lists))) (at .before .before .starts .result) (at .before .starts2 .result) (c .wide3 .result)
   ready =
-      turn-ready board (start .pre .sound) (start .pre .formed) (start .pre .table) k (node-here (c .before .before)) (8 * k + n - 8 * k) sized
+      turn-ready board (start .pre .sound) (start .pre .fine) (start .pre .table) k (node-here (c .before .before)) (8 * k + n - 8 * k) sized
       (at .before .before .starts .result) (at .before .starts2 .result) (starts-left (at .before .before .starts .ensures)) (at .before .starts2 .ensures)
       (c .wide3 .result) (c .wide3 .ensures) (at .loop .memory) long (at .loop .inv .0 .judged)
 
@@ -130,7 +130,7 @@ module _ (c : tie.After-wide3 Inv-loop μ-loop) where
       → words m ≡ runNode (parsedOf board) (getD (start .args .order .nodes) (at .loop .i) 0) (words (at .loop .memory))
   ran m e =
       e
-      ∙ turn-run board (start .pre .sound) (start .pre .formed) (start .pre .table) k (node-here (c .before .before)) (8 * k + n - 8 * k) sized
+      ∙ turn-run board (start .pre .sound) (start .pre .fine) (start .pre .table) k (node-here (c .before .before)) (8 * k + n - 8 * k) sized
       (at .before .before .starts .result) (at .before .starts2 .result) (starts-left (at .before .before .starts .ensures)) (at .before .starts2 .ensures)
       (c .wide3 .result) (c .wide3 .ensures) (at .loop .memory)
       ∙ ap (λ (j : ℕ). runNode (parsedOf board) j (words (at .loop .memory))) (c .before .before .wide .ensures)

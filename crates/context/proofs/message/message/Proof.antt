@@ -9,10 +9,10 @@ use Rattle.leaves.specs.Words.{words}
 use Rattle.graph.specs.Board.{Parsed}
 use Rattle.graph.specs.Judge.{readBoard}
 use Rattle.graph.specs.Read.{parsedOf, Read}
-use Rattle.graph.specs.Formed.{Formed}
+use Rattle.context.specs.Fine.{Fine}
 use Rattle.graph.specs.declared.answer.Answer.{Answer}
 use Rattle.graph.specs.declared.board.Board.{Board}
-use Rattle.graph.proofs.Accepted.{accepted-formed}
+use Rattle.context.proofs.FineBoard.{accepted-fine}
 use Rattle.context.specs.Calls.{checkMemory, checkNumber, checkMessage, setNumber, messageOf}
 use Rattle.context.proofs.CallCells.{count-nodes}
 use Rattle.context.proofs.CallChecks.{then-refused, then-passed}
@@ -56,11 +56,11 @@ module _ (c : tie.Else1) where
   abbrev read : Read (readBoard (start .args .s .now)) board
   read = c .before .before .before .read-board .ensures
 
-  formed : Formed (parsedOf board)
-  formed = accepted-formed (start .args .s .now) board read (c .if1 .left)
+  fine : Fine (parsedOf board)
+  fine = accepted-fine (start .args .s .now) (λ i. omega (arith, c .before .before .before .before .before .shared-slice-known .given i)) board read (c .if1 .left)
 
 memory-judged-requires : tie.Need-memory-judged-requires
-memory-judged-requires c κs = (read (c .before) .sound, formed (c .before))
+memory-judged-requires c κs = (read (c .before) .sound, fine (c .before))
 
 same-length : tie.Need-same-length
 same-length c = search needs
@@ -117,7 +117,7 @@ returns-3 c =
 put-number-requires : tie.Need-put-number-requires
 put-number-requires c κs =
     let known = c .before .before .before in
-    (read (else known) .sound, (formed (else known), (there known (c .before .if3 .left), long known)))
+    (read (else known) .sound, (fine (else known), (there known (c .before .if3 .left), long known)))
 
 new-requires : tie.Need-new-requires
 new-requires c κs = search needs

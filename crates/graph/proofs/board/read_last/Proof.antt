@@ -1,7 +1,7 @@
 -- `graph::board::read_last` meets its contract: the parts' promises are those of the board. Assumes nothing.
 use native.Mathlib.Omega.{arith}
 use borrow.Author.Needs.{needs}
-use Rattle.graph.specs.Phases.{madeOf}
+use Rattle.graph.specs.Parts.{madeOf}
 use Rattle.graph.proofs.Joined.{made-read}
 use Rattle.graph.proofs.board.read_last.Statement.{statement}
 use Rattle.graph.proofs.board.read_last.Tie as tie

@@ -9,7 +9,7 @@ use denote.Ref.{now}
 use Rattle.graph.specs.declared.board.NodeRead.the-variants as node
 use Rattle.graph.proofs.Sums.{samples-few}
 use Rattle.graph.proofs.Parts.{NodeStep}
-use Rattle.graph.proofs.Loops.{NodesSoFar, nodes-start, node-here, nodes-more, nodes-over, nodes-refused}
+use Rattle.graph.proofs.Loops.{NodesSoFar, nodes-start, node-here, nodes-more, nodes-ended}
 use Rattle.graph.proofs.board.read_nodes.Statement.{statement}
 use Rattle.graph.proofs.board.read_nodes.Tie as tie
 
@@ -86,35 +86,20 @@ loop-again : tie.Need-loop-again Inv-loop μ-loop
 loop-again c = let start = c .before .before .before .before .before .before .before .before .before in
     rw (c .before .channels-of .ensures, c .line-of .ensures .0) (nodes-more _ _ _ _ _ _ _ (c .before .before .before .before .before .before .loop .inv) (c .before .before .before .kind .given .0 .0) (here (c .before .before .before)) (start .pre .0))
 
-enum-told : tie.Need-enum-told Inv-loop μ-loop
-enum-told c = search needs
+enum-known-number : tie.Need-enum-known-number Inv-loop μ-loop
+enum-known-number c = search needs
 
 new-requires : tie.Need-new-requires Inv-loop μ-loop
-new-requires c κs = omega arith
+new-requires c κs = let h = c .before .before .before .before .loop .inv in omega (arith, h .next-is, h .few)
 
 new-requires-2 : tie.Need-new-requires-2 Inv-loop μ-loop
 new-requires-2 c κs = search needs
 
 returns : tie.Need-returns Inv-loop μ-loop
 returns c =
-    let at = c .before .before .before .before .before in
-    rw (c .new2 .ensures)
-    (nodes-over _ _ _ _ _ _ _ (at .loop .inv) (c .before .new .ensures) (node-here _ _ _ _ _ _ _ (at .loop .inv) (c .before .before .before .before .node-at .ensures) (c .before .before .enum-told .given .1)))
-
-enum-known-number : tie.Need-enum-known-number Inv-loop μ-loop
-enum-known-number c = search needs
-
-new-requires-3 : tie.Need-new-requires-3 Inv-loop μ-loop
-new-requires-3 c κs = let h = c .before .before .before .before .loop .inv in omega (arith, h .next-is, h .few)
-
-new-requires-4 : tie.Need-new-requires-4 Inv-loop μ-loop
-new-requires-4 c κs = search needs
-
-returns-2 : tie.Need-returns-2 Inv-loop μ-loop
-returns-2 c =
     let at = c .before .before .before .before .before .before in
-    rw (c .new4 .ensures)
-    (nodes-refused _ _ _ _ _ _ _ (at .loop .inv) _ (c .before .new3 .ensures) (node-here _ _ _ _ _ _ _ (at .loop .inv) (c .before .before .before .before .before .node-at .ensures) (c .before .before .before .number .given .1)))
+    rw (c .new2 .ensures)
+    (nodes-ended _ _ _ _ _ _ _ (at .loop .inv) _ (c .before .new .ensures) (node-here _ _ _ _ _ _ _ (at .loop .inv) (c .before .before .before .before .before .node-at .ensures) (c .before .before .before .number .given .1)))
 
 pub read-nodes-spec : {M : Type 1} → statement M
 read-nodes-spec =
@@ -139,11 +124,7 @@ read-nodes-spec =
     add-next
     loop-less
     loop-again
-    enum-told
+    enum-known-number
     new-requires
     new-requires-2
-    returns
-    enum-known-number
-    new-requires-3
-    new-requires-4
-    returns-2)
+    returns)

@@ -8,7 +8,7 @@ use lib.ListN.{length}
 use denote.Ref.{now}
 use Rattle.graph.specs.declared.board.WireRead.the-variants as wire
 use Rattle.graph.proofs.Parts.{WireStep}
-use Rattle.graph.proofs.Loops.{WiresSoFar, wires-start, wire-here, wires-more, wires-over, wires-refused}
+use Rattle.graph.proofs.Loops.{WiresSoFar, wires-start, wire-here, wires-more, wires-ended}
 use Rattle.graph.proofs.board.read_wires.Statement.{statement}
 use Rattle.graph.proofs.board.read_wires.Tie as tie
 
@@ -51,35 +51,20 @@ loop-less c = omega (arith, here (c .before) .2)
 loop-again : tie.Need-loop-again Inv-loop μ-loop
 loop-again c = wires-more _ _ _ _ _ _ _ (c .before .before .before .before .loop .inv) (c .before .source .given .0 .0) (c .before .source .given .0 .1 .0) (here (c .before))
 
-enum-told : tie.Need-enum-told Inv-loop μ-loop
-enum-told c = search needs
+enum-known-number : tie.Need-enum-known-number Inv-loop μ-loop
+enum-known-number c = search needs
 
 new-requires : tie.Need-new-requires Inv-loop μ-loop
-new-requires c κs = omega arith
+new-requires c κs = let h = c .before .before .before .before .loop .inv in omega (arith, h .next-is, h .few)
 
 new-requires-2 : tie.Need-new-requires-2 Inv-loop μ-loop
 new-requires-2 c κs = search needs
 
 returns : tie.Need-returns Inv-loop μ-loop
 returns c =
-    let at = c .before .before .before .before .before in
-    rw (c .new2 .ensures)
-    (wires-over _ _ _ _ _ _ _ (at .loop .inv) (c .before .new .ensures) (wire-here _ _ _ _ _ _ _ (at .loop .inv) (c .before .before .before .before .wire-at .ensures) (c .before .before .enum-told .given .1)))
-
-enum-known-number : tie.Need-enum-known-number Inv-loop μ-loop
-enum-known-number c = search needs
-
-new-requires-3 : tie.Need-new-requires-3 Inv-loop μ-loop
-new-requires-3 c κs = let h = c .before .before .before .before .loop .inv in omega (arith, h .next-is, h .few)
-
-new-requires-4 : tie.Need-new-requires-4 Inv-loop μ-loop
-new-requires-4 c κs = search needs
-
-returns-2 : tie.Need-returns-2 Inv-loop μ-loop
-returns-2 c =
     let at = c .before .before .before .before .before .before in
-    rw (c .new4 .ensures)
-    (wires-refused _ _ _ _ _ _ _ (at .loop .inv) _ (c .before .new3 .ensures) (wire-here _ _ _ _ _ _ _ (at .loop .inv) (c .before .before .before .before .before .wire-at .ensures) (c .before .before .before .number .given .1)))
+    rw (c .new2 .ensures)
+    (wires-ended _ _ _ _ _ _ _ (at .loop .inv) _ (c .before .new .ensures) (wire-here _ _ _ _ _ _ _ (at .loop .inv) (c .before .before .before .before .before .wire-at .ensures) (c .before .before .before .number .given .1)))
 
 pub read-wires-spec : {M : Type 1} → statement M
 read-wires-spec =
@@ -96,11 +81,7 @@ read-wires-spec =
     add-next
     loop-less
     loop-again
-    enum-told
+    enum-known-number
     new-requires
     new-requires-2
-    returns
-    enum-known-number
-    new-requires-3
-    new-requires-4
-    returns-2)
+    returns)

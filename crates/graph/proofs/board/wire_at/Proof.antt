@@ -2,7 +2,7 @@
 use mathlib.Core.Path.{_≡_, sym, ap, _∙_}
 use denote.Ref.{now}
 use Rattle.graph.specs.Record.{foundAt}
-use Rattle.graph.specs.Phases.{wireRead}
+use Rattle.graph.specs.Parts.{wireRead}
 use Rattle.graph.specs.declared.record.Found.{Found}
 use Rattle.graph.specs.declared.record.Found.the-variants.{Head, Node, Wire, End, Refused}
 use Rattle.graph.proofs.Found.{room-of}

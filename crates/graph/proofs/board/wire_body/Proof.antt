@@ -2,7 +2,7 @@
 -- Assumes nothing.
 use mathlib.Core.Path.{sym, _∙_}
 use native.Mathlib.Omega.{arith}
-use Rattle.graph.specs.Phases.{wireRead}
+use Rattle.graph.specs.Parts.{wireRead}
 use Rattle.graph.proofs.Fits.{WireFits, wire-fits}
 use borrow.Author.Needs.{needs}
 use Rattle.graph.proofs.board.wire_body.Statement.{statement}

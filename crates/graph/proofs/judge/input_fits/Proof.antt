@@ -5,7 +5,8 @@ use borrow.Author.Needs.{needs}
 use lib.ListN.{length}
 use Rattle.reading.specs.Order.{sources}
 use Rattle.graph.specs.Wires.{wiresOf}
-use Rattle.graph.proofs.Six.{blank, pass-out, pass-here, none-nine}
+use Rattle.graph.specs.Board.{blank}
+use Rattle.graph.proofs.Six.{pass-out, pass-here, none-nine}
 use Rattle.graph.proofs.judge.input_fits.Statement.{statement}
 use Rattle.graph.proofs.judge.input_fits.Tie as tie
 

@@ -10,7 +10,8 @@ use Rattle.graph.specs.Sources.{distinctSources}
 use Rattle.graph.specs.Wires.{wiresOf}
 use Rattle.graph.specs.Read.{parsedOf}
 use Rattle.graph.proofs.Answers.{accepted-as, refused-as}
-use Rattle.graph.proofs.Six.{blank, fits-nine, check-next, check-wrong, check-end}
+use Rattle.graph.specs.Board.{blank}
+use Rattle.graph.proofs.Six.{fits-nine, check-next, check-wrong, check-end}
 use Rattle.graph.proofs.judge.sources_judged.Statement.{statement}
 use Rattle.graph.proofs.judge.sources_judged.Tie as tie
 

@@ -3,7 +3,7 @@ use mathlib.Core.Path.{refl}
 use mathlib.Core.List.{_++_}
 use Prim.Native.Nat.{_+_}
 use denote.Ref.{now}
-use Rattle.graph.specs.Write.{u16Bytes}
+use Rattle.leaves.specs.Bytes.{u16Bytes}
 use Rattle.plate.proofs.Stores.{next}
 use borrow.Author.Needs.{needs}
 use Rattle.plate.proofs.plate.put_four.Statement.{statement}

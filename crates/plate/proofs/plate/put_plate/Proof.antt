@@ -6,7 +6,8 @@ use native.Mathlib.Omega.{arith}
 use lib.ListN.{length, length-append}
 use lib.Seq.{sets}
 use denote.Ref.{now}
-use Rattle.graph.specs.Write.{u16Bytes, headBytes, nodesBytes, wiresBytes, endBytes, writeBoard}
+use Rattle.leaves.specs.Bytes.{u16Bytes}
+use Rattle.graph.specs.Write.{headBytes, nodesBytes, wiresBytes, endBytes, writeBoard}
 use Rattle.plate.specs.Plate.{plateNodes, plateWires}
 use Rattle.plate.proofs.Stores.{next, sets-all}
 use Rattle.plate.proofs.Written.{nodes-long, wires-long, plate-long}

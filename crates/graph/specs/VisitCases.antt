@@ -1,4 +1,4 @@
--- P: document 01's printed board, its list and its late wire; the plate's; and two tails. By computation. Assumes nothing.
+-- P: document 01's printed board, its list and its late wire; the plate's; and three tails. By computation. Assumes nothing.
 use mathlib.Core.Path.{_≡_, refl}
 use lib.Ieee.{ofBits, binary32}
 use Rattle.nodes.specs.declared.kind.NodeKind.the-variants.{Pass, Sum, Destination, Mul, Add, Delay}
@@ -45,3 +45,8 @@ straight =
 pub straight-tail : tailOf straight ≡ 7
 unfolding tailOf tailBy visitingList lateWires isLate
 straight-tail = refl
+
+-- an add on the way writes its number for ever
+pub added-tail : tailOf (withWire (withWire (withNode (withNode (withNode (headed 2 1) Destination) Pass) (Add (ofBits binary32 0))) 1 2) 2 0) ≡ endless
+unfolding tailOf tailBy visitingList lateWires isLate
+added-tail = refl

@@ -49,3 +49,26 @@ printed-129 = refl
 pub printed-self : judgeOf (set printed 82 2) ≡ answer 5 78
 unfolding judgeOf readBoard readRecords run stepOf takeFound foundAt foundOf ruleOf checkSources distinct
 printed-self = refl
+
+-- a record that is cut and of no kind is cut; one of no kind and of no kind's length is of no kind
+pub cut-before-kind : judgeOf (take 121 (set printed 120 9)) ≡ answer 1 118
+unfolding judgeOf readBoard readRecords run stepOf takeFound foundAt foundOf ruleOf checkSources distinct
+cut-before-kind = refl
+
+pub kind-before-length : judgeOf (set (set printed 0 9) 2 9) ≡ answer 2 0
+unfolding judgeOf readBoard readRecords run stepOf takeFound foundAt foundOf ruleOf checkSources distinct
+kind-before-length = refl
+
+-- node 0, at offset 8, a pass
+pub first-a-pass : judgeOf (set printed 12 1) ≡ answer 4 8
+unfolding judgeOf readBoard readRecords run stepOf takeFound foundAt foundOf ruleOf checkSources distinct
+first-a-pass = refl
+
+-- the input node is no pass, and is missing
+pub input-an-add : judgeOf (set printed 6 2) ≡ answer 6 2
+unfolding judgeOf readBoard readRecords run stepOf takeFound foundAt foundOf ruleOf checkSources distinct
+input-an-add = refl
+
+pub input-missing : judgeOf (set printed 6 5) ≡ answer 6 5
+unfolding judgeOf readBoard readRecords run stepOf takeFound foundAt foundOf ruleOf checkSources distinct
+input-missing = refl

@@ -3,7 +3,7 @@ use Prim.Native.Nat.{ℕ, suc, _+_, _*_, _≤_, _<_}
 use mathlib.Core.Path.{_≡_}
 use mathlib.Core.List.{List, []}
 use mathlib.Core.Bool.{cond}
-use lib.ListN.{length, getD, take}
+use lib.ListN.{length, take}
 use lib.Dec.{eqb}
 use Rattle.leaves.specs.Bytes.{u16At, u32At}
 use Rattle.nodes.specs.Kind.{ruleOf}
@@ -12,7 +12,7 @@ use Rattle.nodes.specs.declared.kind.Rule.{Rule}
 use Rattle.nodes.specs.declared.kind.Rule.the-variants as rule
 use Rattle.reading.specs.Order.{Wire}
 use Rattle.graph.specs.Board.{Parsed, Reading, going, refused, headed, cellsOf, nodeFits, wireFits, endBy, stepOf, run}
-use Rattle.graph.specs.Wires.{wiresOf}
+use Rattle.graph.specs.Wires.{Within, wiresOf}
 use Rattle.graph.specs.declared.answer.Answer.{Answer}
 use Rattle.graph.specs.declared.record.Found.{Found}
 use Rattle.graph.specs.declared.record.Found.the-variants as found
@@ -40,28 +40,28 @@ wired p ws = record { size = p .size; input = p .input; nodes = p .nodes; wires 
 abbrev pub madeOf : Head → Nodes → Wires → Parsed
 madeOf h n w = wired (noded (h .size) (h .input) (take (n .count) (n .nodes))) (wiresOf (w .sources) (w .targets) (w .count))
 
--- ---- one record of each part: what it says, or that the part is over, or a refusal's number
+-- ---- one record of each part: what it says, or the number that ends the part, 0 where another kind follows and else the refusal's
 
 abbrev pub nodeBody : ℕ → ℕ → Rule → NodeRead
-nodeBody i lines rule.Broken = node.Refused 4
-nodeBody i lines (rule.Is k) = cond (nodeFits i lines k) (node.Is k) (node.Refused 4)
+nodeBody i lines rule.Broken = node.Ends 4
+nodeBody i lines (rule.Is k) = cond (nodeFits i lines k) (node.Is k) (node.Ends 4)
 
 unfoldable pub nodeRead : List ℕ → ℕ → ℕ → ℕ → Found → NodeRead
-nodeRead s at i lines found.Head = node.Over
+nodeRead s at i lines found.Head = node.Ends 0
 nodeRead s at i lines found.Node = nodeBody i lines (ruleOf (u16At s (at + 4)) (u32At s (at + 6)) (u32At s (at + 10)))
-nodeRead s at i lines found.Wire = node.Over
-nodeRead s at i lines found.End = node.Over
-nodeRead s at i lines (found.Refused n) = node.Refused n
+nodeRead s at i lines found.Wire = node.Ends 0
+nodeRead s at i lines found.End = node.Ends 0
+nodeRead s at i lines (found.Refused n) = node.Ends n
 
 abbrev pub wireBody : ℕ → ℕ → ℕ → ℕ → WireRead
-wireBody i w a t = cond (wireFits i w a t) (wire.Is a t) (wire.Refused 5)
+wireBody i w a t = cond (wireFits i w a t) (wire.Is a t) (wire.Ends 5)
 
 unfoldable pub wireRead : List ℕ → ℕ → ℕ → ℕ → Found → WireRead
-wireRead s at i w found.Head = wire.Over
-wireRead s at i w found.Node = wire.Over
+wireRead s at i w found.Head = wire.Ends 0
+wireRead s at i w found.Node = wire.Ends 0
 wireRead s at i w found.Wire = wireBody i w (u16At s (at + 4)) (u16At s (at + 6))
-wireRead s at i w found.End = wire.Over
-wireRead s at i w (found.Refused n) = wire.Refused n
+wireRead s at i w found.End = wire.Ends 0
+wireRead s at i w (found.Refused n) = wire.Ends n
 
 -- ---- what each part gives
 
@@ -80,10 +80,6 @@ pub record NodesRead (s : List ℕ) (N : ℕ) (r : Nodes) : Type 0 where
   pub small : r .values ≤ 278720
   pub next-is : r .next ≡ 8 + 14 * r .count
   pub inside : r .next ≤ length s
-
--- the wires join nodes below n
-abbrev pub Within : ℕ → List ℕ → ℕ → Type 0
-Within n l w = (j : ℕ) → j < w → getD l j 0 < n
 
 -- from a board of n nodes: so many wires, and then the end record
 pub record WiresRead (s : List ℕ) (start n : ℕ) (r : Wires) : Type 0 where
