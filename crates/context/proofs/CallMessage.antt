@@ -1,6 +1,6 @@
 -- The number message.
---     number-missing, number-other, number-wrong, number-right    checks 11 and 12 on the code's arrays
---     number-told             what holds where they pass
+--     number-missing, number-there            checks 11 and 12 on the code's arrays
+--     number-told                             what holds where they pass
 --     set-long, set-other, set-judged         what a number that is set leaves
 -- Assumes nothing.
 use Prim.Native.Nat.{ℕ, _+_, _≤_, _<_}
@@ -58,15 +58,10 @@ module _ (b : Board) (sound : Sound b) (k : ℕ) (x : Float) where
     same : {A : Type 0} (f : NodeKind → A) {r : A} → f (nodeIn (b .nodes) k .kind) ≡ r → f (kindAt p k) ≡ r
     same f e = ap (λ (n : NodeRecord). f (n .kind)) (node-in b sound k here) ∙ e
 
-    pub number-other : takesNumber (nodeIn (b .nodes) k .kind) ≡ false → checkNumber p k x ≡ answer 11 k
-    number-other e = λ i. by k (there i) (same takesNumber e i) (valueFits (kindAt p k) x)
-
-    module _ (takes : takesNumber (nodeIn (b .nodes) k .kind) ≡ true) where
-      pub number-wrong : valueFits (nodeIn (b .nodes) k .kind) x ≡ false → checkNumber p k x ≡ answer 12 k
-      number-wrong e = λ i. by k (there i) (same takesNumber takes i) (same (λ (d : NodeKind). valueFits d x) e i)
-
-      pub number-right : valueFits (nodeIn (b .nodes) k .kind) x ≡ true → checkNumber p k x ≡ passed
-      number-right e = λ i. by k (there i) (same takesNumber takes i) (same (λ (d : NodeKind). valueFits d x) e i)
+    -- by what the node's kind says
+    pub number-there : {t f : Bool} → takesNumber (nodeIn (b .nodes) k .kind) ≡ t → valueFits (nodeIn (b .nodes) k .kind) x ≡ f
+        → checkNumber p k x ≡ cond t (cond f passed (answer 12 k)) (answer 11 k)
+    number-there takes right = λ i. by k (there i) (same takesNumber takes i) (same (λ (d : NodeKind). valueFits d x) right i)
 
 -- ---- where they pass
 

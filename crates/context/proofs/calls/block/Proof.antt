@@ -20,9 +20,6 @@ use Rattle.context.proofs.CallBlock.{block-ran}
 use Rattle.context.proofs.calls.block.Statement.{statement}
 use Rattle.context.proofs.calls.block.Tie as tie
 
-read-board-requires : tie.Need-read-board-requires
-read-board-requires c κs = search needs
-
 -- ---- refusals
 
 module _ (start : tie.Start) where
@@ -57,9 +54,6 @@ module _ (c : tie.Else1) where
 
 block-judged-requires : tie.Need-block-judged-requires
 block-judged-requires c κs = (c .before .before .before .before .read-board .ensures .sound, fine (c .before))
-
-same-length : tie.Need-same-length
-same-length c = search needs
 
 returns-2 : tie.Need-returns-2
 unfolding blockIn
@@ -109,9 +103,6 @@ module _ (c : tie.After-run) where
       let copied = before-run c .copy in
       c .run .ensures ∙ ap (runNodes p (listed p)) (input-put (accepted chosen) (copied .last .1 .1 .0) (copied .ensures))
 
-mul-node : tie.Need-mul-node
-mul-node c = search needs
-
 element-copy-out-node : tie.Need-element-copy-out-node
 element-copy-out-node c =
     let run = accepted c in
@@ -122,9 +113,6 @@ add-copy c = let run = accepted (c .before .before .before) in omega (arith, inp
 
 mul-copy : tie.Need-mul-copy
 mul-copy c = let run = accepted (c .before .before .before) in omega (arith, input-room run, few-bytes run)
-
-mul-copy-2 : tie.Need-mul-copy-2
-mul-copy-2 c = search needs
 
 copy-requires : tie.Need-copy-requires
 copy-requires c κs = let run = accepted (c .before .before .before) in (omega (arith, checked run .input-long), input-room run)
@@ -165,18 +153,6 @@ copy-requires-3 c κs =
     let run = accepted (chosen after) in
     (omega (arith, output-room run, kept after), omega (arith, checked run .right-long))
 
-new-requires : tie.Need-new-requires
-new-requires c κs = search needs
-
-same-length-2 : tie.Need-same-length-2
-same-length-2 c = search needs
-
-same-length-3 : tie.Need-same-length-3
-same-length-3 c = search needs
-
-same-length-4 : tie.Need-same-length-4
-same-length-4 c = search needs
-
 returns-3 : tie.Need-returns-3
 returns-3 c =
     let after = c .before .before .before .before .before .before .before .before .before .before .before .before .before in
@@ -193,28 +169,6 @@ returns-3 c =
 pub block-spec : {M : Type 1} → statement M
 block-spec =
     tie.close
-    (tie.spec
-    read-board-requires
-    returns
-    block-judged-requires
-    same-length
-    returns-2
-    mul-node
-    element-copy-out-node
-    add-copy
-    mul-copy
-    mul-copy-2
-    copy-requires
-    visiting-list-requires
-    run-requires
-    mul-copy-3
-    copy-requires-2
-    mul-copy-4
-    add-copy-2
-    mul-copy-5
-    copy-requires-3
-    new-requires
-    same-length-2
-    same-length-3
-    same-length-4
-    returns-3)
+    (tie.spec (λ c κs. search needs) returns block-judged-requires (λ c. search needs) returns-2 (λ c. search needs) element-copy-out-node
+    add-copy mul-copy (λ c. search needs) copy-requires visiting-list-requires run-requires mul-copy-3 copy-requires-2 mul-copy-4 add-copy-2
+    mul-copy-5 copy-requires-3 (λ c κs. search needs) (λ c. search needs) (λ c. search needs) (λ c. search needs) returns-3)

@@ -17,17 +17,11 @@ abbrev blocks-of : tie.Start → Answer
 blocks-of c =
     andThen (checkSizes (c .args .board .size) (length (c .args .input .now)) (c .args .left) (c .args .right)) (checkSamples 0 (words (c .args .input .now)))
 
-memory-judged-requires : tie.Need-memory-judged-requires
-memory-judged-requires c κs = search needs
-
 returns : tie.Need-returns
 returns c =
     let start = c .before .before .before .before .before in
     let judged = c .before .before .memory-judged in
     then-refused (memory-of start) (blocks-of start) (judged .result) (judged .ensures) (c .if1 .taken)
-
-blocks-judged-requires : tie.Need-blocks-judged-requires
-blocks-judged-requires c κs = search needs
 
 returns-2 : tie.Need-returns-2
 returns-2 c =
@@ -37,4 +31,4 @@ returns-2 c =
 
 pub block-judged-spec : {M : Type 1} → statement M
 block-judged-spec =
-    tie.close (tie.spec memory-judged-requires returns blocks-judged-requires returns-2)
+    tie.close (tie.spec (λ c κs. search needs) returns (λ c κs. search needs) returns-2)

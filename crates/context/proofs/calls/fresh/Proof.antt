@@ -21,9 +21,6 @@ use Rattle.context.proofs.CallBy.{change-refused, change-lacking, chang
 use Rattle.context.proofs.calls.fresh.Statement.{statement}
 use Rattle.context.proofs.calls.fresh.Tie as tie
 
-read-board-requires : tie.Need-read-board-requires
-read-board-requires c κs = search needs
-
 -- the call's checks and what it writes
 abbrev check : tie.Start → Parsed → Answer
 check start p = checkLength p (start .args .memory .now)
@@ -34,9 +31,6 @@ returns c =
     let start = c .before .before .before .before .before .before in
     let board = c .before .before .before .read-board in
     change-refused (start .args .s .now) (board .result) (board .ensures) (start .args .memory .now) (check start) freshValues (c .if1 .taken)
-
-length-judged-requires : tie.Need-length-judged-requires
-length-judged-requires c κs = search needs
 
 -- the code counts the board's values
 length-is : (start : tie.Start) (b : Board) → Sound b → (a : Answer) → a ≡ checkNeeded (4 * b .values) (length (start .args .memory .now)) → a ≡ check start (parsedOf b)
@@ -50,9 +44,6 @@ returns-2 c =
     let judged = c .before .before .length-judged in
     change-lacking (start .args .s .now) (board .result) (board .ensures) (start .args .memory .now) (check start) freshValues (c .before .before .before .if1 .left)
     (judged .result) (length-is start (board .result) (board .ensures .sound) (judged .result) (judged .ensures)) (c .if2 .taken)
-
-clear-requires : tie.Need-clear-requires
-clear-requires c κs = search needs
 
 -- what is known once the memory is cleared
 module _ (c : tie.After-clear) where
@@ -81,12 +72,6 @@ put-numbers-requires c κs =
     let sound = board .ensures .sound in
     (sound .nodes-long, sound .few-nodes, cells-in (board .result) sound (fine cleared) (cleared .clear .last .0) (cleared .clear .kept .0 ∙ long cleared))
 
-new-requires : tie.Need-new-requires
-new-requires c κs = search needs
-
-same-length : tie.Need-same-length
-same-length c = search needs
-
 returns-3 : tie.Need-returns-3
 unfolding freshOf
 returns-3 c =
@@ -108,13 +93,5 @@ returns-3 c =
 pub fresh-spec : {M : Type 1} → statement M
 fresh-spec =
     tie.close
-    (tie.spec
-    read-board-requires
-    returns
-    length-judged-requires
-    returns-2
-    clear-requires
-    put-numbers-requires
-    new-requires
-    same-length
-    returns-3)
+    (tie.spec (λ c κs. search needs) returns (λ c κs. search needs) returns-2 (λ c κs. search needs) put-numbers-requires
+    (λ c κs. search needs) (λ c. search needs) returns-3)

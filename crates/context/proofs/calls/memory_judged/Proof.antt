@@ -22,9 +22,6 @@ length-answer : (c : tie.Start) (a : Answer) → a ≡ checkNeeded (4 * c .args 
     → a ≡ length-of c
 length-answer c a e = e ∙ ap (λ (v : ℕ). checkNeeded (4 * v) (length (c .args .memory .now))) (c .pre .0 .values-sum)
 
-length-judged-requires : tie.Need-length-judged-requires
-length-judged-requires c κs = search needs
-
 returns : tie.Need-returns
 returns c =
     let start = c .before .before .before .before in
@@ -46,4 +43,4 @@ returns-2 c =
 
 pub memory-judged-spec : {M : Type 1} → statement M
 memory-judged-spec =
-    tie.close (tie.spec length-judged-requires returns cells-judged-requires returns-2)
+    tie.close (tie.spec (λ c κs. search needs) returns cells-judged-requires returns-2)

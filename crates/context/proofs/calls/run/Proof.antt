@@ -41,9 +41,6 @@ loop-holds c =
 array-read-wide : tie.Need-array-read-wide Inv-loop μ-loop
 array-read-wide c = omega (arith, c .before .before .before .before .before .before .before .before .before .before .before .pre .lists .fits)
 
-wide-requires : tie.Need-wide-requires Inv-loop μ-loop
-wide-requires c κs = tt
-
 -- a turn's node is the board's, and has few sources
 node-here : (c : tie.After-wide Inv-loop μ-loop) → c .wide .result < c .before .before .before .before .before .before .before .before .before .before .before .before .args .board .count
 node-here c =
@@ -65,29 +62,17 @@ mul-from c = omega (arith, node-small c)
 array-read-wide-2 : tie.Need-array-read-wide-2 Inv-loop μ-loop
 array-read-wide-2 c = omega (arith, node-small c)
 
-wide-requires-2 : tie.Need-wide-requires-2 Inv-loop μ-loop
-wide-requires-2 c κs = tt
-
 add-to : tie.Need-add-to Inv-loop μ-loop
 add-to c = omega (arith, node-small (c .before), count-small c)
 
 array-read-wide-3 : tie.Need-array-read-wide-3 Inv-loop μ-loop
 array-read-wide-3 c = omega (arith, node-small (c .before))
 
-wide-requires-3 : tie.Need-wide-requires-3 Inv-loop μ-loop
-wide-requires-3 c κs = tt
-
 mul-node : tie.Need-mul-node Inv-loop μ-loop
 mul-node c = omega (arith, node-small (c .before .before))
 
 array-copy-out-node : tie.Need-array-copy-out-node Inv-loop μ-loop
 array-copy-out-node c = omega (arith, node-small (c .before .before))
-
-sub-step : tie.Need-sub-step Inv-loop μ-loop
-sub-step c = omega arith
-
-part-step-start : tie.Need-part-step-start Inv-loop μ-loop
-part-step-start c = omega arith
 
 part-step-end : tie.Need-part-step-end Inv-loop μ-loop
 part-step-end c = omega (arith, node-small (c .before .before .before .before .before), count-small (c .before .before .before .before))
@@ -143,9 +128,6 @@ step-requires c κs =
 add-i : tie.Need-add-i Inv-loop μ-loop
 add-i c = omega (arith, c .before .before .before .before .before .before .before .before .before .before .before .before .before .before .before .before .before .before .before .before .before .before .before .before .before .pre .lists .fits)
 
-loop-less : tie.Need-loop-less Inv-loop μ-loop
-loop-less c = omega arith
-
 loop-again : tie.Need-loop-again Inv-loop μ-loop
 loop-again c =
     let t = c .before .before .before .before .before .before .before .before .before .before .before in
@@ -171,28 +153,6 @@ returns c =
 pub run-spec : {M : Type 1} → statement M
 run-spec =
     tie.close
-    (tie.spec
-    Inv-loop
-    μ-loop
-    starts-requires
-    starts-requires-2
-    loop-holds
-    array-read-wide
-    wide-requires
-    mul-from
-    array-read-wide-2
-    wide-requires-2
-    add-to
-    array-read-wide-3
-    wide-requires-3
-    mul-node
-    array-copy-out-node
-    sub-step
-    part-step-start
-    part-step-end
-    step-requires
-    add-i
-    loop-less
-    loop-again
-    same-length
-    returns)
+    (tie.spec Inv-loop μ-loop starts-requires starts-requires-2 loop-holds array-read-wide (λ c κs. tt) mul-from array-read-wide-2
+    (λ c κs. tt) add-to array-read-wide-3 (λ c κs. tt) mul-node array-copy-out-node (λ c. omega arith) (λ c. omega arith) part-step-end
+    step-requires add-i (λ c. omega arith) loop-again same-length returns)

@@ -34,9 +34,6 @@ module _ (start : tie.Start) where
   abbrev change : Parsed → List ℕ
   change p = setNumber p (start .args .node) (start .args .value) (words m)
 
-read-board-requires : tie.Need-read-board-requires
-read-board-requires c κs = search needs
-
 returns : tie.Need-returns
 unfolding messageOf
 returns c =
@@ -61,9 +58,6 @@ module _ (c : tie.Else1) where
 
 memory-judged-requires : tie.Need-memory-judged-requires
 memory-judged-requires c κs = (read (c .before) .sound, fine (c .before))
-
-same-length : tie.Need-same-length
-same-length c = search needs
 
 returns-2 : tie.Need-returns-2
 unfolding messageOf
@@ -103,9 +97,6 @@ module _ (c : tie.After-number-judged) where
       let told = number-told (parsedOf (board else)) (start else .args .node) (start else .args .value) (ap (λ (a : Answer). a .number) (sym (c .number-judged .ensures)) ∙ z) in
       omega (arith, told .0, count-nodes (board else) (read else .sound))
 
-same-length-2 : tie.Need-same-length-2
-same-length-2 c = search needs
-
 returns-3 : tie.Need-returns-3
 unfolding messageOf
 returns-3 c =
@@ -118,12 +109,6 @@ put-number-requires : tie.Need-put-number-requires
 put-number-requires c κs =
     let known = c .before .before .before in
     (read (else known) .sound, (fine (else known), (there known (c .before .if3 .left), long known)))
-
-new-requires : tie.Need-new-requires
-new-requires c κs = search needs
-
-same-length-3 : tie.Need-same-length-3
-same-length-3 c = search needs
 
 returns-4 : tie.Need-returns-4
 unfolding messageOf
@@ -139,16 +124,5 @@ returns-4 c =
 pub message-spec : {M : Type 1} → statement M
 message-spec =
     tie.close
-    (tie.spec
-    read-board-requires
-    returns
-    memory-judged-requires
-    same-length
-    returns-2
-    number-judged-requires
-    same-length-2
-    returns-3
-    put-number-requires
-    new-requires
-    same-length-3
-    returns-4)
+    (tie.spec (λ c κs. search needs) returns memory-judged-requires (λ c. search needs) returns-2 number-judged-requires (λ c. search needs)
+    returns-3 put-number-requires (λ c κs. search needs) (λ c. search needs) returns-4)

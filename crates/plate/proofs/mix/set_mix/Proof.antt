@@ -35,9 +35,6 @@ module _ (start : tie.Start) where
   abbrev change : Parsed → List ℕ
   change p = setMix p (start .args .mix) (words m)
 
-read-board-requires : tie.Need-read-board-requires
-read-board-requires c κs = search needs
-
 returns : tie.Need-returns
 unfolding mixOf
 returns c =
@@ -62,9 +59,6 @@ module _ (c : tie.Else1) where
 
 memory-judged-requires : tie.Need-memory-judged-requires
 memory-judged-requires c κs = (read (c .before) .sound, fine (c .before))
-
-same-length : tie.Need-same-length
-same-length c = search needs
 
 returns-2 : tie.Need-returns-2
 unfolding mixOf
@@ -102,9 +96,6 @@ module _ (c : tie.After-mix-judged) where
       let told = mix-told (parsedOf (board else)) (start else .args .mix) (ap (λ (a : Answer). a .number) (sym (c .mix-judged .ensures)) ∙ z) in
       omega (arith, told .right-dry .0, count-nodes (board else) (read else .sound))
 
-same-length-2 : tie.Need-same-length-2
-same-length-2 c = search needs
-
 returns-3 : tie.Need-returns-3
 unfolding mixOf
 returns-3 c =
@@ -117,12 +108,6 @@ put-mix-requires : tie.Need-put-mix-requires
 put-mix-requires c κs =
     let known = c .before .before .before in
     (read (else known) .sound, (fine (else known), (there known (c .before .if3 .left), long known)))
-
-new-requires : tie.Need-new-requires
-new-requires c κs = search needs
-
-same-length-3 : tie.Need-same-length-3
-same-length-3 c = search needs
 
 returns-4 : tie.Need-returns-4
 unfolding mixOf
@@ -138,16 +123,5 @@ returns-4 c =
 pub set-mix-spec : {M : Type 1} → statement M
 set-mix-spec =
     tie.close
-    (tie.spec
-    read-board-requires
-    returns
-    memory-judged-requires
-    same-length
-    returns-2
-    mix-judged-requires
-    same-length-2
-    returns-3
-    put-mix-requires
-    new-requires
-    same-length-3
-    returns-4)
+    (tie.spec (λ c κs. search needs) returns memory-judged-requires (λ c. search needs) returns-2 mix-judged-requires (λ c. search needs)
+    returns-3 put-mix-requires (λ c κs. search needs) (λ c. search needs) returns-4)
