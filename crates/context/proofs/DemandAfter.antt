@@ -30,8 +30,8 @@ use Rattle.reading.specs.Keeps.{All}
 use Rattle.reading.proofs.Table.{joined-agree, tab-agree, tab-constant, length-tab, getD-tab}
 use Rattle.graph.specs.Board.{Parsed}
 use Rattle.context.specs.Memory.{kindAt}
-use Rattle.context.specs.Reading.{Call, block, message, Reply, Timed, silence, reached, accepts, accepted, inputs, answerTo, end, inputAt, numberAt, earlier, IsReading, samplesOf, lastOf, withNumber, reachedCell, otherCell, cellAfter, memoryAfter, outputs, replyTo, blocksAfter, repliesTo}
-use Rattle.context.specs.Instance.{Cells, mono, sent, asks, boardOf, memoryRules, readingRules, cellIn, memoryOf}
+use Rattle.context.specs.Reading.{mono, Call, block, message, Reply, Timed, silence, reached, accepts, accepted, inputs, answerTo, end, inputAt, numberAt, earlier, IsReading, samplesOf, lastOf, withNumber, reachedCell, otherCell, cellAfter, memoryAfter, outputs, replyTo, blocksAfter, repliesTo}
+use Rattle.context.specs.Instance.{Cells, sent, asks, boardOf, memoryRules, readingRules, cellIn, memoryOf}
 use Rattle.context.specs.Fine.{Fine}
 use Rattle.graph.specs.declared.answer.Answer.{Answer}
 use Rattle.context.proofs.FineBoard.{lists}

@@ -30,8 +30,8 @@ use Rattle.graph.specs.Sources.{distinct, distinctSources, secondSource}
 use Rattle.graph.specs.Board.{blank, Parsed}
 use Rattle.context.specs.Memory.{kindAt}
 use Rattle.context.specs.Calls.{listed}
-use Rattle.context.specs.Reading.{Call, Timed, silence, reached, rightSample, broughtOf, end, inputAt, numberAt, earlier, brings, broughtTo, heldAt, IsReading}
-use Rattle.context.specs.Instance.{mono, sent, boardOf, frameOf, broughtFrom, readingRules}
+use Rattle.context.specs.Reading.{mono, Call, Timed, silence, reached, rightSample, broughtOf, end, inputAt, numberAt, earlier, brings, broughtTo, heldAt, IsReading}
+use Rattle.context.specs.Instance.{sent, boardOf, frameOf, broughtFrom, readingRules}
 use Rattle.context.specs.Fine.{Fine}
 use Rattle.graph.proofs.RoundSources.{mem-distinct}
 use Rattle.context.proofs.FineBoard.{lists, listed-there}

@@ -32,8 +32,8 @@ use Rattle.reading.specs.Encode.{Encodes}
 use Rattle.reading.specs.Keeps.{Lawful}
 use Rattle.graph.specs.Board.{blank, Parsed}
 use Rattle.context.specs.Memory.{kindAt}
-use Rattle.context.specs.Reading.{Call, block, message, valueOf, accepts, silence}
-use Rattle.context.specs.Instance.{boardOf, mono, sent, asks, broughtFrom, memoryRules, readingRules}
+use Rattle.context.specs.Reading.{mono, Call, block, message, valueOf, accepts, silence}
+use Rattle.context.specs.Instance.{boardOf, sent, asks, broughtFrom, memoryRules, readingRules}
 use Rattle.context.specs.Fine.{Fine}
 use Rattle.context.specs.Instance.{Held}
 use Rattle.context.proofs.FineBoard.{source-there, lists}

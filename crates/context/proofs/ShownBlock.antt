@@ -29,8 +29,8 @@ use Rattle.reading.proofs.Table.{put-same, put-other, mem-head, or-right}
 use Rattle.graph.specs.Board.{Parsed}
 use Rattle.context.specs.Memory.{nodeAt, kindAt, runNodes, putInput}
 use Rattle.context.specs.Calls.{listed, setNumber}
-use Rattle.context.specs.Reading.{samplesOf}
-use Rattle.context.specs.Instance.{Cells, mono, boardOf, memoryRules, cellIn, shown}
+use Rattle.context.specs.Reading.{mono, samplesOf}
+use Rattle.context.specs.Instance.{Cells, boardOf, memoryRules, cellIn, shown}
 use Rattle.context.specs.Fine.{Fine}
 use Rattle.context.proofs.FineBoard.{listed-there}
 use Rattle.context.proofs.ShownCells.{leftsOf, rightsOf, samples-length, part-mid, paste-mid, LongCell, Long, Around, around}

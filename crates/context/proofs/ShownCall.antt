@@ -27,10 +27,10 @@ use Rattle.graph.specs.Answer.{answer}
 use Rattle.graph.specs.Board.{Parsed, Reading, whole}
 use Rattle.graph.specs.Judge.{readBoard}
 use Rattle.context.specs.Memory.{kindAt, passed, runNodes, runBlock}
-use Rattle.context.specs.Calls.{Left, andThen, checkMemory, checkBlocks, checkSamples, callBy, changeBy, asFound, checkBlock, ranBlock, blockIn, checkMessage, setNumber, messageOf}
-use Rattle.context.specs.Reading.{Call, block, message, valueOf, answerTo, accepts, Reply}
+use Rattle.context.specs.Calls.{Outcome, andThen, checkMemory, checkBlocks, checkSamples, callBy, changeBy, asLeft, checkBlock, ranBlock, blockIn, checkMessage, setNumber, messageOf}
+use Rattle.context.specs.Reading.{mono, Call, block, message, valueOf, answerTo, accepts, Reply}
 use Rattle.context.specs.Claim.{replied, callIn}
-use Rattle.context.specs.Instance.{Cells, mono, boardOf, memoryRules, shown, memoryOf}
+use Rattle.context.specs.Instance.{Cells, boardOf, memoryRules, shown, memoryOf}
 use Rattle.context.specs.Fine.{Fine}
 use Rattle.context.specs.Instance.{Held}
 use Rattle.graph.specs.declared.answer.Answer.{Answer}
@@ -124,15 +124,15 @@ module _ (board : List ℕ) (p : Parsed) (reads : readBoard board ≡ whole p) (
     block-shown : callIn order board c M ≡ (memoryOf p ((run c) .0), replyFor p c ((run c) .1))
     unfolding blockIn
     block-shown =
-        ap (λ (d : Reading). left-by (callBy (λ a. asFound a M l r) (λ q. checkBlock q M x l r) (λ q. ranBlock q (order q) x M) d)) reads
-        ∙ ap (λ (a : Answer). left-by (cond (eqb (a .number) 0) (ranBlock p o x M) (asFound a M l r))) (checks-rest (answerTo p c))
+        ap (λ (d : Reading). left-by (callBy (λ a. asLeft a M l r) (λ q. checkBlock q M x l r) (λ q. ranBlock q (order q) x M) d)) reads
+        ∙ ap (λ (a : Answer). left-by (cond (eqb (a .number) 0) (ranBlock p o x M) (asLeft a M l r))) (checks-rest (answerTo p c))
         ∙ go (accepts p c) refl
       where
-        left-by : Left → List ℕ × Reply
+        left-by : Outcome → List ℕ × Reply
         left-by d = (d .memory, replied d)
 
         go : (q : Bool) → accepts p c ≡ q
-            → left-by (cond q (ranBlock p o x M) (asFound (answerTo p c) M l r))
+            → left-by (cond q (ranBlock p o x M) (asLeft (answerTo p c) M l r))
             ≡ (memoryOf p ((settled (cond q (some given) none)) .0), replyFor p c ((settled (cond q (some given) none)) .1))
         go true e = ran-block e
         go false e = refl

@@ -36,8 +36,8 @@ use Rattle.graph.specs.Sources.{distinctSources, secondSource}
 use Rattle.graph.specs.Board.{blank, Parsed}
 use Rattle.context.specs.Memory.{kindAt}
 use Rattle.context.specs.Calls.{listed}
-use Rattle.context.specs.Reading.{Call, block, message, valueOf, Timed, silence, reached, rightSample, accepts, accepted, numberIn, end, inputAt, numberAt, earlier, brings, broughtTo, heldAt, IsReading}
-use Rattle.context.specs.Instance.{mono, sent, boardOf, broughtFrom, readingRules}
+use Rattle.context.specs.Reading.{mono, Call, block, message, valueOf, Timed, silence, reached, rightSample, accepts, accepted, numberIn, end, inputAt, numberAt, earlier, brings, broughtTo, heldAt, IsReading}
+use Rattle.context.specs.Instance.{sent, boardOf, broughtFrom, readingRules}
 use Rattle.context.specs.Fine.{Fine}
 use Rattle.graph.specs.Tail.{delays}
 use Rattle.context.specs.Silence.{Zero, QuietInput}

@@ -17,12 +17,15 @@ use Rattle.nodes.specs.Cell.{takesNumber, valueFits}
 use Rattle.context.specs.Memory.{passed, nodeAt, kindAt, freshValues, checkCells, runBlock}
 use Rattle.graph.specs.declared.answer.Answer.{Answer}
 
--- the answer, and the bytes of the memory and of the two output blocks as a call left them
-pub record Left : Type 0 where
+-- the answer, and the bytes of the memory and of the two output blocks as a block run left them
+pub record Outcome : Type 0 where
   pub answer : Answer
   pub memory : List ℕ
   pub left : List ℕ
   pub right : List ℕ
+
+abbrev pub asLeft : Answer → List ℕ → List ℕ → List ℕ → Outcome
+asLeft a m l r = record { answer = a; memory = m; left = l; right = r }
 
 -- ---- checks, one after the other: the first that refuses answers
 
@@ -58,8 +61,8 @@ checkSamples i (w ∷ ws) = cond (finite w) (checkSamples (suc i) ws) (answer 10
 
 -- ---- the calls
 
--- a call on a board as it was read: a refused board is the answer, then the first check behind 6 that refuses; `found` leaves every byte as
--- found. Where all pass the call has done its work
+-- a call on a board as it was read, which is never left going. The board's refusal is the answer, or that of the first check behind 6 that
+-- refuses, and every byte is as found (`found` of the answer); where all pass, the call has done its work
 abbrev pub callBy : {A : Type 0} → (Answer → A) → (Parsed → Answer) → (Parsed → A) → Reading → A
 callBy found check done (going at last p) = found (answer 1 at)
 callBy found check done (refused n w) = found (answer n w)
@@ -75,15 +78,12 @@ freshOf board m = changeBy m (λ p. checkLength p m) freshValues (readBoard boar
 
 -- ---- the block run
 
-abbrev pub asFound : Answer → List ℕ → List ℕ → List ℕ → Left
-asFound a m l r = record { answer = a; memory = m; left = l; right = r }
-
 -- the checks of a block run behind 6
 abbrev pub checkBlock : Parsed → List ℕ → List ℕ → List ℕ → List ℕ → Answer
 checkBlock p m x l r = andThen (checkMemory p m) (andThen (checkBlocks p x l r) (checkSamples 0 (words x)))
 
 -- an accepted block run with the nodes taken in the order o: the outputs are node 0's two channels
-abbrev pub ranBlock : Parsed → List ℕ → List ℕ → List ℕ → Left
+abbrev pub ranBlock : Parsed → List ℕ → List ℕ → List ℕ → Outcome
 ranBlock p o x m =
     let ws = runBlock p o (words x) (words m) in
     record {
@@ -94,15 +94,15 @@ ranBlock p o x m =
     }
 
 -- a block run in the order that `order` gives for a board
-unfoldable pub blockIn : (Parsed → List ℕ) → List ℕ → List ℕ → List ℕ → List ℕ → List ℕ → Left
+unfoldable pub blockIn : (Parsed → List ℕ) → List ℕ → List ℕ → List ℕ → List ℕ → List ℕ → Outcome
 blockIn order board m x l r =
-    callBy (λ a. asFound a m l r) (λ p. checkBlock p m x l r) (λ p. ranBlock p (order p) x m) (readBoard board)
+    callBy (λ a. asLeft a m l r) (λ p. checkBlock p m x l r) (λ p. ranBlock p (order p) x m) (readBoard board)
 
 -- the block run takes the visiting list
 abbrev pub listed : Parsed → List ℕ
 listed p = visitingList (p .wires)
 
-abbrev pub blockOf : List ℕ → List ℕ → List ℕ → List ℕ → List ℕ → Left
+abbrev pub blockOf : List ℕ → List ℕ → List ℕ → List ℕ → List ℕ → Outcome
 blockOf board m x l r = blockIn listed board m x l r
 
 -- ---- the number message

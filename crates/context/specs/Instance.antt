@@ -21,13 +21,9 @@ use Rattle.graph.specs.Sources.{distinctSources, secondSource}
 use Rattle.graph.specs.Board.{Parsed}
 use Rattle.context.specs.Memory.{kindAt}
 use Rattle.context.specs.Calls.{listed}
-use Rattle.context.specs.Reading.{Call, block, message, valueOf, accepts, silence, rightSample, samplesOf}
+use Rattle.context.specs.Reading.{Call, block, message, valueOf, accepts, mono, silence, rightSample, samplesOf, withNumber}
 
 -- ---- the board
-
--- the sample x of a node of one channel
-abbrev pub mono : ℕ → Frame
-mono x = record { left = x; right = 0 }
 
 -- what an accepted call asks
 abbrev pub sent : Call → theory.Call Frame ℕ
@@ -73,7 +69,7 @@ unfoldable pub memoryRules : Parsed → theory.Rules Frame State ℕ
 memoryRules p = record {
   fresh = λ k. freshCell (p .size) (kindAt p k) .state;
   step = λ k i s h fs. (sampleBy (kindAt p k) s h (broughtFrom p k fs), stateBy (kindAt p k) s (broughtFrom p k fs));
-  set = λ k v s. record { number = v; carry = s .carry; place = s .place; line = s .line };
+  set = λ k v s. withNumber v s;
 }
 
 -- on what the reading knows

@@ -20,7 +20,8 @@ use Rattle.graph.specs.declared.graph.Order.{Order}
 abbrev pub CellsIn : List NodeRecord → ℕ → ℕ → Type 0
 CellsIn nodes n long = (k : ℕ) → k < n → 4 * (nodeIn nodes k .cell + 3) ≤ long
 
--- the start of a node's samples fits: it has one channel or two, and its cell starts among so many values as a memory may have
+-- the start of a node's samples fits: it has one channel or two, and its cell starts among the values of the largest memory,
+-- 64 × (3 + 2 × 128) + 262,144
 pub record StartFits (r : NodeRecord) : Type 0 where
   pub some-channel : 1 ≤ r .channels
   pub few-channels : r .channels ≤ 2

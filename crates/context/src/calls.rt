@@ -6,7 +6,7 @@ ghost use lib.ListN.{length, take, drop, replicate};
 ghost use lib.Seq.{paste};
 ghost use Rattle.leaves.specs.Words.{words};
 ghost use Rattle.context.specs.Memory.{rightStart, checkCells, runNodes};
-ghost use Rattle.context.specs.Calls.{andThen, checkNeeded, checkMemory, checkSizes, checkSamples, asFound, listed, freshOf, blockOf};
+ghost use Rattle.context.specs.Calls.{andThen, checkNeeded, checkMemory, checkSizes, checkSamples, asLeft, listed, freshOf, blockOf};
 ghost use Rattle.graph.specs.Read.{parsedOf, Sound};
 ghost use Rattle.context.specs.Fine.{Fine};
 ghost use Rattle.context.specs.Parts.{CellsIn, StartsFit, Starts, Runs, putNumbers};
@@ -230,7 +230,7 @@ fn run(board: Board, order: Order, memory: &mut [u8])
 // Ruled out: memory left untouched (block_runs_nothing), a fixed output (block_fixed_output), a block of
 // a fixed size (block_fixed_size), 9 judged before 8 (block_nine_before_eight).
 pub fn block(s: &[u8], memory: &mut [u8], input: &[u8], out0: &mut [u8], out1: &mut [u8]) -> Answer
-    ensures { λ r. ⌜ asFound r (now (memory .exit)) (now (out0 .exit)) (now (out1 .exit))
+    ensures { λ r. ⌜ asLeft r (now (memory .exit)) (now (out0 .exit)) (now (out1 .exit))
         ≡ blockOf (now (s .entry)) (now (memory .entry)) (now (input .entry)) (now (out0 .entry)) (now (out1 .entry)) ⌝ }
 {
     let board = read_board(s);

@@ -4,7 +4,7 @@ ghost use mathlib.Core.Path.{_≡_};
 ghost use Rattle.leaves.specs.Lengths.{delayOf, allPassOf};
 ghost use Rattle.graph.specs.Judge.{judgeOf};
 ghost use Rattle.graph.specs.Tail.{tailAnswer};
-ghost use Rattle.context.specs.Calls.{asFound, freshOf, blockOf, messageOf};
+ghost use Rattle.context.specs.Calls.{asLeft, freshOf, blockOf, messageOf};
 ghost use Rattle.plate.specs.Plate.{writeOf};
 ghost use Rattle.plate.specs.Mix.{mixOf};
 ghost use Rattle.plate.specs.Lengths.{lengthAnswer};
@@ -56,7 +56,7 @@ pub extern "C" fn plate_block(
     out0: &mut [u8],
     out1: &mut [u8],
 ) -> Answer
-    ensures { λ r. ⌜ asFound r (now (memory .exit)) (now (out0 .exit)) (now (out1 .exit))
+    ensures { λ r. ⌜ asLeft r (now (memory .exit)) (now (out0 .exit)) (now (out1 .exit))
         ≡ blockOf (now (board .entry)) (now (memory .entry)) (now (input .entry)) (now (out0 .entry)) (now (out1 .entry)) ⌝ }
 {
     context::calls::block(board, memory, input, out0, out1)

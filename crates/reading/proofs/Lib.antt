@@ -1,3 +1,5 @@
+-- The theorems: a block run in any order that fits is what the reading by samples says (Main, Flat, Memory); the visiting list (Visit),
+-- rings against histories (Ring), the tail (Tail).
 pub mod Table
 pub mod Order
 pub mod Moment

@@ -1,3 +1,4 @@
+-- Block run and reading by samples, over any nodes' rules: what the theorems of the crate speak of.
 pub mod Table
 pub mod Order
 pub mod Visit

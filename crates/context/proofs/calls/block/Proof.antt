@@ -7,7 +7,7 @@ use lib.ListN.{length}
 use borrow.Author.Needs.{needs}
 use Rattle.leaves.specs.Words.{words}
 use Rattle.context.specs.Memory.{runNodes, runBlock}
-use Rattle.context.specs.Calls.{Left, asFound, checkBlock, ranBlock, blockIn, listed}
+use Rattle.context.specs.Calls.{Outcome, asLeft, checkBlock, ranBlock, blockIn, listed}
 use Rattle.graph.specs.Board.{Parsed}
 use Rattle.graph.specs.Read.{parsedOf}
 use Rattle.context.specs.Fine.{Fine}
@@ -23,13 +23,13 @@ use Rattle.context.proofs.calls.block.Tie as tie
 -- ---- refusals
 
 module _ (start : tie.Start) where
-  abbrev found : Answer → Left
-  found a = asFound a (start .args .memory .now) (start .args .out0 .now) (start .args .out1 .now)
+  abbrev found : Answer → Outcome
+  found a = asLeft a (start .args .memory .now) (start .args .out0 .now) (start .args .out1 .now)
 
   abbrev check : Parsed → Answer
   check p = checkBlock p (start .args .memory .now) (start .args .input .now) (start .args .out0 .now) (start .args .out1 .now)
 
-  abbrev done : Parsed → Left
+  abbrev done : Parsed → Outcome
   done p = ranBlock p (listed p) (start .args .input .now) (start .args .memory .now)
 
 returns : tie.Need-returns
@@ -159,7 +159,7 @@ returns-3 c =
     let memory = after .run .last .1 .1 .0 in
     let left = c .before .before .before .before .before .before .before .before .copy2 in
     let right = c .before .before .before .copy3 in
-    ap (λ (a : Answer). asFound a memory (left .last .1 .1 .0) (right .last .1 .1 .0)) (c .new .ensures)
+    ap (λ (a : Answer). asLeft a memory (left .last .1 .1 .0) (right .last .1 .1 .0)) (c .new .ensures)
     ∙ block-ran (accepted (chosen after)) memory (λ i. omega (arith, c .before .before .before .before .before .before .before .before .before .before .before .slice-known5 .given i)) (kept after) (ran after)
     (left .last .1 .1 .0) (right .last .1 .1 .0)
     (λ i. omega (arith, c .before .before .before .before .before .before .slice-known6 .given i))
