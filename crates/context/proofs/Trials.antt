@@ -10,7 +10,7 @@ use Rattle.graph.specs.Answer.{answer}
 use Rattle.graph.specs.Judge.{judgeOf}
 use Rattle.graph.specs.Late.{lateWires}
 use Rattle.graph.specs.Visit.{visitingList}
-use Rattle.graph.specs.Walks.{printed, printedList, printedLate}
+use Rattle.graph.specs.Walks.{printedWires as printed, printedList, printedLate}
 use Rattle.graph.specs.Write.{writeBoard}
 use Rattle.graph.proofs.RoundWorked.{feedback, feedback-judged}
 use Rattle.graph.specs.JudgeCases as judged

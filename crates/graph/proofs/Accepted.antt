@@ -1,28 +1,31 @@
 -- What a call knows of the board that `read_board` gives it. Assumes nothing.
 use Prim.Native.Nat.{ℕ, zero, suc, _+_, _≤_, _<_}
-use mathlib.Core.Path.{_≡_, refl, subst, _∙_}
-use mathlib.Core.List.{List, [], _∷_, _++_}
+use mathlib.Core.Path.{_≡_, refl, sym, subst, _∙_}
+use mathlib.Core.List.{List, [], _∷_}
 use mathlib.Core.Bool.{Bool, true, false}
 use native.Mathlib.Omega.{arith}
 use borrow.Author.Tests.{ltb-true, ltb-false, leb-true, ne-eqb}
-use lib.Dec.{ltb, leb, eqb}
-use lib.ListN.{length, getD, take, length-append, List·getD-append}
-use lib.Seq.{length-take-le, getD-append-seam}
+use lib.Dec.{ltb, leb}
+use lib.ListN.{length, getD, take}
+use lib.Seq.{length-take-le}
 use Rattle.nodes.specs.Kind.{cellSize, fewest, most}
 use Rattle.nodes.specs.declared.kind.NodeRecord.{NodeRecord}
-use Rattle.reading.specs.Table.{mem}
 use Rattle.reading.specs.Order.{Wire, Each, sources}
+use Rattle.reading.proofs.Order.{each-source}
 use Rattle.graph.specs.Board.{Parsed, blank, refused, whole, cellsOf}
-use Rattle.graph.specs.Sources.{addNew, addAll, distinct, distinctSources}
+use Rattle.graph.specs.Sources.{distinct, distinctSources}
 use Rattle.graph.specs.Wires.{wiresOf}
 use Rattle.graph.specs.Judge.{readBoard}
 use Rattle.graph.specs.Read.{parsedOf, Read}
 use Rattle.graph.specs.Formed.{Formed, TableAt}
+use Rattle.graph.specs.Listed.{SourcesBelow}
 use Rattle.graph.specs.Write.{WireObeys}
 use Rattle.graph.specs.declared.board.Board.{Board}
-use Rattle.graph.proofs.Choice.{pick, both}
+use Rattle.graph.proofs.Choice.{both}
 use Rattle.graph.proofs.Answers.{or-accepts, or-refuses}
-use Rattle.graph.proofs.Six.{most-few}
+use Rattle.graph.proofs.Six.{sources-few}
+use Rattle.graph.proofs.Listed.{mem-at}
+use Rattle.graph.proofs.RoundSources.{mem-distinct}
 use Rattle.graph.proofs.Formed.{whole-formed}
 
 -- ---- cells stand one after the other
@@ -37,45 +40,11 @@ cells-apart N (r ∷ ns) d (suc i) (suc j) l h = omega (arith, cells-apart N ns 
 
 -- ---- sources are nodes, and few
 
--- every number of a list is below n
-abbrev Below : ℕ → List ℕ → Type 0
-Below n l = (j : ℕ) → j < length l → getD l j 0 < n
+pub joins-below : (n : ℕ) (ws : List Wire) → Each (WireObeys n) ws → SourcesBelow ws n
+joins-below n ws h k s e = let f = each-source (WireObeys n) ws h k s e in subst (λ (i : ℕ). i < n) (f .2) (f .1 .source-there)
 
--- what holds at each index of a list, and at its end, holds at each index of the list with one element more
-snoc-each : {A : Type 0} (P : ℕ → Type 0) (xs : List A) (x : A) → ((i : ℕ) → i < length xs → P i) → P (length xs) → (i : ℕ) → i < length (xs ++ (x ∷ [])) → P i
-snoc-each P xs x h e i l = split (ltb i (length xs)) refl
-  where
-    split : (b : Bool) → ltb i (length xs) ≡ b → P i
-    split true q = h i (ltb-true i (length xs) q)
-    split false q =
-        let at-end : length xs ≡ i = omega (arith, ltb-false i (length xs) q, simp length-append at l) in
-        subst P at-end e
-
-below-snoc : (n : ℕ) (l : List ℕ) (x : ℕ) → x < n → Below n l → Below n (l ++ (x ∷ []))
-below-snoc n l x p h =
-    snoc-each (λ (j : ℕ). getD (l ++ (x ∷ [])) j 0 < n) l x
-    (λ j b. rw (List·getD-append l (x ∷ []) 0 j b) (h j b))
-    (rw (getD-append-seam l x [] 0) p)
-
-below-add : (n : ℕ) (l : List ℕ) (x : ℕ) → x < n → Below n l → Below n (addNew l x)
-below-add n l x p h = pick (Below n) (mem x l) l (l ++ (x ∷ [])) (λ _. h) (λ _. below-snoc n l x p h)
-
-below-all : (n : ℕ) (l xs : List ℕ) → Below n xs → Below n l → Below n (addAll l xs)
-below-all n l [] q h = h
-below-all n l (x ∷ xs) q h = below-all n (addNew l x) xs (λ j b. q (suc j) (omega arith)) (below-add n l x (q 0 (omega arith)) h)
-
-below-cons : (n x : ℕ) (l : List ℕ) → x < n → Below n l → Below n (x ∷ l)
-below-cons n x l p h zero b = p
-below-cons n x l p h (suc j) b = h j (omega arith)
-
-below-sources : (n : ℕ) (ws : List Wire) (v : ℕ) → Each (WireObeys n) ws → Below n (sources ws v)
-below-sources n [] v h = λ j b. absurd (omega arith)
-below-sources n (w ∷ ws) v h =
-    pick (Below n) (eqb (w .target) v) _ _ (λ _. below-cons n (w .source) (sources ws v) (h .0 .source-there) (below-sources n ws v (h .1))) (λ _. below-sources n ws v (h .1))
-
-pub distinct-below : (n : ℕ) (ws : List Wire) (v : ℕ) → Each (WireObeys n) ws → Below n (distinctSources ws v)
-unfolding distinct
-distinct-below n ws v h = below-all n [] (sources ws v) (below-sources n ws v h) (λ j b. absurd (omega arith))
+distinct-below : (n : ℕ) (ws : List Wire) (v : ℕ) → Each (WireObeys n) ws → (j : ℕ) → j < length (distinctSources ws v) → getD (distinctSources ws v) j 0 < n
+distinct-below n ws v h j b = joins-below n ws h v _ (sym (mem-distinct _ (sources ws v)) ∙ mem-at (distinctSources ws v) j b)
 
 -- no wire leads into a node that is not there
 no-sources : (n : ℕ) (ws : List Wire) (v : ℕ) → Each (WireObeys n) ws → n ≤ v → sources ws v ≡ []
@@ -96,7 +65,7 @@ few-sources p f v = split (ltb v (length (p .nodes))) refl
         let k = (getD (p .nodes) v blank) .kind in
         let n = length (distinctSources (p .wires) v) in
         let two = both (leb (fewest k) n) (leb n (most k)) (f .sources-fit blank v (ltb-true v (length (p .nodes)) e)) in
-        omega (arith, leb-true n (most k) (two .1), most-few k)
+        omega (arith, leb-true n (most k) (two .1), sources-few k .1)
     split false e = rw (no-sources (length (p .nodes)) (p .wires) v (f .joins) (ltb-false v (length (p .nodes)) e)) none-few
 
 -- ---- the board in arrays

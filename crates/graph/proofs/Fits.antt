@@ -6,7 +6,8 @@ use borrow.Author.Tests.{ltb-true, leb-true, eqb-false, not-true}
 use lib.Dec.{ltb, leb, eqb}
 use Rattle.nodes.specs.Kind.{lineOf}
 use Rattle.nodes.specs.declared.kind.NodeKind.{NodeKind}
-use Rattle.graph.specs.Board.{sizeFits, placed, nodeFits, wireFits}
+use Rattle.graph.specs.Board.{wire, sizeFits, placed, nodeFits, wireFits}
+use Rattle.graph.specs.Write.{WireObeys}
 use Rattle.graph.proofs.Choice.{both}
 
 pub size-fits : (N : ℕ) → sizeFits N ≡ true → (1 ≤ N) × (N ≤ 128)
@@ -27,9 +28,7 @@ node-fits i lines k e =
 
 pub record WireFits (i w a t : ℕ) : Type 0 where
   pub room : w < 128
-  pub source-in : a < i
-  pub target-in : t < i
-  pub apart : a ≡ t → ⊥
+  pub obeys : WireObeys i (wire a t)
 
 pub wire-fits : (i w a t : ℕ) → wireFits i w a t ≡ true → WireFits i w a t
 wire-fits i w a t e =
@@ -38,7 +37,9 @@ wire-fits i w a t e =
     let two = both (ltb w 128) (ltb a i) (three .0) in
     record {
       room = ltb-true w 128 (two .0);
-      source-in = ltb-true a i (two .1);
-      target-in = ltb-true t i (three .1);
-      apart = eqb-false a t (not-true (eqb a t) (all .1));
+      obeys = record {
+        source-there = ltb-true a i (two .1);
+        target-there = ltb-true t i (three .1);
+        apart = eqb-false a t (not-true (eqb a t) (all .1));
+      };
     }

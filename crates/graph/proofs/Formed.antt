@@ -70,11 +70,7 @@ module _ (at : ℕ) (p : Parsed) (h : Records p) where
       let i = length (p .nodes) in
       let w = length (p .wires) in
       pick Good (wireFits i w a t) _ _
-      (λ e. let fits = wire-fits i w a t e in
-      record {
-        few-lines = h .few-lines;
-        joins = joins-snoc _ (p .wires) (wire a t) (h .joins) (record { source-there = fits .source-in; target-there = fits .target-in; apart = fits .apart });
-      })
+      (λ e. record { few-lines = h .few-lines; joins = joins-snoc _ (p .wires) (wire a t) (h .joins) (wire-fits i w a t e .obeys) })
       (λ _. tt)
 
 -- ---- the reading

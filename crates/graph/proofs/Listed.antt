@@ -55,7 +55,7 @@ lists-reached ws below = record {
 
 -- ---- the list in an array
 
-mem-at : (l : List ℕ) (i : ℕ) → i < length l → mem (getD l i 0) l ≡ true
+pub mem-at : (l : List ℕ) (i : ℕ) → i < length l → mem (getD l i 0) l ≡ true
 mem-at [] i h = absurd (not-suc-le-zero h)
 mem-at (x ∷ l) zero h = mem-head x l
 mem-at (x ∷ l) (suc i) h = or-right (eqb (getD l i 0) x) (mem-at l i (le-of-suc-le-suc h))

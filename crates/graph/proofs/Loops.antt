@@ -156,8 +156,8 @@ module _ (s : List ℕ) (start i : ℕ) (ss ts : List ℕ) (count next : ℕ) (h
         sources-long = simp length-set (h .sources-long);
         targets-long = simp length-set (h .targets-long);
         few = omega (arith, here .1 .room);
-        sources-in = within-more i ss count a p (here .1 .source-in) (h .sources-in);
-        targets-in = within-more i ts count t q (here .1 .target-in) (h .targets-in);
+        sources-in = within-more i ss count a p (here .1 .obeys .source-there) (h .sources-in);
+        targets-in = within-more i ts count t q (here .1 .obeys .target-there) (h .targets-in);
         next-is = omega (arith, h .next-is);
         inside = here .2;
       }

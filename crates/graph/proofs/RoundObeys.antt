@@ -5,7 +5,7 @@ use mathlib.Core.Logic.{_↔_}
 use mathlib.Core.List.{List, [], _∷_}
 use mathlib.Core.Bool.{Bool, true, false, cond, not, _&&_, and-eq-true-iff}
 use native.Mathlib.Omega.{arith}
-use borrow.Author.Tests.{ltb-true, lt-ltb, leb-true, le-leb, eqb-true, eqb-false, eq-eqb, ne-eqb, not-true}
+use borrow.Author.Tests.{lt-ltb, le-leb, eqb-true, eqb-false, eq-eqb, ne-eqb, not-true}
 use lib.ListN.{length, getD}
 use lib.Dec.{ltb, leb, eqb}
 use Rattle.nodes.specs.Kind.{lineOf}
@@ -14,6 +14,7 @@ use Rattle.nodes.specs.declared.kind.NodeKind.the-variants.{Pass, Sum, Destinat
 use Rattle.reading.specs.Order.{Wire}
 use Rattle.graph.specs.Board.{placed}
 use Rattle.graph.specs.Write.{NodeCard, kindOf, FieldsObey, NodeObeys, WireObeys, EachAt, linesOfCards}
+use Rattle.graph.proofs.Fits as fits
 use Rattle.graph.proofs.RoundRule.{kind-kept, kind-told, destination-is}
 use Rattle.graph.proofs.RoundRun.{NodeFits, NodesFit, WireFits, WiresFit}
 
@@ -86,19 +87,17 @@ module _ (i lines : ℕ) (d : NodeCard) where
 
   pub node-told : NodeFits i lines d → NodeObeys i d × (i < 64) × (lines + lineOf (kindOf d) ≤ 262144)
   node-told h =
-      let k = kindOf d in
-      let told = kind-told d k (h .rule) in
-      let two = and-eq-true-iff (ltb i 64 && placed i k) (leb total 262144) .0 (h .fits) in
-      let one = and-eq-true-iff (ltb i 64) (placed i k) .0 (two .0) in (
+      let told = kind-told d (kindOf d) (h .rule) in
+      let all = fits.node-fits i lines (kindOf d) (h .fits) in (
         record {
           least-type = told .0;
           most-type = told .1;
           fields = told .2;
           float-fits = h .f-small;
-          destination = place-told (d .type) i (eqb i 0) refl (rw (destination-is d (told .0) (told .1)) at (one .1));
+          destination = place-told (d .type) i (eqb i 0) refl (rw (destination-is d (told .0) (told .1)) at (all .in-place));
         },
-        ltb-true i 64 (one .0),
-        leb-true total 262144 (two .1),
+        all .room,
+        all .few-lines,
       )
 
 pub nodes-fit : (ds : List NodeCard) (i lines : ℕ) → EachFrom NodeObeys i ds → i + length ds ≤ 64 → lines + linesOfCards ds ≤ 262144
@@ -133,19 +132,7 @@ module _ (i j : ℕ) (w : Wire) where
       }
 
   pub wire-told : WireFits i j w → WireObeys i w × (j < 128)
-  wire-told h =
-      let x = w .source in
-      let y = w .target in
-      let three = and-eq-true-iff (ltb j 128 && ltb x i && ltb y i) (not (eqb x y)) .0 (h .fits) in
-      let two = and-eq-true-iff (ltb j 128 && ltb x i) (ltb y i) .0 (three .0) in
-      let one = and-eq-true-iff (ltb j 128) (ltb x i) .0 (two .0) in (
-        record {
-          source-there = ltb-true x i (one .1);
-          target-there = ltb-true y i (two .1);
-          apart = eqb-false x y (not-true (eqb x y) (three .1));
-        },
-        ltb-true j 128 (one .0),
-      )
+  wire-told h = let all = fits.wire-fits i j (w .source) (w .target) (h .fits) in (all .obeys, all .room)
 
 module _ (i : ℕ) where
   pub wires-fit : (ws : List Wire) (j k : ℕ) → EachFrom (λ (k : ℕ) (w : Wire). WireObeys i w) k ws → i ≤ 64 → j + length ws ≤ 128 → WiresFit i j ws

@@ -17,53 +17,30 @@ use Rattle.graph.specs.Write.{NodeCard, kindOf, Finite, InBand, LineLeng
 
 -- ---- a type's number
 
-abbrev numberOf : NodeKind → ℕ
-numberOf Pass = 1
-numberOf Sum = 2
-numberOf Destination = 3
-numberOf Balance = 4
-numberOf (Mul f) = 5
-numberOf (Add f) = 6
-numberOf (Delay n) = 7
-numberOf (AllPass n f) = 8
-numberOf (OnePole f) = 9
-numberOf (Sine f) = 10
+abbrev typeOf : NodeKind → ℕ
+typeOf Pass = 1
+typeOf Sum = 2
+typeOf Destination = 3
+typeOf Balance = 4
+typeOf (Mul f) = 5
+typeOf (Add f) = 6
+typeOf (Delay n) = 7
+typeOf (AllPass n f) = 8
+typeOf (OnePole f) = 9
+typeOf (Sine f) = 10
 
-number-known : (k : NodeKind) → (1 ≤ numberOf k) × (numberOf k ≤ 10)
-number-known Pass = omega arith
-number-known Sum = omega arith
-number-known Destination = omega arith
-number-known Balance = omega arith
-number-known (Mul f) = omega arith
-number-known (Add f) = omega arith
-number-known (Delay n) = omega arith
-number-known (AllPass n f) = omega arith
-number-known (OnePole f) = omega arith
-number-known (Sine f) = omega arith
-
-number-pass : (k : NodeKind) → isPass k ≡ eqb (numberOf k) 1
-number-pass Pass = refl
-number-pass Sum = refl
-number-pass Destination = refl
-number-pass Balance = refl
-number-pass (Mul f) = refl
-number-pass (Add f) = refl
-number-pass (Delay n) = refl
-number-pass (AllPass n f) = refl
-number-pass (OnePole f) = refl
-number-pass (Sine f) = refl
-
-number-destination : (k : NodeKind) → isDestination k ≡ eqb (numberOf k) 3
-number-destination Pass = refl
-number-destination Sum = refl
-number-destination Destination = refl
-number-destination Balance = refl
-number-destination (Mul f) = refl
-number-destination (Add f) = refl
-number-destination (Delay n) = refl
-number-destination (AllPass n f) = refl
-number-destination (OnePole f) = refl
-number-destination (Sine f) = refl
+-- it is known, and tells a pass and a destination
+type-told : (k : NodeKind) → (1 ≤ typeOf k) × (typeOf k ≤ 10) × (isPass k ≡ eqb (typeOf k) 1) × (isDestination k ≡ eqb (typeOf k) 3)
+type-told Pass = (omega arith, omega arith, refl, refl)
+type-told Sum = (omega arith, omega arith, refl, refl)
+type-told Destination = (omega arith, omega arith, refl, refl)
+type-told Balance = (omega arith, omega arith, refl, refl)
+type-told (Mul f) = (omega arith, omega arith, refl, refl)
+type-told (Add f) = (omega arith, omega arith, refl, refl)
+type-told (Delay n) = (omega arith, omega arith, refl, refl)
+type-told (AllPass n f) = (omega arith, omega arith, refl, refl)
+type-told (OnePole f) = (omega arith, omega arith, refl, refl)
+type-told (Sine f) = (omega arith, omega arith, refl, refl)
 
 -- ---- the fields
 
@@ -92,7 +69,7 @@ float-so n f = both-so (eqb n 0) (finite f) (zero-so n) (finite-so f)
 -- ---- kind and rule, side by side
 
 record Agrees (t n f : ℕ) (k : NodeKind) (r : Rule) : Type 0 where
-  number : 1 ≤ t → t ≤ 10 → numberOf k ≡ t
+  number : 1 ≤ t → t ≤ 10 → typeOf k ≡ t
   keeps : 1 ≤ t → t ≤ 10 → FieldsObey k n f → r ≡ Is k
   tells : (j : NodeKind) → r ≡ Is j → (1 ≤ t) × (t ≤ 10) × FieldsObey k n f × (k ≡ j)
 
@@ -100,11 +77,11 @@ broken-is-not : {A : Type 0} (j : NodeKind) → Broken ≡ Is j → A
 broken-is-not j e = let z : _≡_ {A = ℕ} 0 1 = cc in absurd (omega arith)
 
 module _ (t n f : ℕ) where
-  is-kept : (k : NodeKind) (ok : Bool) → FieldsObey k n f ↔ So ok → t ≡ numberOf k → Agrees t n f k (kept ok k)
+  is-kept : (k : NodeKind) (ok : Bool) → FieldsObey k n f ↔ So ok → t ≡ typeOf k → Agrees t n f k (kept ok k)
   is-kept k true h e = record {
     number = λ _ _. sym e;
     keeps = λ _ _ _. refl;
-    tells = λ j p. (omega (arith, number-known k), omega (arith, number-known k), h .1 refl, cc);
+    tells = λ j p. (omega (arith, type-told k .0), omega (arith, type-told k .1), h .1 refl, cc);
   }
   is-kept k false h e = record {
     number = λ _ _. sym e;
@@ -160,10 +137,10 @@ module _ (d : NodeCard) (lo : 1 ≤ d .type) (hi : d .type ≤ 10) where
   kind-kept h = agrees .keeps lo hi h
 
   pub pass-is : isPass (kindOf d) ≡ eqb (d .type) 1
-  pass-is = number-pass (kindOf d) ∙ ap (λ (j : ℕ). eqb j 1) (agrees .number lo hi)
+  pass-is = type-told (kindOf d) .2 ∙ ap (λ (j : ℕ). eqb j 1) (agrees .number lo hi)
 
   pub destination-is : isDestination (kindOf d) ≡ eqb (d .type) 3
-  destination-is = number-destination (kindOf d) ∙ ap (λ (j : ℕ). eqb j 3) (agrees .number lo hi)
+  destination-is = type-told (kindOf d) .3 ∙ ap (λ (j : ℕ). eqb j 3) (agrees .number lo hi)
 
 -- what a rule that names a kind says of its description
 pub kind-told : (d : NodeCard) (k : NodeKind) → ruleOf (d .type) (d .n) (d .f) ≡ Is k

@@ -4,7 +4,7 @@ use mathlib.Core.Path.{_≡_, refl, ap, _∙_}
 use mathlib.Core.List.{[], _∷_}
 use Rattle.graph.specs.Answer.{answer}
 use Rattle.graph.specs.Judge.{judgeOf}
-use Rattle.graph.specs.Walks as walks
+use Rattle.graph.specs.Walks.{printedWires}
 use Rattle.graph.specs.Write.{NodeCard, Card, writeBoard, Obeys}
 use Rattle.graph.specs.declared.answer.Answer.{Answer}
 use Rattle.graph.proofs.RoundBytes.{board-bytes}
@@ -19,7 +19,7 @@ feedback = record {
   size = 2;
   input = 1;
   nodes = node 3 0 0 ∷ node 1 0 0 ∷ node 6 0 0 ∷ node 7 1 0 ∷ node 5 0 0x3f00_0000 ∷ [];
-  wires = walks.printed;
+  wires = printedWires;
 }
 
 pub feedback-written : writeBoard feedback ≡ printed

@@ -22,29 +22,17 @@ use Rattle.graph.proofs.Choice.{pick}
 
 -- ---- the counts of the table, nine standing for more than eight
 
-fewest-few : (k : NodeKind) → fewest k ≤ 9
-fewest-few Pass = omega arith
-fewest-few Sum = omega arith
-fewest-few Destination = omega arith
-fewest-few Balance = omega arith
-fewest-few (Mul f) = omega arith
-fewest-few (Add f) = omega arith
-fewest-few (Delay n) = omega arith
-fewest-few (AllPass n f) = omega arith
-fewest-few (OnePole f) = omega arith
-fewest-few (Sine f) = omega arith
-
-pub most-few : (k : NodeKind) → most k ≤ 8
-most-few Pass = omega arith
-most-few Sum = omega arith
-most-few Destination = omega arith
-most-few Balance = omega arith
-most-few (Mul f) = omega arith
-most-few (Add f) = omega arith
-most-few (Delay n) = omega arith
-most-few (AllPass n f) = omega arith
-most-few (OnePole f) = omega arith
-most-few (Sine f) = omega arith
+pub sources-few : (k : NodeKind) → (fewest k ≤ 9) × (most k ≤ 8)
+sources-few Pass = omega arith
+sources-few Sum = omega arith
+sources-few Destination = omega arith
+sources-few Balance = omega arith
+sources-few (Mul f) = omega arith
+sources-few (Add f) = omega arith
+sources-few (Delay n) = omega arith
+sources-few (AllPass n f) = omega arith
+sources-few (OnePole f) = omega arith
+sources-few (Sine f) = omega arith
 
 -- two tests that say the same
 leb-same : (a b c d : ℕ) → (a ≤ b → c ≤ d) → (c ≤ d → a ≤ b) → leb a b ≡ leb c d
@@ -60,8 +48,7 @@ leb-same a b c d f g = go (leb c d) refl
 
 pub fits-nine : (k : NodeKind) (n : ℕ) → sourcesFit k (min 9 n) ≡ sourcesFit k n
 fits-nine k n =
-    let few = fewest-few k in
-    let many = most-few k in
+    let few = sources-few k in
     rw (leb-same (fewest k) (min 9 n) (fewest k) n (λ h. omega arith) (λ h. omega arith), leb-same (min 9 n) (most k) n (most k) (λ h. omega arith) (λ h. omega arith))
 
 add-longer : (l : List ℕ) (x : ℕ) → length l ≤ length (addNew l x)

@@ -10,18 +10,14 @@ use Rattle.reading.proofs.Order.{each-source}
 use Rattle.graph.specs.Judge.{readBoard}
 use Rattle.graph.specs.Wires.{Within, wiresFrom, wiresOf}
 use Rattle.graph.specs.Read.{parsedOf, Read}
-use Rattle.graph.specs.Write.{WireObeys}
 use Rattle.graph.specs.Visit.{visitingList, Lists}
 use Rattle.graph.specs.Walking.{Table, Gathered}
 use Rattle.graph.specs.Listed.{SourcesBelow}
 use Rattle.graph.specs.Tail.{tailBy, tailOf, LinesFit}
 use Rattle.graph.specs.declared.board.Board.{Board}
-use Rattle.graph.proofs.Accepted.{accepted-formed, count-is, table-at}
+use Rattle.graph.proofs.Accepted.{joins-below, accepted-formed, count-is, table-at}
 use Rattle.graph.proofs.Listed.{listed-within}
 use Rattle.graph.proofs.Lines.{tail-of, lines-fit}
-
-joins-below : (n : ℕ) (ws : List Wire) → Each (WireObeys n) ws → SourcesBelow ws n
-joins-below n ws h k s e = let f = each-source (WireObeys n) ws h k s e in subst (λ (i : ℕ). i < n) (f .2) (f .1 .source-there)
 
 -- wires in arrays, with every source below m
 each-below : (ss ts : List ℕ) (m n i : ℕ) → ((j : ℕ) → j < i + n → getD ss j 0 < m) → Each (λ w. w .source < m) (wiresFrom ss ts i n)

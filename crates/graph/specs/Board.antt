@@ -91,6 +91,7 @@ pub data Reading : Type 0 where
   refused : ℕ → ℕ → Reading
   whole : Parsed → Reading
 
+-- the body of a head, of a node, of a wire
 abbrev pub headBy : ℕ → ℕ → ℕ → Reading
 headBy at N i = cond (sizeFits N) (going (at + 8) 1 (headed N i)) (refused 3 at)
 
@@ -105,6 +106,7 @@ wireBy at p s t = cond (wireFits (length (p .nodes)) (length (p .wires)) s t) (g
 abbrev pub endBy : List ℕ → ℕ → Parsed → Reading
 endBy s at p = cond (eqb (at + 4) (length s)) (whole p) (refused 1 (at + 4))
 
+-- what the record found at an offset does to the board p
 unfoldable pub takeFound : List ℕ → ℕ → Parsed → Found → Reading
 takeFound s at p Head = headBy at (u16At s (at + 4)) (u16At s (at + 6))
 takeFound s at p Node = nodeBy at p (ruleOf (u16At s (at + 4)) (u32At s (at + 6)) (u32At s (at + 10)))
@@ -123,5 +125,6 @@ run zero s r = r
 run (suc n) s r = run n s (stepOf s r)
 
 -- checks 1 to 5. Each record has a byte, so as many steps as bytes, and one more, end the reading: it is never left going
+-- (`board-ends` of proofs/Ending)
 unfoldable pub readRecords : List ℕ → Reading
 readRecords s = run (suc (length s)) s (going 0 0 (headed 0 0))

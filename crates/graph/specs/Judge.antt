@@ -33,6 +33,7 @@ checkSix p =
     cond (eqb (length (p .nodes)) 0) (refused 6 0)
     (cond (inputFits p) (checkSources p 0 (p .nodes)) (refused 6 (p .input)))
 
+-- check 6 of a board whose records are read whole
 abbrev pub thenSix : Reading → Reading
 thenSix (going at last p) = going at last p
 thenSix (refused n w) = refused n w
@@ -42,7 +43,7 @@ thenSix (whole p) = checkSix p
 unfoldable pub readBoard : List ℕ → Reading
 readBoard s = thenSix (readRecords s)
 
--- ---- the judge's answer: the refusal, or the memory's length
+-- ---- a call's answer: the refusal, or 0 and f of the board; the judge's place is the memory's length
 
 abbrev pub answerBy : (Parsed → ℕ) → Reading → Answer
 answerBy f (going at last p) = answer 1 at

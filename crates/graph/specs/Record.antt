@@ -18,10 +18,11 @@ cut s at = ltb (length s - at) 4 || ltb (length s - at) (u16At s at)
 abbrev pub inOrder : ℕ → ℕ → Bool
 inOrder last k = cond (eqb last 0) (eqb k 1) (leb 2 k && leb last k && leb k 4)
 
--- a record of kind k and length z: head 8, node 14, wire 8, end 4
+-- f, if the length z is n
 abbrev pub sized : ℕ → ℕ → Found → Found
 sized z n f = cond (eqb z n) f (Refused 1)
 
+-- a record of kind k and length z: head 8, node 14, wire 8, end 4
 unfoldable pub foundOf : ℕ → ℕ → Found
 foundOf k z =
     cond (eqb k 1) (sized z 8 Head)

@@ -3,16 +3,16 @@ use mathlib.Core.Path.{_≡_, refl}
 use lib.Ieee.{ofBits, binary32}
 use Rattle.nodes.specs.declared.kind.NodeKind.the-variants.{Pass, Sum, Destination, Mul, Add, Delay}
 use Rattle.graph.specs.Board.{Parsed, headed, withNode, withWire}
-use Rattle.graph.specs.Walks.{printed, printedList, printedLate, plate, plateList, plateLate}
+use Rattle.graph.specs.Walks.{printedWires, printedList, printedLate, plate, plateList, plateLate}
 use Rattle.graph.specs.Visit.{visitingList}
 use Rattle.graph.specs.Late.{isLate, lateWires}
 use Rattle.graph.specs.Tail.{endless, tailBy, tailOf}
 
-pub printed-list : visitingList printed ≡ printedList
+pub printed-list : visitingList printedWires ≡ printedList
 unfolding visitingList
 printed-list = refl
 
-pub printed-late : lateWires printedList printed ≡ printedLate
+pub printed-late : lateWires printedList printedWires ≡ printedLate
 unfolding lateWires isLate
 printed-late = refl
 

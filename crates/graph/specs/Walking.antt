@@ -12,7 +12,7 @@ use Rattle.graph.specs.Wires.{Within}
 
 -- ---- the sources gathered in two arrays: node v's stand in `lists` from 8 v on, as many as `counts` says
 
--- at most 8 sources for each node, and nodes
+-- each node has at most 8 sources, and they are nodes below 64
 pub record Table (counts lists : List ℕ) : Type 0 where
   pub few : (v : ℕ) → v < 64 → getD counts v 0 ≤ 8
   pub nodes : (v j : ℕ) → v < 64 → j < getD counts v 0 → getD lists (8 * v + j) 0 < 64

@@ -6,8 +6,8 @@ use Rattle.graph.specs.Board.{wire}
 
 -- the printed board
 
-abbrev pub printed : List Wire
-printed = wire 1 2 ∷ wire 2 3 ∷ wire 3 4 ∷ wire 4 2 ∷ wire 3 0 ∷ []
+abbrev pub printedWires : List Wire
+printedWires = wire 1 2 ∷ wire 2 3 ∷ wire 3 4 ∷ wire 4 2 ∷ wire 3 0 ∷ []
 
 abbrev pub printedList : List ℕ
 printedList = 1 ∷ 4 ∷ 2 ∷ 3 ∷ 0 ∷ []

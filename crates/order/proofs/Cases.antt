@@ -3,7 +3,7 @@ use mathlib.Core.Path.{_≡_, refl}
 use mathlib.Core.List.{[], _∷_}
 use Rattle.graph.specs.Board.{refused}
 use Rattle.graph.specs.Late.{lateWires, isLate}
-use Rattle.graph.specs.Walks.{printed, printedList}
+use Rattle.graph.specs.Walks.{printedWires as printed, printedList}
 use Rattle.order.specs.Text.{orderText, textOf, spacedAll, spaced, number, line, lateLines}
 
 -- "order 1 4 2 3 0" and "late 3 4", each with its line's end

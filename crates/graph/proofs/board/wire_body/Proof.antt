@@ -29,10 +29,10 @@ wire-fits-requires : tie.Need-wire-fits-requires
 wire-fits-requires c κs = search needs
 
 cast-t10 : tie.Need-cast-t10
-cast-t10 c = omega (arith, fits c .source-in)
+cast-t10 c = omega (arith, fits c .obeys .source-there)
 
 cast-t11 : tie.Need-cast-t11
-cast-t11 c = omega (arith, fits c .target-in)
+cast-t11 c = omega (arith, fits c .obeys .target-there)
 
 returns : tie.Need-returns
 unfolding wireRead
