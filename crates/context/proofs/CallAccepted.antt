@@ -18,17 +18,17 @@ use Rattle.graph.specs.Board.{Parsed, cellsOf, memoryLength}
 use Rattle.graph.specs.Judge.{readBoard}
 use Rattle.graph.specs.Visit.{Lists}
 use Rattle.graph.specs.Walking.{Table, Gathered}
-use Rattle.context.specs.Memory.{nodeAt, kindAt, putInput}
-use Rattle.context.specs.Calls.{andThen, checkLength, checkMemory, checkBlocks, checkSamples, checkBlock, listed}
+use Rattle.context.specs.Memory.{nodeIn, nodeAt, kindAt, putInput}
+use Rattle.context.specs.Calls.{andThen, checkMemory, checkBlocks, checkSamples, checkBlock, listed}
 use Rattle.graph.specs.Read.{parsedOf, Read}
 use Rattle.context.specs.Fine.{Fine}
-use Rattle.context.specs.Parts.{nodeIn, Runs}
+use Rattle.context.specs.Parts.{Runs}
 use Rattle.graph.specs.declared.board.Board.{Board}
 use Rattle.graph.specs.declared.graph.Order.{Order}
 use Rattle.graph.proofs.Accepted.{table-at}
 use Rattle.context.proofs.CallCells.{cell-in, node-in, count-nodes}
-use Rattle.context.proofs.CallChecks.{needed-long, sizes-accepted, then-both}
-use Rattle.context.proofs.CallLaws.{Whole, Judged, passed-judged, judged-passed, input-judged}
+use Rattle.context.proofs.CallChecks.{sizes-accepted, then-both}
+use Rattle.context.proofs.CallLaws.{Whole, Judged, judged-passed, memory-told, input-judged}
 
 -- ---- bytes
 
@@ -53,13 +53,13 @@ pub record Checked (p : Parsed) (m x l r : List ℕ) : Type 0 where
 
 pub block-checked : (p : Parsed) (m x l r : List ℕ) → checkBlock p m x l r .number ≡ 0 → Checked p m x l r
 block-checked p m x l r ok =
-    let seven = then-both (checkLength p m) (andThen (checkMemory p m) (andThen (checkBlocks p x l r) (checkSamples 0 (words x)))) ok in
-    let eight = then-both (checkMemory p m) (andThen (checkBlocks p x l r) (checkSamples 0 (words x))) (seven .1) in
+    let eight = then-both (checkMemory p m) (andThen (checkBlocks p x l r) (checkSamples 0 (words x))) ok in
     let nine = then-both (checkBlocks p x l r) (checkSamples 0 (words x)) (eight .1) in
+    let told = memory-told p m (eight .0) in
     let sizes = sizes-accepted (p .size) (length x) (length l) (length r) (nine .0) in
     record {
-      long = needed-long (memoryLength p) (length m) (seven .0);
-      judged = passed-judged p (words m) (eight .0);
+      long = told .0;
+      judged = told .1;
       input-long = sizes .0;
       left-long = sizes .1;
       right-long = sizes .2;
@@ -116,7 +116,7 @@ module _ {s m x l r : List ℕ} {b : Board} (run : AcceptedRun s m x l r b) wher
   pub output-room : 4 * (3 + b .size + b .size) ≤ length m
   output-room =
       let size : cellSize (b .size) (kindAt (parsedOf b) 0) ≡ 3 + b .size + b .size = ap (cellSize (b .size)) (run .fine .destination) ∙ omega arith in
-      omega (arith, cell-in (parsedOf b) (run .fine) 0 (run .fine .some-node), checked .long)
+      omega (arith, cell-in (parsedOf b) (run .fine) 0 (run .fine .formed .some-nodes), checked .long)
 
   pub few-bytes : length m ≤ 1114880
   few-bytes = omega (arith, checked .long, run .read .sound .values-sum, run .read .sound .few-values)

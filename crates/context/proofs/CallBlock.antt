@@ -1,27 +1,19 @@
--- The block run on the board as the code holds it, case by case.
---     block-refused     the board is refused
---     block-lacking     the memory or a block is
---     block-ran         the bytes after an accepted call
+-- The bytes after an accepted block run, on the board as the code holds it (`block-ran`).
 -- Assumes nothing.
 use Prim.Native.Nat.{ℕ, _+_, _*_, _≤_}
 use mathlib.Core.Path.{_≡_, refl, sym, ap, _∙_}
-use mathlib.Core.Bool.{Bool, cond}
 use mathlib.Core.List.{List, [], _++_, append-nil}
 use native.Mathlib.Omega.{arith}
-use borrow.Author.Tests.{ne-eqb}
-use lib.Dec.{eqb}
 use lib.ListN.{length, take, drop, length-drop}
 use lib.Seq.{paste, length-paste, drop-length}
 use Rattle.leaves.specs.Words.{words, unwords, unwords-words, Bytes}
 use Rattle.leaves.specs.Parts.{part, words-part}
-use Rattle.graph.specs.Board.{Reading, cellsOf}
-use Rattle.graph.specs.Judge.{readBoard}
+use Rattle.graph.specs.Board.{cellsOf}
 use Rattle.context.specs.Memory.{passed, runBlock}
-use Rattle.context.specs.Calls.{asFound, checkBlock, ranBlock, blockBy, blockIn, blockOf, listed}
-use Rattle.graph.specs.Read.{parsedOf, Read}
-use Rattle.graph.specs.declared.answer.Answer.{Answer}
+use Rattle.context.specs.Calls.{asLeft, checkBlock, ranBlock, blockIn, blockOf, listed}
+use Rattle.graph.specs.Read.{parsedOf}
 use Rattle.graph.specs.declared.board.Board.{Board}
-use Rattle.graph.proofs.Accepted.{accepted-board, refused-board}
+use Rattle.context.proofs.CallBy.{call-done}
 use Rattle.context.proofs.CallAccepted.{AcceptedRun, checked, output-room}
 
 -- a copy over the whole of a slice
@@ -30,24 +22,6 @@ copied-whole d s n e =
     let all : 0 + n ≡ length d = omega arith in
     let none : drop (0 + n) d ≡ [] = ap (λ (k : ℕ). drop k d) all ∙ drop-length d in
     ap (λ (l : List ℕ). take n s ++ l) none ∙ append-nil (take n s)
-
-module _ (s m x l r : List ℕ) (b : Board) (read : Read (readBoard s) b) where
-  pub block-refused : (b .refused .number ≡ 0 → ⊥) → asFound (b .refused) m l r ≡ blockOf s m x l r
-  unfolding blockIn
-  block-refused h = sym (ap (λ (v : Reading). blockBy listed v m x l r) (refused-board s b read h))
-
-  module _ (accepted : b .refused .number ≡ 0) where
-    -- what the checks answer decides
-    answered : (a : Answer) → a ≡ checkBlock (parsedOf b) m x l r
-        → blockOf s m x l r ≡ cond (eqb (a .number) 0) (ranBlock (parsedOf b) (listed (parsedOf b)) x m) (asFound a m l r)
-    unfolding blockIn
-    answered a judged =
-        ap (λ (v : Reading). blockBy listed v m x l r) (accepted-board s b read accepted)
-        ∙ ap (λ (c : Answer). cond (eqb (c .number) 0) (ranBlock (parsedOf b) (listed (parsedOf b)) x m) (asFound c m l r)) (sym judged)
-
-    pub block-lacking : (a : Answer) → a ≡ checkBlock (parsedOf b) m x l r → (a .number ≡ 0 → ⊥) → asFound a m l r ≡ blockOf s m x l r
-    block-lacking a judged h =
-        sym (answered a judged ∙ ap (λ (q : Bool). cond q (ranBlock (parsedOf b) (listed (parsedOf b)) x m) (asFound a m l r)) (ne-eqb (a .number) 0 h))
 
 -- the bytes after an accepted block run: the memory's, and the two outputs, copied out of it
 module _ {s m x l r : List ℕ} {b : Board} (run : AcceptedRun s m x l r b) (m′ : List ℕ) (bytes : Bytes m′) (kept : length m′ ≡ length m)
@@ -65,7 +39,8 @@ module _ {s m x l r : List ℕ} {b : Board} (run : AcceptedRun s m x l r b) (m�
       unwords-words d′ (b .size) long small ∙ ap unwords words-are
 
   pub block-ran : (l′ r′ : List ℕ) → Bytes l′ → Bytes r′ → l′ ≡ paste l 0 (drop 12 m′) (4 * b .size)
-      → r′ ≡ paste r 0 (drop (12 + 4 * b .size) m′) (4 * b .size) → asFound passed m′ l′ r′ ≡ blockOf s m x l r
+      → r′ ≡ paste r 0 (drop (12 + 4 * b .size) m′) (4 * b .size) → asLeft passed m′ l′ r′ ≡ blockOf s m x l r
+  unfolding blockIn
   block-ran l′ r′ left-bytes right-bytes left-copied right-copied =
       let c = checked run in
       let p = parsedOf b in
@@ -74,6 +49,5 @@ module _ {s m x l r : List ℕ} {b : Board} (run : AcceptedRun s m x l r b) (m�
       let left : l′ ≡ unwords (part ws 3 (b .size)) = channel l l′ 3 (c .left-long) left-bytes left-copied (omega (arith, output-room run)) in
       let right : r′ ≡ unwords (part ws (3 + b .size) (b .size)) =
       channel r r′ (3 + b .size) (c .right-long) right-bytes (right-copied ∙ ap (λ (n : ℕ). paste r 0 (drop n m′) (4 * b .size)) at) (omega (arith, output-room run)) in
-      (λ i. asFound passed (memory i) (left i) (right i))
-      ∙ sym (answered s m x l r b (run .read) (run .accepted) (checkBlock p m x l r) refl
-      ∙ ap (λ (n : ℕ). cond (eqb n 0) (ranBlock p (listed p) x m) (asFound (checkBlock p m x l r) m l r)) (run .passes))
+      (λ i. asLeft passed (memory i) (left i) (right i))
+      ∙ sym (call-done s b (run .read) (λ a. asLeft a m l r) (λ q. checkBlock q m x l r) (λ q. ranBlock q (listed q) x m) (run .accepted) (checkBlock p m x l r) refl (run .passes))

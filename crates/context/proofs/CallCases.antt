@@ -13,7 +13,7 @@ use Rattle.graph.specs.Sources.{distinct}
 use Rattle.graph.specs.Board.{takeFound, stepOf, run, readRecords}
 use Rattle.graph.specs.Judge.{checkSources, readBoard}
 use Rattle.context.specs.Memory.{checkCells}
-use Rattle.context.specs.Calls.{asFound, checkSamples, freshOf, blockIn, blockOf}
+use Rattle.context.specs.Calls.{asLeft, checkSamples, freshOf, blockIn, blockOf}
 use Rattle.graph.specs.Write.{writeBoard}
 use Rattle.graph.proofs.RoundWorked.{feedback}
 
@@ -41,19 +41,19 @@ pub fresh-length : freshOf board quiet ≡ (answer 7 112, quiet)
 unfolding writeBoard freshOf readBoard readRecords run stepOf takeFound foundAt foundOf ruleOf checkSources distinct
 fresh-length = refl
 
-pub block-length : blockOf board quiet broken short quiet ≡ asFound (answer 7 112) quiet short quiet
+pub block-length : blockOf board quiet broken short quiet ≡ asLeft (answer 7 112) quiet short quiet
 unfolding writeBoard blockIn readBoard readRecords run stepOf takeFound foundAt foundOf ruleOf checkSources distinct
 block-length = refl
 
-pub block-place : blockOf board misplaced broken short quiet ≡ asFound (answer 8 3) misplaced short quiet
+pub block-place : blockOf board misplaced broken short quiet ≡ asLeft (answer 8 3) misplaced short quiet
 unfolding writeBoard blockIn readBoard readRecords run stepOf takeFound foundAt foundOf ruleOf checkSources distinct checkCells numberFits carryFits placeFits words
 block-place = refl
 
-pub block-size : blockOf board zeros broken quiet short ≡ asFound (answer 9 2) zeros quiet short
+pub block-size : blockOf board zeros broken quiet short ≡ asLeft (answer 9 2) zeros quiet short
 unfolding writeBoard blockIn readBoard readRecords run stepOf takeFound foundAt foundOf ruleOf checkSources distinct checkCells numberFits carryFits placeFits words
 block-size = refl
 
-pub block-sample : blockOf board zeros broken quiet quiet ≡ asFound (answer 10 1) zeros quiet quiet
+pub block-sample : blockOf board zeros broken quiet quiet ≡ asLeft (answer 10 1) zeros quiet quiet
 unfolding writeBoard blockIn readBoard readRecords run stepOf takeFound foundAt foundOf ruleOf checkSources distinct checkCells numberFits carryFits placeFits words
     checkSamples
 block-sample = refl

@@ -11,10 +11,10 @@ use lib.Seq.{getD-take, take-length}
 use Rattle.nodes.specs.Kind.{cellSize}
 use Rattle.nodes.specs.declared.kind.NodeRecord.{NodeRecord}
 use Rattle.graph.specs.Board.{Parsed, blank, cellsOf}
-use Rattle.context.specs.Memory.{nodeAt, kindAt}
+use Rattle.context.specs.Memory.{nodeIn, nodeAt, kindAt}
 use Rattle.graph.specs.Read.{parsedOf, Sound}
 use Rattle.context.specs.Fine.{Fine}
-use Rattle.context.specs.Parts.{nodeIn, CellsIn}
+use Rattle.context.specs.Parts.{CellsIn}
 use Rattle.graph.specs.declared.board.Board.{Board}
 use Rattle.graph.proofs.Accepted.{cells-apart}
 use Rattle.graph.proofs.Six.{counted}

@@ -1,13 +1,14 @@
 -- The checks of the calls, in the steps that the code takes.
+--     passes                                    what an answer that does not refuse says of its test
 --     cells-next, cells-wrong, cells-end        check 8, node by node
---     samples-next, samples-wrong, samples-end  check 10, sample by sample
+--     samples-next, samples-wrong, samples-end, samples-passed    check 10, sample by sample
 --     needed-long, sizes-passed, sizes-wrong    checks 7 and 9
---     then-passed, then-refused, then-both, then-assoc    one check after another
+--     then-passed, then-refused, then-both    one check after another
 -- Assumes nothing.
-use Prim.Native.Nat.{ℕ, _+_, _*_, _≤_, _<_}
+use Prim.Native.Nat.{ℕ, suc, _+_, _*_, _≤_, _<_}
 use mathlib.Core.Path.{_≡_, refl, sym, ap, _∙_}
 use mathlib.Core.Bool.{Bool, true, false, cond, _&&_}
-use mathlib.Core.List.{List, []}
+use mathlib.Core.List.{List, [], _∷_}
 use native.Mathlib.Numerals.{add-one}
 use native.Mathlib.Omega.{arith}
 use borrow.Author.Tests.{eqb-true, eqb-false, ne-eqb}
@@ -18,13 +19,19 @@ use Rattle.nodes.specs.Kind.{finite}
 use Rattle.nodes.specs.Cell.{cellFits}
 use Rattle.nodes.specs.declared.kind.NodeRecord.{NodeRecord}
 use Rattle.graph.specs.Answer.{answer}
-use Rattle.context.specs.Memory.{passed, checkCells}
+use Rattle.context.specs.Memory.{nodeIn, passed, checkCells}
 use Rattle.context.specs.Calls.{andThen, checkNeeded, checkSizes, checkSamples}
-use Rattle.context.specs.Parts.{nodeIn}
 use Rattle.graph.specs.declared.answer.Answer.{Answer}
 use Rattle.graph.proofs.Choice.{both}
 use Rattle.graph.specs.Board.{blank}
 use Rattle.graph.proofs.Six.{counted, node-here}
+
+-- ---- answers
+
+-- a choice of two answers, of which the second refuses, that does not refuse
+pub passes : (q : Bool) (a b : Answer) → (b .number ≡ 0 → ⊥) → (cond q a b) .number ≡ 0 → (q ≡ true) × (a .number ≡ 0) × (cond q a b ≡ a)
+passes true a b h z = (refl, z, refl)
+passes false a b h z = absurd (h z)
 
 -- ---- check 8
 
@@ -63,14 +70,17 @@ module _ (ws : List ℕ) where
   unfolding checkSamples
   samples-end n e = rw (e, drop-length ws)
 
+pub samples-passed : (i : ℕ) (ws : List ℕ) → checkSamples i ws .number ≡ 0 → checkSamples i ws ≡ passed
+unfolding checkSamples
+samples-passed i [] z = refl
+samples-passed i (w ∷ ws) z =
+    let rest = passes (finite w) (checkSamples (suc i) ws) (answer 10 i) (λ e. omega arith) z in
+    rest .2 ∙ samples-passed (suc i) ws (rest .1)
+
 -- ---- checks 7 and 9
 
 pub needed-long : (needed lent : ℕ) → checkNeeded needed lent .number ≡ 0 → lent ≡ needed
-needed-long needed lent = go (eqb lent needed) refl
-  where
-    go : (q : Bool) → eqb lent needed ≡ q → (cond q passed (answer 7 needed)) .number ≡ 0 → lent ≡ needed
-    go true e h = eqb-true lent needed e
-    go false e h = absurd (omega arith)
+needed-long needed lent z = eqb-true lent needed (passes (eqb lent needed) passed (answer 7 needed) (λ e. omega arith) z .0)
 
 module _ (N x l r : ℕ) where
   abbrev sizes : Bool
@@ -83,11 +93,7 @@ module _ (N x l r : ℕ) where
       (eqb-true x (4 * N) (first .0), eqb-true l (4 * N) (first .1), eqb-true r (4 * N) (front .1))
 
   pub sizes-accepted : checkSizes N x l r .number ≡ 0 → (x ≡ 4 * N) × (l ≡ 4 * N) × (r ≡ 4 * N)
-  sizes-accepted = go sizes refl
-    where
-      go : (q : Bool) → sizes ≡ q → (cond q passed (answer 9 N)) .number ≡ 0 → (x ≡ 4 * N) × (l ≡ 4 * N) × (r ≡ 4 * N)
-      go true e h = sizes-long e
-      go false e h = absurd (omega arith)
+  sizes-accepted z = sizes-long (passes sizes passed (answer 9 N) (λ e. omega arith) z .0)
 
   pub sizes-passed : sizes ≡ true → checkSizes N x l r ≡ passed
   sizes-passed e = rw e
@@ -114,10 +120,3 @@ then-both a b = go (eqb (a .number) 0) refl
     go : (q : Bool) → eqb (a .number) 0 ≡ q → (cond q b a) .number ≡ 0 → (a .number ≡ 0) × (b .number ≡ 0)
     go true e h = (eqb-true (a .number) 0 e, h)
     go false e h = absurd (eqb-false (a .number) 0 e h)
-
-pub then-assoc : (a b c : Answer) → andThen (andThen a b) c ≡ andThen a (andThen b c)
-then-assoc a b c = go (eqb (a .number) 0) refl
-  where
-    go : (q : Bool) → eqb (a .number) 0 ≡ q → andThen (cond q b a) c ≡ cond q (andThen b c) a
-    go true e = refl
-    go false e = rw e

@@ -1,6 +1,5 @@
 -- One turn of the run of the listed nodes, on the board as the code holds it.
 --     starts-fit        what the starts of the samples ask
---     listed-ordered    listed nodes are the board's
 --     turn-ready        what a node's block run asks
 --     turn-run          that it is the definition's
 --     Running           the run under way: running-none, running-more, running-end
@@ -26,23 +25,25 @@ use Rattle.nodes.specs.declared.kind.NodeRecord.{NodeRecord}
 use Rattle.reading.specs.Table.{mem}
 use Rattle.reading.specs.Order.{sources}
 use Rattle.reading.proofs.Table.{mem-head, or-right, map-agree}
-use Rattle.graph.specs.Board.{Parsed, cellsOf}
+use Rattle.graph.specs.Board.{blank, Parsed, cellsOf}
 use Rattle.graph.specs.Sources.{distinctSources, secondSource}
-use Rattle.context.specs.Memory.{nodeAt, kindAt, leftStart, rightStart, broughtBy, runNode, runNodes}
+use Rattle.context.specs.Memory.{nodeIn, nodeAt, kindAt, leftStart, rightStart, broughtBy, runNode, runNodes}
 use Rattle.context.specs.Calls.{listed}
 use Rattle.graph.specs.Read.{parsedOf, Sound}
 use Rattle.graph.specs.Listed.{SourcesBelow}
 use Rattle.context.specs.Fine.{Fine}
 use Rattle.graph.specs.Formed.{TableAt}
-use Rattle.context.specs.Parts.{nodeIn, StartFits, StartsFit, Starts, Runs}
+use Rattle.context.specs.Parts.{StartFits, StartsFit, Starts, Runs}
 use Rattle.graph.specs.declared.answer.Answer.{Answer}
 use Rattle.graph.specs.declared.board.Board.{Board}
 use Rattle.graph.specs.declared.graph.Order.{Order}
-use Rattle.graph.proofs.Listed.{lists-reached}
+use Rattle.graph.proofs.Listed.{listed-within}
 use Rattle.graph.proofs.RoundSources.{mem-distinct}
-use Rattle.graph.proofs.Wired.{arrays-below}
+use Rattle.context.proofs.FineBoard.{lists}
 use Rattle.context.proofs.CallCells.{cell-in, node-in, count-nodes}
-use Rattle.context.proofs.CallLaws.{Judged, Ordered, passed-judged, node-judged}
+use Rattle.context.proofs.CallStarts.{mapped-at}
+use Rattle.context.proofs.FineBoard.{source-there}
+use Rattle.context.proofs.CallLaws.{Judged, passed-judged, node-judged}
 
 -- ---- the samples of a cell
 
@@ -73,16 +74,6 @@ number-below n [] h f j = h
 number-below n (x ∷ l) h f zero = f x (mem-head x l)
 number-below n (x ∷ l) h f (suc j) = number-below n l h (λ s e. f s (or-right (eqb s x) e)) j
 
-mapped-at : (f : NodeRecord → ℕ) (l : List NodeRecord) (k : ℕ) → k < length l → getD (map f l) k 0 ≡ f (nodeIn l k)
-mapped-at f [] k h = absurd (omega arith)
-mapped-at f (r ∷ l) zero h = refl
-mapped-at f (r ∷ l) (suc k) h = mapped-at f l k (omega arith)
-
-pub at-mem : (l : List ℕ) (j : ℕ) → j < length l → mem (getD l j 0) l ≡ true
-at-mem [] j h = absurd (omega arith)
-at-mem (x ∷ l) zero h = mem-head x l
-at-mem (x ∷ l) (suc j) h = or-right (eqb (getD l j 0) x) (at-mem l j (omega arith))
-
 -- ---- the board in arrays
 
 module _ (b : Board) (sound : Sound b) (fine : Fine (parsedOf b)) where
@@ -106,12 +97,7 @@ module _ (b : Board) (sound : Sound b) (fine : Fine (parsedOf b)) where
       })
 
   source-below : SourcesBelow (p .wires) (b .count)
-  source-below = arrays-below (b .sources) (b .targets) (b .wires) (b .count) (sound .sources-in)
-
-  pub listed-ordered : Ordered (parsedOf b) (listed (parsedOf b))
-  listed-ordered k e =
-      lists-reached (p .wires) (λ j s m. omega (arith, source-below j s m, sound .few-nodes)) .below (length (p .nodes)) (fine .some-node)
-      (λ j s m. node-there s (source-below j s m)) k e
+  source-below k s e = omega (arith, source-there p fine k s e, count-nodes b sound)
 
   module _ (table : (v : ℕ) → v < 64 → TableAt b v) (k : ℕ) (here : k < b .count) where
     small : k < 64
@@ -123,7 +109,7 @@ module _ (b : Board) (sound : Sound b) (fine : Fine (parsedOf b)) where
     distinct-there s e = source-below k s (sym (mem-distinct s (sources (p .wires) k)) ∙ e)
 
     second-there : secondSource (p .wires) k < b .count
-    second-there = number-below (b .count) (sources (p .wires) k) (omega (arith, fine .some-node, count-nodes b sound)) (source-below k) 1
+    second-there = number-below (b .count) (sources (p .wires) k) (omega (arith, fine .formed .some-nodes, count-nodes b sound)) (source-below k) 1
 
     module _ (r : ℕ) (count-is : r ≡ getD (b .counts) k 0) where
       abbrev list : List ℕ
@@ -141,8 +127,8 @@ module _ (b : Board) (sound : Sound b) (fine : Fine (parsedOf b)) where
           ext-getD 0 list (distinctSources (p .wires) k) (list-long ∙ count-is ∙ table k small .count-is)
           (λ j h. list-at j (omega (arith, list-long)) ∙ table k small .source-is j (omega (arith, list-long)))
 
-      source-there : (j : ℕ) → j < length list → getD list j 0 < b .count
-      source-there j h =
+      list-there : (j : ℕ) → j < length list → getD list j 0 < b .count
+      list-there j h =
           subst (λ (s : ℕ). s < b .count) (sym (list-at j (omega (arith, list-long)))) (table k small .source-in j (omega (arith, list-long)))
 
       -- ---- the starts of the samples
@@ -162,12 +148,12 @@ module _ (b : Board) (sound : Sound b) (fine : Fine (parsedOf b)) where
             → ((s : ℕ) → s < length (p .nodes) → start (nodeAt p s) + N ≤ nodeAt p s .cell + cellSize N (kindAt p s)) → InMemory list at N (length m)
         samples-in m long h j l =
             let s : ℕ = getD list j 0 in
-            let q : s < b .count = source-there j l in
+            let q : s < b .count = list-there j l in
             (omega (arith, sound .few-nodes), omega (arith, start-is s q, h s (node-there s q), cell-in p fine s (node-there s q)))
 
       -- ---- a turn
 
-      module _ (at₀ at₁ : List ℕ) (left-starts : Starts (leftStart (b .size)) (b .nodes) (b .count) at₀)
+      module _ (at₀ at₁ : List ℕ) (left-starts : Starts leftStart (b .nodes) (b .count) at₀)
           (right-starts : Starts (rightStart (b .size)) (b .nodes) (b .count) at₁) (second : ℕ) (second-is : second ≡ getD (b .seconds) k 0) where
         second-same : second ≡ secondSource (p .wires) k
         second-same = second-is ∙ sound .table .second k small
@@ -175,7 +161,7 @@ module _ (b : Board) (sound : Sound b) (fine : Fine (parsedOf b)) where
         second-low : second < b .count
         second-low = subst (λ (s : ℕ). s < b .count) (sym second-same) second-there
 
-        left-fits : (s : ℕ) → s < length (p .nodes) → leftStart N (nodeAt p s) + N ≤ nodeAt p s .cell + cellSize N (kindAt p s)
+        left-fits : (s : ℕ) → s < length (p .nodes) → leftStart (nodeAt p s) + N ≤ nodeAt p s .cell + cellSize N (kindAt p s)
         left-fits s h = omega (arith, samples-within N (kindAt p s) .left)
 
         right-fits : (s : ℕ) → s < length (p .nodes) → rightStart N (nodeAt p s) + N ≤ nodeAt p s .cell + cellSize N (kindAt p s)
@@ -193,9 +179,9 @@ module _ (b : Board) (sound : Sound b) (fine : Fine (parsedOf b)) where
               ap (λ (l : List ℕ). bring l second) list-is ∙ ap (bring (distinctSources (p .wires) k)) second-same in
               let started-same : bring (distinctSources (p .wires) k) (secondSource (p .wires) k) ≡ broughtBy p (words m) k =
               λ j i. record {
-                left = samples-same (leftStart N) at₀ left-starts (words m) i j;
+                left = samples-same leftStart at₀ left-starts (words m) i j;
                 right = samples-same (rightStart N) at₁ right-starts (words m) i j;
-                second = floatAt (words m) (start-same (leftStart N) at₀ left-starts (secondSource (p .wires) k) second-there j + i);
+                second = floatAt (words m) (start-same leftStart at₀ left-starts (secondSource (p .wires) k) second-there j + i);
               } in
               ap (λ (n : NodeRecord). nodeRun (n .kind) N (n .cell) (bring list second) (words m)) (sym (node-in b sound k here))
               ∙ ap (λ (bs : ℕ → Brought). nodeRun (kindAt p k) N (nodeAt p k .cell) bs (words m)) (listed-same ∙ started-same)
@@ -211,13 +197,13 @@ module _ (b : Board) (sound : Sound b) (fine : Fine (parsedOf b)) where
                 line = fine .nodes k there .line;
                 inside = omega (arith, cell-in p fine k there);
                 judged = judged k there;
-                counted = rw length-same at (fine .nodes k there .sources);
+                counted = rw length-same at (fine .formed .sources-fit blank k there);
                 lefts-long = left-starts .long;
                 rights-long = right-starts .long;
-                left-in = samples-in (leftStart N) at₀ left-starts m long left-fits;
+                left-in = samples-in leftStart at₀ left-starts m long left-fits;
                 right-in = samples-in (rightStart N) at₁ right-starts m long right-fits;
                 second-below = omega (arith, second-low, sound .few-nodes);
-                second-in = omega (arith, start-is (leftStart N) at₀ left-starts second second-low, left-fits second (node-there second second-low), cell-in p fine second (node-there second second-low));
+                second-in = omega (arith, start-is leftStart at₀ left-starts second second-low, left-fits second (node-there second second-low), cell-in p fine second (node-there second second-low));
               })
 
 -- ---- the run under way
@@ -263,8 +249,8 @@ module _ (b : Board) (o : Order) (m₀ : List ℕ) (runs : Runs b o m₀) where
 
     pub node-listed : getD (o .nodes) i 0 < b .count
     node-listed =
-        let member : mem k nodes ≡ true = ap (λ (n : ℕ). mem n nodes) (sym node-is) ∙ at-mem nodes i (omega (arith, nodes-long)) in
-        omega (arith, listed-ordered b (runs .sound) (runs .fine) k member, count-nodes b (runs .sound))
+        let some : 0 < b .count = omega (arith, runs .fine .formed .some-nodes, count-nodes b (runs .sound)) in
+        listed-within (parsedOf b .wires) (o .nodes) (o .count) (runs .lists) (b .count) some (runs .sound .few-nodes) (source-below b (runs .sound) (runs .fine)) i more
 
     pub running-more : (m m′ : List ℕ) → Running b o m₀ m i → length m′ ≡ length m → words m′ ≡ runNode (parsedOf b) (getD (o .nodes) i 0) (words m)
         → Running b o m₀ m′ (i + 1)

@@ -1,20 +1,24 @@
 -- Where the nodes' samples start, node by node.
+--     mapped-at                   a node's start, by its number
 --     starts-none, starts-more    an array filled from the front
+--     starts-left                 with a block size of 0 the starts are those of channel 0
 -- Assumes nothing.
 use Prim.Native.Nat.{ℕ, zero, suc, _+_, _-_, _*_, _≤_, _<_}
-use mathlib.Core.Path.{_≡_, refl, sym, ap, _∙_}
-use mathlib.Core.List.{List, [], _∷_, _++_, map}
+use mathlib.Core.Path.{_≡_, refl, sym, ap, subst, fun-ext, _∙_}
+use mathlib.Core.List.{List, [], _∷_, _++_, map, map-append}
 use native.Mathlib.Numerals.{add-one}
 use native.Mathlib.Omega.{arith}
-use lib.ListN.{length, set, take, length-set}
+use lib.ListN.{length, getD, set, take, length-set}
 use lib.Seq.{take-suc, take-suc-set}
-use Rattle.nodes.specs.declared.kind.NodeRecord.{NodeRecord}
-use Rattle.context.specs.Parts.{nodeIn, Starts}
 use Rattle.graph.specs.Board.{blank}
+use Rattle.context.specs.Memory.{nodeIn, leftStart, rightStart}
+use Rattle.nodes.specs.declared.kind.NodeRecord.{NodeRecord}
+use Rattle.context.specs.Parts.{Starts}
 
-map-snoc : (f : NodeRecord → ℕ) (l : List NodeRecord) (r : NodeRecord) → map f (l ++ (r ∷ [])) ≡ map f l ++ (f r ∷ [])
-map-snoc f [] r = refl
-map-snoc f (x ∷ l) r = ap (λ (t : List ℕ). f x ∷ t) (map-snoc f l r)
+pub mapped-at : (f : NodeRecord → ℕ) (l : List NodeRecord) (k : ℕ) → k < length l → getD (map f l) k 0 ≡ f (nodeIn l k)
+mapped-at f [] k h = absurd (omega arith)
+mapped-at f (r ∷ l) zero h = refl
+mapped-at f (r ∷ l) (suc k) h = mapped-at f l k (omega arith)
 
 module _ (start : NodeRecord → ℕ) (nodes : List NodeRecord) where
   pub starts-none : (at : List ℕ) → length at ≡ 64 → Starts start nodes 0 at
@@ -26,7 +30,7 @@ module _ (start : NodeRecord → ℕ) (nodes : List NodeRecord) where
     same = rw add-one
         (take-suc-set at i (start (nodeIn nodes i)) (omega (arith, s .long))
         ∙ ap (λ (l : List ℕ). l ++ (start (nodeIn nodes i) ∷ [])) (s .same)
-        ∙ sym (map-snoc start (take i nodes) (nodeIn nodes i))
+        ∙ sym (map-append start (take i nodes) (nodeIn nodes i ∷ []))
         ∙ ap (map start) (sym (take-suc nodes i blank there)));
   }
 
@@ -36,3 +40,11 @@ channel-start size zero h few = omega arith
 channel-start size (suc zero) h few = omega arith
 channel-start size (suc (suc zero)) h few = omega arith
 channel-start size (suc (suc (suc c))) h few = absurd (omega arith)
+
+pub starts-left : {nodes : List NodeRecord} {n : ℕ} {at : List ℕ} → Starts (rightStart 0) nodes n at → Starts leftStart nodes n at
+starts-left {nodes} {n} {at} s =
+    let same : rightStart 0 ≡ leftStart = fun-ext (λ r. none r) in
+    subst (λ (f : NodeRecord → ℕ). Starts f nodes n at) same s
+  where
+    none : (r : NodeRecord) → rightStart 0 r ≡ leftStart r
+    none r = omega arith

@@ -31,14 +31,15 @@ use Rattle.reading.proofs.Memory.{memory-claim}
 use Rattle.graph.specs.Answer.{answer}
 use Rattle.graph.specs.Board.{Parsed, Reading, going, refused, whole, memoryLength}
 use Rattle.graph.specs.Judge.{readBoard, answerBy, judgeOf}
-use Rattle.context.specs.Memory.{kindAt, passed}
-use Rattle.context.specs.Calls.{freshBy, freshOf, messageOf, listed}
+use Rattle.context.specs.Memory.{kindAt, passed, freshValues}
+use Rattle.context.specs.Calls.{checkLength, changeBy, freshOf, messageOf, listed}
 use Rattle.context.specs.Reading.{Call, message, valueOf, Timed, IsReading, accepted}
 use Rattle.context.specs.Claim.{callIn, freshMemory, AsRead, Claim, Demand}
 use Rattle.context.specs.Instance.{boardOf, memoryRules, readingRules, memoryOf}
-use Rattle.context.specs.Fine.{Fine, Held}
+use Rattle.context.specs.Fine.{Fine}
+use Rattle.context.specs.Instance.{Held}
 use Rattle.graph.specs.declared.answer.Answer.{Answer}
-use Rattle.graph.proofs.Ending.{Ended as Numbered, board-ends as read-numbered}
+use Rattle.graph.proofs.Ending.{Ended, board-ends}
 use Rattle.context.proofs.FineBoard.{fine-board}
 use Rattle.context.proofs.Lawful.{board-sound, rules-encode, rules-lawful}
 use Rattle.context.proofs.Told.{heard-sent}
@@ -131,17 +132,18 @@ fresh-call : (bytes : List ℕ) (p : Parsed) → readBoard bytes ≡ whole p →
     → freshOf bytes m ≡ (answer 0 0, freshMemory p)
 unfolding freshOf
 fresh-call bytes p e m h =
-    ap (λ (d : Reading). freshBy d m) e ∙ ap (λ (b : Bool). judged (cond b passed (answer 7 (memoryLength p)))) (eq-eqb (length m) (memoryLength p) h)
+    ap (changeBy m (λ q. checkLength q m) freshValues) e
+    ∙ ap (λ (b : Bool). told (cond b passed (answer 7 (memoryLength p)))) (eq-eqb (length m) (memoryLength p) h)
   where
-    judged : Answer → Answer × List ℕ
-    judged a = (a, cond (eqb (a .number) 0) (freshMemory p) m)
+    told : Answer → Answer × List ℕ
+    told a = cond (eqb (a .number) 0) (passed, freshMemory p) (a, m)
 
 -- of every board that the judge accepts
 pub demand : (board : List ℕ) → Bytes board → (judgeOf board) .number ≡ 0 → Demand board
 unfolding judgeOf
-demand board b = go (readBoard board) refl (read-numbered board)
+demand board b = go (readBoard board) refl (board-ends board)
   where
-    go : (r : Reading) → readBoard board ≡ r → Numbered r → (answerBy memoryLength r) .number ≡ 0 → Demand board
+    go : (r : Reading) → readBoard board ≡ r → Ended r → (answerBy memoryLength r) .number ≡ 0 → Demand board
     go (going at last p) e n z = absurd (omega arith)
     go (refused k w) e n z = absurd (omega arith)
     go (whole p) e n z = record {

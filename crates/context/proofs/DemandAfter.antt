@@ -2,9 +2,9 @@
 --     memory-shown     the theory's cells afterwards show every byte of the memory
 --     replies-shown    what its calls wrote are the replies
 -- Assumes nothing.
-use Prim.Native.Nat.{ℕ, zero, suc, _+_, _-_, _*_, _/_, _%_, _<_}
+use Prim.Native.Nat.{ℕ, suc, _+_, _-_, _*_, _/_, _%_, _<_}
 use mathlib.Core.Path.{_≡_, refl, sym, ap, _∙_}
-use mathlib.Core.List.{List, [], _∷_, _++_, map}
+use mathlib.Core.List.{List, [], _∷_, map}
 use mathlib.Core.Option.{Option, none, some}
 use mathlib.Core.Bool.{Bool, true, false, cond}
 use native.Mathlib.Omega.{arith}
@@ -21,32 +21,25 @@ use Rattle.nodes.specs.History.{Heard, freshHeard, stateOf}
 use Rattle.nodes.proofs.HistoryFrames.{map-tab}
 use Rattle.reading.specs.Table.{tab}
 use Rattle.reading.specs.Board as theory
-use Rattle.reading.specs.Places.{joined}
 use Rattle.reading.specs.Visit.{start}
 use Rattle.reading.specs.Time.{timeReply, nextBlock, timeReplies}
 use Rattle.reading.specs.Flat.{byBlock, flatCells}
 use Rattle.reading.specs.Encode.{encCells}
 use Rattle.reading.specs.Memory.{answers}
 use Rattle.reading.specs.Keeps.{All}
-use Rattle.reading.proofs.Table.{tab-agree, tab-constant, length-tab, getD-tab}
+use Rattle.reading.proofs.Table.{joined-agree, tab-agree, tab-constant, length-tab, getD-tab}
 use Rattle.graph.specs.Board.{Parsed}
 use Rattle.context.specs.Memory.{kindAt}
-use Rattle.context.specs.Reading.{Call, block, message, Reply, Timed, silence, reached, accepts, accepted, inputs, answerTo, end, inputAt, numberAt, earlier, IsReading, samplesOf, lastOf, withNumber, reachedCell, otherCell, cellAfter, memoryAfter, outputs, replyTo, blocksAfter, repliesTo}
-use Rattle.context.specs.Instance.{Cells, mono, sent, asks, boardOf, memoryRules, readingRules, cellIn, shownTo, memoryOf}
+use Rattle.context.specs.Reading.{mono, Call, block, message, Reply, Timed, silence, reached, accepts, accepted, inputs, answerTo, end, inputAt, numberAt, earlier, IsReading, samplesOf, lastOf, withNumber, reachedCell, otherCell, cellAfter, memoryAfter, outputs, replyTo, blocksAfter, repliesTo}
+use Rattle.context.specs.Instance.{Cells, sent, asks, boardOf, memoryRules, readingRules, cellIn, memoryOf}
 use Rattle.context.specs.Fine.{Fine}
 use Rattle.graph.specs.declared.answer.Answer.{Answer}
-use Rattle.context.proofs.Lawful.{lists, rules-encode}
+use Rattle.context.proofs.FineBoard.{lists}
+use Rattle.context.proofs.Lawful.{rules-encode}
 use Rattle.context.proofs.Told.{end-sent}
 use Rattle.context.proofs.ShownCall.{block-whole, replyFor}
 use Rattle.context.proofs.ShownFresh.{fresh-cell}
 use Rattle.context.proofs.DemandReading.{still, whole, whole-reached, whole-other, earlier-reached, input-whole, before}
-
--- ---- cells one behind another
-
-shown-joined : (p : Parsed) (c : Cells) (f : ℕ → Cell) → ((k : ℕ) → cellIn p c k ≡ f k) → (n : ℕ) → shownTo p c n ≡ joined n (λ k. valuesOf (f k))
-unfolding shownTo
-shown-joined p c f e zero = refl
-shown-joined p c f e (suc n) = λ i. shown-joined p c f e n i ++ valuesOf (e n i)
 
 -- ---- the last block
 
@@ -198,7 +191,7 @@ module _ (p : Parsed) (fine : Fine p) (es : List Call) (s : Timed Frame) (u : Ti
 
   pub memory-shown : memoryOf p (encCells (λ k. stateOf (kindAt p k)) (flatCells (boardOf p) (map sent es) (whole p fine es s) (before p fine es s u)))
       ≡ memoryAfter p es s u
-  memory-shown = ap unwords (shown-joined p after (cellAfter p es s u) cell-after (length (p .nodes)))
+  memory-shown = ap unwords (joined-agree (length (p .nodes)) _ _ (λ k h. ap valuesOf (cell-after k)))
 
 -- ---- the replies
 

@@ -27,16 +27,15 @@ use Rattle.reading.specs.Flat.{IsFlat, heldWhen}
 use Rattle.reading.specs.Flat as flat
 use Rattle.reading.proofs.Table.{map-agree}
 use Rattle.graph.specs.Sources.{distinct, distinctSources, secondSource}
-use Rattle.graph.specs.Board.{Parsed}
+use Rattle.graph.specs.Board.{blank, Parsed}
 use Rattle.context.specs.Memory.{kindAt}
 use Rattle.context.specs.Calls.{listed}
-use Rattle.context.specs.Reading.{Call, Timed, silence, reached, rightSample, broughtOf, end, inputAt, numberAt, earlier, brings, broughtTo, heldAt, IsReading}
-use Rattle.context.specs.Instance.{mono, sent, boardOf, frameOf, broughtFrom, readingRules}
+use Rattle.context.specs.Reading.{mono, Call, Timed, silence, reached, rightSample, broughtOf, end, inputAt, numberAt, earlier, brings, broughtTo, heldAt, IsReading}
+use Rattle.context.specs.Instance.{sent, boardOf, frameOf, broughtFrom, readingRules}
 use Rattle.context.specs.Fine.{Fine}
 use Rattle.graph.proofs.RoundSources.{mem-distinct}
+use Rattle.context.proofs.FineBoard.{lists, listed-there}
 use Rattle.context.proofs.ShownRun.{frame-of, second-source}
-use Rattle.context.proofs.ShownBlock.{listed-order}
-use Rattle.context.proofs.Lawful.{lists}
 use Rattle.context.proofs.Told.{end-sent, input-sent, told-fresh, told-then}
 
 module _ (p : Parsed) (k : ℕ) (f : ℕ → Frame) where
@@ -77,7 +76,7 @@ unfolding readingRules
 step-sent p fine k i there h held f =
     let b = broughtOf p k f in
     let fits : sourcesFit (kindAt p k) (length (b .left)) ≡ true =
-    ap (sourcesFit (kindAt p k)) (length-map (distinctSources (p .wires) k) (λ a. ofBits binary32 (f a .left))) ∙ fine .nodes k there .sources in
+    ap (sourcesFit (kindAt p k)) (length-map (distinctSources (p .wires) k) (λ a. ofBits binary32 (f a .left))) ∙ fine .formed .sources-fit blank k there in
     let s = ap (sampleHeard (kindAt p k) h held) (brought-of p k f) ∙ sym (heard-sample-unread (kindAt p k) b fits h held) in
     let n = ap (heardAfter (kindAt p k) h) (brought-of p k f) ∙ sym (heard-unread (kindAt p k) b h) in
     λ j. (s j, n j)
@@ -116,7 +115,7 @@ module _ (p : Parsed) (fine : Fine p) (es : List Call) where
     both t h =
         f .listed t k (in-time t h) r
         ∙ ap (λ (x : Frame). (readingRules p) .step k (t % p .size) (u t k) x (map (brings p s t k) (sources (p .wires) k))) (held-sent s t k)
-        ∙ step-sent p fine k (t % p .size) (listed-order p fine k r) (u t k) (heldAt p es s t k) (brings p s t k)
+        ∙ step-sent p fine k (t % p .size) (listed-there p fine k r) (u t k) (heldAt p es s t k) (brings p s t k)
 
     first-of : u 0 k ≡ setNumber (numberAt p es 0 k) (freshHeard (kindAt p k))
     first-of = ap (λ (w : ℕ → Heard). w k) (f .first) ∙ told-fresh p (fine .least-size) es k
@@ -250,7 +249,7 @@ module _ (p : Parsed) (fine : Fine p) (es : List Call) where
           let then = ap (λ (b : Bool). cond b (left s u t k) (still t k)) r in
           let known = ap (λ (b : Bool). cond b (u t k) (still t k)) r in
           _∙_ {A = Frame × Heard} (λ i. (here i, then i))
-          (sym (step-sent p fine k (t % p .size) (listed-order p fine k r) (u t k) (heldAt p es s t k) (brings p s t k))
+          (sym (step-sent p fine k (t % p .size) (listed-there p fine k r) (u t k) (heldAt p es s t k) (brings p s t k))
           ∙ (λ i. (readingRules p) .step k (t % p .size) (sym known i) (sym (held-reached t k r) i) (brought i)))
 
       other-at : (t k : ℕ) → reached p k ≡ false → after u t k ≡ before u t k

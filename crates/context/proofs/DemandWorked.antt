@@ -23,7 +23,7 @@ use Rattle.context.specs.Memory.{freshValues, checkCells, runNode, runNo
 use Rattle.context.specs.Calls.{freshOf, checkSamples, blockIn, listed}
 use Rattle.context.specs.Reading.{Call, block, Reply, Timed, IsReading, accepted, repliesTo}
 use Rattle.context.specs.Claim.{callIn}
-use Rattle.graph.specs.Write.{kindOf, asRead as parsedOf, writeBoard}
+use Rattle.graph.specs.Write.{kindOf, asRead, writeBoard}
 use Rattle.graph.proofs.RoundBytes.{board-bytes}
 use Rattle.graph.proofs.RoundWorked.{feedback}
 use Rattle.context.proofs.Demand.{board-claim, own-order}
@@ -49,7 +49,7 @@ abbrev pub said : List ℕ → Reply
 said x = record { answer = answer 0 0; left = x; right = x }
 
 abbrev pub p : Parsed
-p = parsedOf feedback
+p = asRead feedback
 
 reads : readBoard (writeBoard feedback) ≡ whole p
 unfolding writeBoard kindOf readBoard readRecords run stepOf takeFound foundAt foundOf ruleOf checkSources distinct

@@ -1,6 +1,12 @@
--- A board that is read whole is fine: what `Fine` says of it follows from the rules that its card obeys. Assumes nothing.
+-- A board that is read whole is fine: what `Fine` says of it follows from the rules that its card obeys.
+--     fine-board, accepted-fine    the same of the board as the code holds it
+--     source-there                 a source is another node of the board
+--     lists, listed-there          the visiting list lists the reached nodes, and they are the board's
+-- Assumes nothing.
 use Prim.Native.Nat.{ℕ, zero, suc, _+_, _<_}
-use mathlib.Core.Path.{_≡_, refl, sym, ap, subst, _∙_}
+use mathlib.Core.Path.{_≡_, refl, sym, ap, subst, subst⁻¹, _∙_}
+use mathlib.Core.Logic.{_≢_}
+use mathlib.Core.Bool.{true}
 use mathlib.Core.List.{List, [], _∷_}
 use native.Mathlib.Omega.{arith}
 use lib.ListN.{length, getD, take}
@@ -10,15 +16,25 @@ use Rattle.nodes.specs.Node.{LineFits}
 use Rattle.nodes.specs.declared.kind.NodeKind.the-variants.{Pass, Destination}
 use Rattle.nodes.specs.declared.kind.NodeRecord.{NodeRecord}
 use Rattle.nodes.proofs.Fresh.{rule-sound}
-use Rattle.reading.specs.Order as order
+use Rattle.reading.specs.Table.{mem}
+use Rattle.reading.specs.Order.{sources}
+use Rattle.reading.proofs.Order.{each-source}
 use Rattle.graph.specs.Board.{Parsed, whole, cellsOf}
 use Rattle.graph.specs.Judge.{readBoard}
+use Rattle.graph.specs.Read.{parsedOf, Read}
+use Rattle.graph.specs.Formed.{Formed}
+use Rattle.graph.specs.Listed.{ListsReached}
+use Rattle.graph.specs.declared.board.Board.{Board}
+use Rattle.graph.proofs.Accepted.{accepted-board}
+use Rattle.graph.proofs.Formed.{whole-formed}
+use Rattle.graph.proofs.Listed.{lists-reached}
+use Rattle.context.specs.Calls.{listed}
 use Rattle.context.specs.Memory.{nodeAt}
-use Rattle.graph.specs.Write.{NodeCard, Card, kindOf, recordsFrom, asRead as parsedOf, WireObeys, Obeys, noNode, noWire}
+use Rattle.graph.specs.Write.{NodeCard, Card, kindOf, recordsFrom, asRead, WireObeys, Obeys, noNode, noWire}
 use Rattle.context.specs.Fine.{NodeFine, Fine}
 use Rattle.graph.proofs.RoundRule.{kind-kept}
-use Rattle.graph.proofs.RoundObeys.{EachFrom, each-from}
-use Rattle.graph.proofs.RoundSix.{Free, records-length, free-in, sources-fit}
+use Rattle.graph.proofs.RoundObeys.{each-from}
+use Rattle.graph.proofs.RoundSix.{Free, records-length, free-in}
 use Rattle.graph.proofs.Round.{beyond, read-write}
 
 -- ---- the records of a card
@@ -34,10 +50,6 @@ record-at N (d ∷ ds) start (suc k) z h =
     let more : ℕ = cellsOf N (take k (recordsFrom N (start + cellSize N (kindOf d)) ds)) in
     let e : start + cellSize N (kindOf d) + more ≡ start + (cellSize N (kindOf d) + more) = omega arith in
     record-at N ds (start + cellSize N (kindOf d)) k z (omega arith) ∙ ap (λ (n : ℕ). recordOf N n (getD ds k noNode)) e
-
-each-wire : (P : order.Wire → Type 0) (ws : List order.Wire) (j : ℕ) → EachFrom (λ (i : ℕ) (w : order.Wire). P w) j ws → order.Each P ws
-each-wire P [] j h = tt
-each-wire P (w ∷ ws) j h = (h .0, each-wire P ws (j + 1) (h .1))
 
 none-of : (l : List ℕ) → length l ≡ 0 → l ≡ []
 none-of [] e = refl
@@ -55,7 +67,7 @@ kind-destination d e = rw e
 
 module _ (c : Card) (h : Obeys c) where
   abbrev p : Parsed
-  p = parsedOf c
+  p = asRead c
 
   count : length (p .nodes) ≡ length (c .nodes)
   count = records-length (c .size) 0 (c .nodes)
@@ -79,27 +91,43 @@ module _ (c : Card) (h : Obeys c) where
         cell = ap (λ (r : NodeRecord). r .cell) e;
         line = subst LineFits (sym kind) (sound .line);
         number = rw kind (sound .number);
-        sources = rw kind (sources-fit (c .wires) k d (h .sources k m));
       }
 
-  pub fine-card : Fine (parsedOf c)
-  fine-card =
+  fine-card : Formed (asRead c) → Fine (asRead c)
+  fine-card formed =
       let there = beyond (c .nodes) (c .input) (h .input-pass) in
       let first : 0 < length (c .nodes) = h .some-node in
       record {
+        formed = formed;
         least-size = h .least-size;
         most-size = h .most-size;
-        some-node = omega (arith, count, h .some-node);
         few-nodes = omega (arith, count, h .few-nodes);
         nodes = node-fine;
         destination = ap (λ (r : NodeRecord). r .kind) (kind-at 0 first) ∙ kind-destination (getD (c .nodes) 0 noNode) (h .nodes 0 first .destination .1 refl);
-        wires = subst (λ (n : ℕ). order.Each (WireObeys n) (c .wires)) (sym count)
-            (each-wire (WireObeys (length (c .nodes))) (c .wires) 0
-            (each-from (λ (i : ℕ) (w : order.Wire). WireObeys (length (c .nodes)) w) noWire (c .wires) (h .wires)));
         input-there = omega (arith, count);
         input-pass = ap (λ (r : NodeRecord). r .kind) (kind-at (c .input) there) ∙ kind-pass (getD (c .nodes) (c .input) noNode) (h .input-pass);
         input-free = none-of _ (free-in (c .input) (c .wires) 0 (each-from (Free (c .input)) noWire (c .wires) (h .input-free)));
       }
 
 pub fine-board : (s : List ℕ) → Bytes s → (p : Parsed) → readBoard s ≡ whole p → Fine p
-fine-board s b p e = let a = read-write s b p e in subst Fine (a .parsed) (fine-card (a .card) (a .obeys))
+fine-board s b p e =
+    let a = read-write s b p e in
+    subst Fine (a .parsed) (fine-card (a .card) (a .obeys) (subst⁻¹ Formed (a .parsed) (whole-formed s p e)))
+
+-- of the board as the code holds it
+pub accepted-fine : (s : List ℕ) → Bytes s → (b : Board) → Read (readBoard s) b → b .refused .number ≡ 0 → Fine (parsedOf b)
+accepted-fine s small b read accepted = fine-board s small (parsedOf b) (accepted-board s b read accepted)
+
+-- ---- wires and the visiting list
+
+module _ (p : Parsed) (fine : Fine p) where
+  pub source-there : (k a : ℕ) → mem a (sources (p .wires) k) ≡ true → (a < length (p .nodes)) × (a ≢ k)
+  source-there k a e =
+      let w = each-source (WireObeys (length (p .nodes))) (p .wires) (fine .formed .joins) k a e in
+      (omega (arith, w .1 .source-there, w .2), λ q. w .1 .apart (w .2 ∙ q ∙ sym (w .3)))
+
+  pub lists : ListsReached (p .wires) (listed p)
+  lists = lists-reached (p .wires) (λ k s e. omega (arith, source-there k s e, fine .few-nodes))
+
+  pub listed-there : (k : ℕ) → mem k (listed p) ≡ true → k < length (p .nodes)
+  listed-there = lists .below (length (p .nodes)) (fine .formed .some-nodes) (λ k s e. source-there k s e .0)

@@ -1,5 +1,4 @@
 -- A fine board is what the theory of block run and reading asks for:
---     lists                         its visiting list lists the reached nodes
 --     board-sound                   the board is sound
 --     rules-encode                  the rules on what memory holds encode those on what the reading knows
 --     rules-lawful                  every call keeps what `Held` says of the states: so 8 never occurs
@@ -31,21 +30,16 @@ use Rattle.reading.specs.Board.{Whole, Sound}
 use Rattle.reading.specs.Board as theory
 use Rattle.reading.specs.Encode.{Encodes}
 use Rattle.reading.specs.Keeps.{Lawful}
-use Rattle.graph.specs.Board.{Parsed}
-use Rattle.graph.specs.Listed.{ListsReached}
+use Rattle.graph.specs.Board.{blank, Parsed}
 use Rattle.context.specs.Memory.{kindAt}
-use Rattle.context.specs.Calls.{listed}
-use Rattle.context.specs.Reading.{Call, block, message, valueOf, accepts, silence}
-use Rattle.context.specs.Instance.{boardOf, mono, sent, asks, broughtFrom, memoryRules, readingRules}
-use Rattle.context.specs.Fine.{Fine, Held}
-use Rattle.graph.proofs.Listed.{lists-reached}
-use Rattle.context.proofs.ShownRun.{source-there}
+use Rattle.context.specs.Reading.{mono, Call, block, message, valueOf, accepts, silence}
+use Rattle.context.specs.Instance.{boardOf, sent, asks, broughtFrom, memoryRules, readingRules}
+use Rattle.context.specs.Fine.{Fine}
+use Rattle.context.specs.Instance.{Held}
+use Rattle.context.proofs.FineBoard.{source-there, lists}
 use Rattle.context.proofs.ShownCall.{block-whole, message-given}
 
 module _ (p : Parsed) (fine : Fine p) where
-  pub lists : ListsReached (p .wires) (listed p)
-  lists = lists-reached (p .wires) (λ k s e. omega (arith, source-there p fine k s e, fine .few-nodes))
-
   -- ---- accepted calls
 
   -- what an accepted call asks: a whole block, or a number that fits
@@ -70,8 +64,8 @@ module _ (p : Parsed) (fine : Fine p) where
   pub board-sound : Sound (boardOf p)
   board-sound = record {
     no-self = λ k s e. source-there p fine k s e .1;
-    once = lists .once;
-    input-first = λ k m s. not-false _ (lists .input-first (p .input) (fine .input-free) k m s);
+    once = lists p fine .once;
+    input-first = λ k m s. not-false _ (lists p fine .input-first (p .input) (fine .input-free) k m s);
     whole-blocks = λ c a e. whole a (subst Asked e (asked c));
   }
     where
@@ -83,7 +77,7 @@ module _ (p : Parsed) (fine : Fine p) where
 
   -- past the last node all are passes
   beyond : (k : ℕ) → (k < length (p .nodes) → ⊥) → kindAt p k ≡ Pass
-  beyond k h = ap (λ (r : NodeRecord). r .kind) (List·getD-eq-default (p .nodes) (record { kind = Pass; channels = 0; cell = 0 }) (omega arith))
+  beyond k h = ap (λ (r : NodeRecord). r .kind) (List·getD-eq-default (p .nodes) blank (omega arith))
 
   -- every kind's line and first number are as they must be
   kind-sound : (k : ℕ) → fresh.Sound (kindAt p k)

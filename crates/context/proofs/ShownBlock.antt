@@ -1,5 +1,5 @@
 -- A block run's parts and a number message, on memory that shows cells.
---     listed-order, reordered    the visiting list, and every other order of its nodes, is one of the board's nodes
+--     reordered            every order of the listed nodes is one of the board's nodes
 --     order-shown          the nodes of an order
 --     input-shown          the input block
 --     left-out, right-out  the output blocks
@@ -29,28 +29,20 @@ use Rattle.reading.proofs.Table.{put-same, put-other, mem-head, or-right}
 use Rattle.graph.specs.Board.{Parsed}
 use Rattle.context.specs.Memory.{nodeAt, kindAt, runNodes, putInput}
 use Rattle.context.specs.Calls.{listed, setNumber}
-use Rattle.context.specs.Reading.{samplesOf}
-use Rattle.context.specs.Instance.{Cells, mono, boardOf, memoryRules, cellIn, shown}
-use Rattle.graph.specs.Listed.{SourcesBelow}
+use Rattle.context.specs.Reading.{mono, samplesOf}
+use Rattle.context.specs.Instance.{Cells, boardOf, memoryRules, cellIn, shown}
 use Rattle.context.specs.Fine.{Fine}
-use Rattle.graph.proofs.Listed.{lists-reached}
+use Rattle.context.proofs.FineBoard.{listed-there}
 use Rattle.context.proofs.ShownCells.{leftsOf, rightsOf, samples-length, part-mid, paste-mid, LongCell, Long, Around, around}
-use Rattle.context.proofs.ShownRun.{source-there, run-long, run-shown}
+use Rattle.context.proofs.ShownRun.{run-long, run-shown}
 
 -- an order of nodes of the board
 abbrev pub OfBoard : Parsed → List ℕ → Type 0
 OfBoard p o = (k : ℕ) → mem k o ≡ true → k < length (p .nodes)
 
--- the visiting list is one, and so is every other order of its nodes
-module _ (p : Parsed) (fine : Fine p) where
-  below : SourcesBelow (p .wires) (length (p .nodes))
-  below k s e = source-there p fine k s e .0
-
-  pub listed-order : OfBoard p (listed p)
-  listed-order = lists-reached (p .wires) (λ k s e. omega (arith, below k s e, fine .few-nodes)) .below (length (p .nodes)) (fine .some-node) below
-
-  pub reordered : (o : List ℕ) → Reorders (p .wires) (listed p) o → OfBoard p o
-  reordered o r k e = listed-order k (sym (r .same k) ∙ e)
+-- as is every order of the listed nodes
+pub reordered : (p : Parsed) → Fine p → (o : List ℕ) → Reorders (p .wires) (listed p) o → OfBoard p o
+reordered p fine o r k e = listed-there p fine k (sym (r .same k) ∙ e)
 
 pub put-long : (p : Parsed) (c : Cells) (k : ℕ) (d : blocks.Cell Frame State) → Long p c → LongCell p k d → Long p (put c k d)
 put-long p c k d long h j = go (ℕ-discrete j k)
@@ -158,10 +150,10 @@ module _ (p : Parsed) (fine : Fine p) (c : Cells) (long : Long p c) (xs : List �
 
 module _ (p : Parsed) (fine : Fine p) (c : Cells) (long : Long p c) where
   abbrev a : List ℕ
-  a = front p fine c long 0 (fine .some-node)
+  a = front p fine c long 0 (fine .formed .some-nodes)
 
   abbrev b : List ℕ
-  b = back p fine c long 0 (fine .some-node)
+  b = back p fine c long 0 (fine .formed .some-nodes)
 
   abbrev ls : List ℕ
   ls = leftsOf (c 0 .samples)
@@ -170,11 +162,11 @@ module _ (p : Parsed) (fine : Fine p) (c : Cells) (long : Long p c) where
   rs = rightsOf (c 0 .samples)
 
   a-long : length a ≡ 3
-  a-long = omega (arith, front-long p fine c long 0 (fine .some-node), fine .nodes 0 (fine .some-node) .cell)
+  a-long = omega (arith, front-long p fine c long 0 (fine .formed .some-nodes), fine .nodes 0 (fine .formed .some-nodes) .cell)
 
   both-now : shown p c ≡ a ++ ((ls ++ rs) ++ b)
   both-now =
-      samples-now p fine c long 0 (fine .some-node)
+      samples-now p fine c long 0 (fine .formed .some-nodes)
       ∙ ap (λ (d : NodeKind). a ++ (samplesOf (channelsOf d) (c 0 .samples) ++ b)) (fine .destination)
 
   ls-long : length ls ≡ p .size

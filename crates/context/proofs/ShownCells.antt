@@ -27,8 +27,8 @@ use Rattle.nodes.specs.declared.kind.NodeRecord.{NodeRecord}
 use Rattle.nodes.proofs.Cells.{length-values, get-sample}
 use Rattle.reading.specs.Table.{put}
 use Rattle.reading.specs.Blocks as blocks
-use Rattle.reading.proofs.Table.{put-same, put-other}
-use Rattle.graph.specs.Board.{Parsed, cellsOf}
+use Rattle.reading.proofs.Table.{put-same, put-other, joined-agree}
+use Rattle.graph.specs.Board.{blank, Parsed, cellsOf}
 use Rattle.context.specs.Memory.{nodeAt, kindAt, leftStart, rightStart}
 use Rattle.context.specs.Reading.{silence, rightSample, samplesOf}
 use Rattle.context.specs.Instance.{Cells, cellIn, shownTo, shown}
@@ -120,14 +120,11 @@ values-long p k d h =
 
 module _ (p : Parsed) where
   pub shown-agree : (c d : Cells) (m : ℕ) → ((j : ℕ) → j < m → c j ≡ d j) → shownTo p c m ≡ shownTo p d m
-  unfolding shownTo
-  shown-agree c d zero h = refl
-  shown-agree c d (suc m) h = λ i. shown-agree c d m (λ j l. h j (omega arith)) i ++ valuesOf (cellHeld p m (h m (omega arith) i))
+  shown-agree c d m h = joined-agree m _ _ (λ j l. ap (λ (x : blocks.Cell Frame State). valuesOf (cellHeld p j x)) (h j l))
 
   -- what stands after node j's cell is the same whatever stands in it
   shown-split : (c : Cells) (j m : ℕ) → j < m
       → (rest : List ℕ) × ((d : blocks.Cell Frame State) → shownTo p (put c j d) m ≡ shownTo p c j ++ (valuesOf (cellHeld p j d) ++ rest))
-  unfolding shownTo
   shown-split c j zero h = absurd (omega arith)
   shown-split c j (suc m) h = go (ℕ-discrete j m) (shown-split c j m)
     where
@@ -172,11 +169,10 @@ module _ (p : Parsed) where
 
   module _ (c : Cells) (long : Long p c) where
     shown-to-long : (m : ℕ) → m ≤ length (p .nodes) → length (shownTo p c m) ≡ cellsOf (p .size) (take m (p .nodes))
-    unfolding shownTo
     shown-to-long zero h = refl
     shown-to-long (suc m) h =
         length-append (shownTo p c m) (valuesOf (cellIn p c m))
-        ∙ omega (arith, shown-to-long m (omega arith), values-long p m (c m) (long m), cells-suc (p .size) (p .nodes) m (record { kind = Pass; channels = 0; cell = 0 }) h)
+        ∙ omega (arith, shown-to-long m (omega arith), values-long p m (c m) (long m), cells-suc (p .size) (p .nodes) m blank h)
 
     pub shown-long : length (shown p c) ≡ cellsOf (p .size) (p .nodes)
     shown-long = shown-to-long (length (p .nodes)) (omega arith) ∙ ap (cellsOf (p .size)) (take-length (p .nodes))
@@ -238,7 +234,7 @@ module _ (p : Parsed) (fine : Fine p) (c : Cells) (long : Long p c) (k : ℕ) (t
       ∙ get-sample (cellIn p c k) i (omega (arith, samples-length (kindAt p k) frames (p .size) (long k .samples)))
 
   -- the places from which a block run reads: channel 0, and what the destination's channel 1 reads
-  pub shown-left : (i : ℕ) → i < p .size → getD (shown p c) (leftStart (p .size) (nodeAt p k) + i) 0 ≡ (getD (c k .samples) i silence) .left
+  pub shown-left : (i : ℕ) → i < p .size → getD (shown p c) (leftStart (nodeAt p k) + i) 0 ≡ (getD (c k .samples) i silence) .left
   shown-left i h =
       let e : nodeAt p k .cell + 3 + i ≡ nodeAt p k .cell + (3 + i) = omega arith in
       let some : i < p .size * channelsOf (kindAt p k) = below (eqb (channelsOf (kindAt p k)) 2) refl in
@@ -267,6 +263,6 @@ module _ (p : Parsed) (fine : Fine p) (c : Cells) (long : Long p c) (k : ℕ) (t
           let one : channelsOf (kindAt p k) ≡ 1 = channels-are (kindAt p k) false q in
           let start : p .size * (nodeAt p k .channels - 1) ≡ 0 =
           ap (λ (n : ℕ). p .size * (n - 1)) (fine .nodes k there .channels ∙ one) ∙ omega arith in
-          let e : rightStart (p .size) (nodeAt p k) + i ≡ leftStart (p .size) (nodeAt p k) + i = omega arith in
+          let e : rightStart (p .size) (nodeAt p k) + i ≡ leftStart (nodeAt p k) + i = omega arith in
           ap (λ (n : ℕ). getD (shown p c) n 0) e ∙ shown-left i h
           ∙ ap (λ (b : Bool). cond b ((getD frames i silence) .right) ((getD frames i silence) .left)) (sym q)

@@ -12,10 +12,9 @@ use Rattle.nodes.specs.Kind.{channelsOf}
 use Rattle.nodes.specs.Rule.{Frame}
 use Rattle.nodes.specs.Cell.{valuesOf, freshCell}
 use Rattle.nodes.specs.declared.kind.NodeKind.{NodeKind}
-use Rattle.nodes.specs.declared.kind.NodeKind.the-variants.{Pass}
 use Rattle.nodes.specs.declared.kind.NodeRecord.{NodeRecord}
 use Rattle.reading.specs.Blocks as blocks
-use Rattle.graph.specs.Board.{Parsed}
+use Rattle.graph.specs.Board.{blank, Parsed}
 use Rattle.context.specs.Memory.{kindAt, freshFrom, freshValues}
 use Rattle.context.specs.Reading.{silence, samplesOf}
 use Rattle.context.specs.Instance.{Cells, boardOf, memoryRules, cellIn, shownTo, shown}
@@ -63,12 +62,11 @@ module _ (p : Parsed) where
   fresh-cell k = λ i. record { state = freshCell (p .size) (kindAt p k) .state; samples = sym (silent (kindAt p k) (p .size)) i }
 
   fresh-to : (m : ℕ) → m ≤ length (p .nodes) → freshFrom (p .size) (take m (p .nodes)) ≡ shownTo p fresh m
-  unfolding shownTo
   fresh-to zero h = refl
   fresh-to (suc m) h =
-      let r : NodeRecord = getD (p .nodes) m (record { kind = Pass; channels = 0; cell = 0 }) in
+      let r : NodeRecord = getD (p .nodes) m blank in
       let cell : freshFrom (p .size) (r ∷ []) ≡ valuesOf (cellIn p fresh m) = append-nil (valuesOf (freshCell (p .size) (r .kind))) ∙ ap valuesOf (fresh-cell m) in
-      ap (freshFrom (p .size)) (take-suc (p .nodes) m (record { kind = Pass; channels = 0; cell = 0 }) h)
+      ap (freshFrom (p .size)) (take-suc (p .nodes) m blank h)
       ∙ fresh-append (p .size) (take m (p .nodes)) (r ∷ [])
       ∙ (λ i. fresh-to m (omega arith) i ++ cell i)
 

@@ -23,24 +23,22 @@ use Rattle.nodes.specs.Rule.{Brought, Frame, State, keeps, leftBy, rightOf, sam
 use Rattle.nodes.specs.Cell.{Cell, valuesOf, cellOf, frameAt, putFrame, stepCell, runCell}
 use Rattle.nodes.specs.Node.{nodeRun}
 use Rattle.nodes.specs.declared.kind.NodeKind.{NodeKind}
-use Rattle.nodes.specs.declared.kind.NodeRecord.{NodeRecord}
-use Rattle.nodes.specs.declared.kind.NodeKind.the-variants.{Pass}
 use Rattle.nodes.proofs.Cells.{set-append-right}
 use Rattle.nodes.proofs.Unread.{unread, sample-unread, state-unread, line-after-long}
 use Rattle.reading.specs.Table.{put, mem}
 use Rattle.reading.specs.Order.{Wire, sources}
 use Rattle.reading.specs.Board as theory
 use Rattle.reading.specs.Blocks as blocks
-use Rattle.reading.proofs.Table.{put-same, put-other, map-agree, mem-head, or-right}
-use Rattle.reading.proofs.Order.{each-source}
+use Rattle.reading.proofs.Table.{put-same, put-other, map-agree, mem-at}
 use Rattle.graph.specs.Sources.{addAll, distinct, distinctSources, secondSource}
-use Rattle.graph.specs.Board.{Parsed}
-use Rattle.graph.specs.Write.{WireObeys}
+use Rattle.graph.specs.Board.{blank, Parsed}
 use Rattle.context.specs.Memory.{nodeAt, kindAt, leftStart, rightStart, lefts, rights, broughtBy, runNode}
 use Rattle.context.specs.Reading.{Call, silence, rightSample, samplesOf}
 use Rattle.context.specs.Instance.{Cells, boardOf, memoryRules, frameOf, broughtFrom, cellIn, shown}
 use Rattle.context.specs.Fine.{Fine}
 use Rattle.graph.proofs.RoundSources.{mem-distinct}
+use Rattle.context.proofs.FineBoard.{source-there}
+use Rattle.context.proofs.CallStarts.{mapped-at}
 use Rattle.context.proofs.ShownCells.{leftsOf, rightsOf, samples-length, samples-left, samples-right, cellHeld, LongCell, Long, shown-agree, shown-part, shown-left, shown-right, paste-shown}
 
 -- ---- sources
@@ -54,11 +52,6 @@ frame-of f (s ∷ ss) a e = go (eqb a s) refl e (frame-of f ss a)
         → cond b (f s) (frameOf ss (map f ss) a) ≡ f a
     go true q e ih = ap f (sym (eqb-true a s q))
     go false q e ih = ih e
-
-mem-at : (l : List ℕ) (i : ℕ) → i < length l → mem (getD l i 0) l ≡ true
-mem-at [] i h = absurd (omega arith)
-mem-at (x ∷ l) zero h = mem-head x l
-mem-at (x ∷ l) (suc i) h = or-right (eqb (getD l i 0) x) (mem-at l i (omega arith))
 
 all-fewer : (xs l : List ℕ) → length (addAll l xs) ≤ length l + length xs
 all-fewer [] l = omega arith
@@ -74,15 +67,7 @@ pub second-source : (ws : List Wire) (k : ℕ) → 1 < length (distinctSources w
 unfolding distinct
 second-source ws k h = mem-at (sources ws k) 1 (omega (arith, all-fewer (sources ws k) []))
 
-getD-map : {A : Type 0} (f : A → ℕ) (l : List A) (n : ℕ) (z : A) → n < length l → getD (map f l) n 0 ≡ f (getD l n z)
-getD-map f [] n z h = absurd (omega arith)
-getD-map f (x ∷ l) zero z h = refl
-getD-map f (x ∷ l) (suc n) z h = getD-map f l n z (omega arith)
-
 -- ---- what the wires bring
-
-abbrev noNode : NodeRecord
-noNode = record { kind = Pass; channels = 0; cell = 0 }
 
 -- the frames that stand at place i
 abbrev placeIn : Parsed → Cells → ℕ → ℕ → Frame
@@ -95,33 +80,27 @@ module _ (p : Parsed) (fine : Fine p) (k : ℕ) where
   abbrev once : List ℕ
   once = distinctSources (p .wires) k
 
-  -- a source is another node of the board
-  pub source-there : (a : ℕ) → mem a (sources (p .wires) k) ≡ true → (a < length (p .nodes)) × (a ≢ k)
-  source-there a e =
-      let w = each-source (WireObeys (length (p .nodes))) (p .wires) (fine .wires) k a e in
-      (omega (arith, w .1 .source-there, w .2), λ q. w .1 .apart (w .2 ∙ q ∙ sym (w .3)))
-
   -- d is the cells while node k runs: the others are still as in c
   module _ (c d : Cells) (long : Long p c) (others : (j : ℕ) → j ≢ k → d j ≡ c j) (i : ℕ) (small : i < p .size) where
     abbrev brings : ℕ → Frame
     brings = frameOf srcs (map (placeIn p d i) srcs)
 
     source-brings : (a : ℕ) → mem a srcs ≡ true → brings a ≡ placeIn p c i a
-    source-brings a e = frame-of (placeIn p d i) srcs a e ∙ ap (λ (x : blocks.Cell Frame State). getD (x .samples) i silence) (others a (source-there a e .1))
+    source-brings a e = frame-of (placeIn p d i) srcs a e ∙ ap (λ (x : blocks.Cell Frame State). getD (x .samples) i silence) (others a (source-there p fine k a e .1))
 
     left-is : (a : ℕ) → mem a srcs ≡ true → ofBits binary32 (brings a .left) ≡ floatAt (shown p c) (getD (lefts p) a 0 + i)
     left-is a e =
-        let t = source-there a e .0 in
+        let t = source-there p fine k a e .0 in
         ap (λ (f : Frame). ofBits binary32 (f .left)) (source-brings a e)
         ∙ ap (ofBits binary32) (sym (shown-left p fine c long a t i small))
-        ∙ ap (λ (n : ℕ). floatAt (shown p c) (n + i)) (sym (getD-map (leftStart (p .size)) (p .nodes) a noNode t))
+        ∙ ap (λ (n : ℕ). floatAt (shown p c) (n + i)) (sym (mapped-at leftStart (p .nodes) a t))
 
     right-is : (a : ℕ) → mem a srcs ≡ true → ofBits binary32 (rightSample p a (brings a)) ≡ floatAt (shown p c) (getD (rights p) a 0 + i)
     right-is a e =
-        let t = source-there a e .0 in
+        let t = source-there p fine k a e .0 in
         ap (λ (f : Frame). ofBits binary32 (rightSample p a f)) (source-brings a e)
         ∙ ap (ofBits binary32) (sym (shown-right p fine c long a t i small))
-        ∙ ap (λ (n : ℕ). floatAt (shown p c) (n + i)) (sym (getD-map (rightStart (p .size)) (p .nodes) a noNode t))
+        ∙ ap (λ (n : ℕ). floatAt (shown p c) (n + i)) (sym (mapped-at (rightStart (p .size)) (p .nodes) a t))
 
     second-is : (q : Bool) → ltb 1 (length once) ≡ q
         → cond q (ofBits binary32 (brings (secondSource (p .wires) k) .left)) nan
@@ -280,7 +259,7 @@ module _ (p : Parsed) (fine : Fine p) (c : Cells) (long : Long p c) (k : ℕ) (t
   fits-here : (i : ℕ) → sourcesFit kind (length (bs i .left)) ≡ true
   fits-here i =
       ap (sourcesFit kind) (length-map (distinctSources (p .wires) k) (λ a. floatAt (shown p c) (getD (lefts p) a 0 + i)))
-      ∙ fine .nodes k there .sources
+      ∙ fine .formed .sources-fit blank k there
 
   -- one sample: d is the cells by then
   step-shown : (d : Cells) → LongCell p k (d k) → ((j : ℕ) → j ≢ k → d j ≡ c j) → (i : ℕ) → i < p .size

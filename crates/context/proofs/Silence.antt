@@ -13,7 +13,7 @@ use native.Mathlib.Omega.{arith}
 use borrow.Author.Tests.{eqb-true}
 use lib.Dec.{eqb}
 use lib.ListN.{length, getD}
-use Rattle.leaves.specs.Words.{Bytes, words, unwords}
+use Rattle.leaves.specs.Words.{words, unwords, words-unwords, Bytes}
 use Rattle.nodes.specs.Kind.{lineOf}
 use Rattle.nodes.specs.Rule.{Frame}
 use Rattle.nodes.specs.History.{Heard}
@@ -40,11 +40,10 @@ use Rattle.context.specs.Fine.{Fine}
 use Rattle.graph.specs.Tail.{delays, onlyDelays, listedLines, endless, tailOf, tailAnswer}
 use Rattle.context.specs.Silence.{QuietInput, played, outputAt, Silent, Tailed}
 use Rattle.graph.specs.declared.answer.Answer.{Answer}
-use Rattle.graph.proofs.Ending.{Ended as Numbered, board-ends as read-numbered}
+use Rattle.graph.proofs.Ending.{Ended, board-ends}
 use Rattle.graph.proofs.Lines.{tail-late, tail-on-time}
-use Rattle.context.proofs.ShownBytes.{words-unwords}
-use Rattle.context.proofs.FineBoard.{fine-board}
-use Rattle.context.proofs.Lawful.{lists, board-sound}
+use Rattle.context.proofs.FineBoard.{fine-board, lists}
+use Rattle.context.proofs.Lawful.{board-sound}
 use Rattle.context.proofs.Told.{end-sent, input-sent}
 use Rattle.context.proofs.Demand.{board-claim}
 use Rattle.context.proofs.SilenceNodes.{ZeroFrame}
@@ -203,9 +202,9 @@ falls-silent bytes b p e other cs since input = record {
 -- of bytes for which the tail call answers a figure
 pub tail-holds : (bytes : List ℕ) → Bytes bytes → (n : ℕ) → tailAnswer bytes ≡ answer 0 n → n ≢ endless → Tailed bytes n
 unfolding tailAnswer
-tail-holds bytes b n = go (readBoard bytes) refl (read-numbered bytes)
+tail-holds bytes b n = go (readBoard bytes) refl (board-ends bytes)
   where
-    go : (r : Reading) → readBoard bytes ≡ r → Numbered r → answerBy tailOf r ≡ answer 0 n → n ≢ endless → Tailed bytes n
+    go : (r : Reading) → readBoard bytes ≡ r → Ended r → answerBy tailOf r ≡ answer 0 n → n ≢ endless → Tailed bytes n
     go (going at last p) e d a other = absurd (omega (arith, ap (λ (x : Answer). x .number) a))
     go (refused k w) e d a other = absurd (omega (arith, ap (λ (x : Answer). x .number) a))
     go (whole p) e d a other =

@@ -33,17 +33,17 @@ use Rattle.reading.specs.Tail.{Lags}
 use Rattle.reading.proofs.Table.{mem-head}
 use Rattle.reading.proofs.Tail.{all-map, pass-silent}
 use Rattle.graph.specs.Sources.{distinctSources, secondSource}
-use Rattle.graph.specs.Board.{Parsed}
+use Rattle.graph.specs.Board.{blank, Parsed}
 use Rattle.context.specs.Memory.{kindAt}
 use Rattle.context.specs.Calls.{listed}
-use Rattle.context.specs.Reading.{Call, block, message, valueOf, Timed, silence, reached, rightSample, accepts, accepted, numberIn, end, inputAt, numberAt, earlier, brings, broughtTo, heldAt, IsReading}
-use Rattle.context.specs.Instance.{mono, sent, boardOf, broughtFrom, readingRules}
+use Rattle.context.specs.Reading.{mono, Call, block, message, valueOf, Timed, silence, reached, rightSample, accepts, accepted, numberIn, end, inputAt, numberAt, earlier, brings, broughtTo, heldAt, IsReading}
+use Rattle.context.specs.Instance.{sent, boardOf, broughtFrom, readingRules}
 use Rattle.context.specs.Fine.{Fine}
 use Rattle.graph.specs.Tail.{delays}
 use Rattle.context.specs.Silence.{Zero, QuietInput}
 use Rattle.graph.proofs.RoundSources.{mem-distinct}
+use Rattle.context.proofs.FineBoard.{listed-there}
 use Rattle.context.proofs.ShownRun.{second-source}
-use Rattle.context.proofs.ShownBlock.{listed-order}
 use Rattle.context.proofs.ShownCall.{message-given}
 use Rattle.context.proofs.Told.{end-sent, input-sent}
 use Rattle.context.proofs.DemandReading as reading
@@ -115,7 +115,7 @@ module _ (p : Parsed) (fine : Fine p) (es : List Call) (fit : All (Fits p) es) (
   kind = kindAt p k
 
   inside : k < length (p .nodes)
-  inside = listed-order p fine k there
+  inside = listed-there p fine k there
 
   -- the number is in range all along
   number-at-fits : (t : ℕ) → numberFits kind (numberAt p es t k) ≡ true
@@ -144,7 +144,7 @@ module _ (p : Parsed) (fine : Fine p) (es : List Call) (fit : All (Fits p) es) (
     silent pass bare other t h =
         sym (reading.whole-reached p fine es s t k there)
         ∙ pass-silent (boardOf p) (readingRules p) (map sent es) (reading.whole p fine es s) (reading.before p fine es s u) (reading.after p fine es s u)
-        (reading.reading-flat p fine es s u reads) ZeroFrame k there in-time (fine .least-size) other
+        (reading.reading-flat p fine es s u reads) k there (fine .least-size) other
         (none-distinct (sources (p .wires) k) (distinctSources (p .wires) k) (λ a. mem-distinct a (sources (p .wires) k)) bare)
         (λ i x held.
         ap (λ (n : NodeKind). sampleHeard n x held (broughtFrom p k [])) pass
@@ -195,7 +195,7 @@ module _ (p : Parsed) (fine : Fine p) (es : List Call) (fit : All (Fits p) es) (
     oldest-zero pos t l h =
         let n : ℕ = lengthOf kind in
         let none-over : 0 % n ≡ 0 = zero-mod n in
-        let fewest-there = at-least kind (length (distinctSources (p .wires) k)) (fine .nodes k inside .sources) in
+        let fewest-there = at-least kind (length (distinctSources (p .wires) k)) (fine .formed .sources-fit blank k inside) in
         zero-float _ (past-zero (omega (arith, line-wired kind pos, fewest-there)) t (n - 0 % n - 1) (omega arith) (λ m. omega arith))
 
     -- what stands at its place, where it keeps it: the input, or nothing since time 0
@@ -222,7 +222,7 @@ module _ (p : Parsed) (fine : Fine p) (es : List Call) (fit : All (Fits p) es) (
         (record {
           only = only;
           line = fine .nodes k inside .line;
-          sources = ap (sourcesFit kind) (length-map (distinctSources (p .wires) k) _) ∙ fine .nodes k inside .sources;
+          sources = ap (sourcesFit kind) (length-map (distinctSources (p .wires) k) _) ∙ fine .formed .sources-fit blank k inside;
           number = number-fits t (omega arith);
           brought = brought-zero t after h;
           oldest = λ pos. oldest-zero pos t (omega arith) h;

@@ -23,7 +23,7 @@ use Rattle.context.specs.Memory.{freshValues, checkCells, runNode, runNo
 use Rattle.context.specs.Calls.{checkSamples, blockIn, listed}
 use Rattle.context.specs.Reading.{Reply}
 use Rattle.context.specs.Claim.{callIn, freshMemory}
-use Rattle.graph.specs.Write.{NodeCard, Card, kindOf, asRead as parsedOf, writeBoard}
+use Rattle.graph.specs.Write.{NodeCard, Card, kindOf, asRead, writeBoard}
 use Rattle.context.proofs.DemandWorked.{three}
 
 abbrev node : ℕ → ℕ → ℕ → NodeCard
@@ -38,7 +38,7 @@ echo = record {
 }
 
 abbrev p : Parsed
-p = parsedOf echo
+p = asRead echo
 
 -- two samples as bytes: (0, −0.5) and (0, 0)
 abbrev half : List ℕ

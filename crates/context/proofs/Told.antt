@@ -25,8 +25,8 @@ use Rattle.reading.specs.Flat as flat
 use Rattle.reading.proofs.Nodes.{next-time}
 use Rattle.graph.specs.Board.{Parsed}
 use Rattle.context.specs.Memory.{kindAt}
-use Rattle.context.specs.Reading.{Call, block, message, valueOf, accepts, accepted, inputs, numberIn, end, inputAt, numberAt}
-use Rattle.context.specs.Instance.{mono, sent, boardOf, readingRules}
+use Rattle.context.specs.Reading.{mono, Call, block, message, valueOf, accepts, accepted, inputs, numberIn, end, inputAt, numberAt}
+use Rattle.context.specs.Instance.{sent, boardOf, readingRules}
 
 hear-sent : (b : Bool) (c : Call) (hs : List (theory.Call Frame ℕ)) (es : List Call) → hs ≡ map sent es
     → time.hearOne (cond b (some (sent c)) none) hs ≡ map sent (cond b (c ∷ es) es)

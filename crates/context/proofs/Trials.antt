@@ -1,7 +1,7 @@
 -- Document 01's trial values, those marked P and the two limits named with them, under one statement.
 -- Assumes nothing.
 use mathlib.Core.Path.{_≡_, refl}
-use mathlib.Core.List.{List, [], _∷_}
+use mathlib.Core.List.{[], _∷_}
 use lib.ListN.{set}
 use Rattle.leaves.specs.Words.{unwords}
 use Rattle.leaves.specs.Worked.{Worked, worked}

@@ -1,7 +1,7 @@
 -- The calls on a board's bytes and its memory (document 01, "Memory" and "Answers by number"): the answer, and every byte afterwards.
 -- A refused call leaves every byte as found. Definitions only.
-use Prim.Native.Nat.{ℕ, zero, suc, _+_, _*_}
-use mathlib.Core.Bool.{Bool, cond, _&&_}
+use Prim.Native.Nat.{ℕ, suc, _+_, _*_}
+use mathlib.Core.Bool.{cond, _&&_}
 use mathlib.Core.List.{List, [], _∷_}
 use lib.ListN.{length, set}
 use lib.Dec.{eqb, ltb}
@@ -17,12 +17,15 @@ use Rattle.nodes.specs.Cell.{takesNumber, valueFits}
 use Rattle.context.specs.Memory.{passed, nodeAt, kindAt, freshValues, checkCells, runBlock}
 use Rattle.graph.specs.declared.answer.Answer.{Answer}
 
--- the answer, and the bytes of the memory and of the two output blocks as a call left them
-pub record Left : Type 0 where
+-- the answer, and the bytes of the memory and of the two output blocks as a block run left them
+pub record Outcome : Type 0 where
   pub answer : Answer
   pub memory : List ℕ
   pub left : List ℕ
   pub right : List ℕ
+
+abbrev pub asLeft : Answer → List ℕ → List ℕ → List ℕ → Outcome
+asLeft a m l r = record { answer = a; memory = m; left = l; right = r }
 
 -- ---- checks, one after the other: the first that refuses answers
 
@@ -37,8 +40,12 @@ abbrev pub checkLength : Parsed → List ℕ → Answer
 checkLength p m = checkNeeded (memoryLength p) (length m)
 
 -- 8: the judged values
+abbrev pub checkValues : Parsed → List ℕ → Answer
+checkValues p m = checkCells (words m) 0 (p .nodes)
+
+-- 7 and 8
 abbrev pub checkMemory : Parsed → List ℕ → Answer
-checkMemory p m = checkCells (words m) 0 (p .nodes)
+checkMemory p m = andThen (checkLength p m) (checkValues p m)
 
 -- 9: the three blocks' lengths
 abbrev pub checkSizes : ℕ → ℕ → ℕ → ℕ → Answer
@@ -54,24 +61,29 @@ checkSamples i (w ∷ ws) = cond (finite w) (checkSamples (suc i) ws) (answer 10
 
 -- ---- the calls
 
-abbrev pub asFound : Answer → List ℕ → List ℕ → List ℕ → Left
-asFound a m l r = record { answer = a; memory = m; left = l; right = r }
+-- a call on a board as it was read, which is never left going. The board's refusal is the answer, or that of the first check behind 6 that
+-- refuses, and every byte is as found (`found` of the answer); where all pass, the call has done its work
+abbrev pub callBy : {A : Type 0} → (Answer → A) → (Parsed → Answer) → (Parsed → A) → Reading → A
+callBy found check done (going at last p) = found (answer 1 at)
+callBy found check done (refused n w) = found (answer n w)
+callBy found check done (whole p) = cond (eqb (check p .number) 0) (done p) (found (check p))
+
+-- a call that changes the memory m only: where its checks pass, the memory has the values that `change` gives
+abbrev pub changeBy : List ℕ → (Parsed → Answer) → (Parsed → List ℕ) → Reading → Answer × List ℕ
+changeBy m check change = callBy (λ a. (a, m)) check (λ p. (passed, unwords (change p)))
 
 -- the fresh call writes the whole memory
-abbrev pub freshBy : Reading → List ℕ → Answer × List ℕ
-freshBy (going at last p) m = (answer 1 at, m)
-freshBy (refused n w) m = (answer n w, m)
-freshBy (whole p) m = (checkLength p m, cond (eqb (checkLength p m .number) 0) (unwords (freshValues p)) m)
-
 unfoldable pub freshOf : List ℕ → List ℕ → Answer × List ℕ
-freshOf board m = freshBy (readBoard board) m
+freshOf board m = changeBy m (λ p. checkLength p m) freshValues (readBoard board)
+
+-- ---- the block run
 
 -- the checks of a block run behind 6
 abbrev pub checkBlock : Parsed → List ℕ → List ℕ → List ℕ → List ℕ → Answer
-checkBlock p m x l r = andThen (checkLength p m) (andThen (checkMemory p m) (andThen (checkBlocks p x l r) (checkSamples 0 (words x))))
+checkBlock p m x l r = andThen (checkMemory p m) (andThen (checkBlocks p x l r) (checkSamples 0 (words x)))
 
 -- an accepted block run with the nodes taken in the order o: the outputs are node 0's two channels
-abbrev pub ranBlock : Parsed → List ℕ → List ℕ → List ℕ → Left
+abbrev pub ranBlock : Parsed → List ℕ → List ℕ → List ℕ → Outcome
 ranBlock p o x m =
     let ws = runBlock p o (words x) (words m) in
     record {
@@ -81,21 +93,16 @@ ranBlock p o x m =
       right = unwords (part ws (3 + p .size) (p .size));
     }
 
-abbrev pub blockBy : (Parsed → List ℕ) → Reading → List ℕ → List ℕ → List ℕ → List ℕ → Left
-blockBy order (going at last p) m x l r = asFound (answer 1 at) m l r
-blockBy order (refused n w) m x l r = asFound (answer n w) m l r
-blockBy order (whole p) m x l r =
-    cond (eqb (checkBlock p m x l r .number) 0) (ranBlock p (order p) x m) (asFound (checkBlock p m x l r) m l r)
-
 -- a block run in the order that `order` gives for a board
-unfoldable pub blockIn : (Parsed → List ℕ) → List ℕ → List ℕ → List ℕ → List ℕ → List ℕ → Left
-blockIn order board m x l r = blockBy order (readBoard board) m x l r
+unfoldable pub blockIn : (Parsed → List ℕ) → List ℕ → List ℕ → List ℕ → List ℕ → List ℕ → Outcome
+blockIn order board m x l r =
+    callBy (λ a. asLeft a m l r) (λ p. checkBlock p m x l r) (λ p. ranBlock p (order p) x m) (readBoard board)
 
 -- the block run takes the visiting list
 abbrev pub listed : Parsed → List ℕ
 listed p = visitingList (p .wires)
 
-abbrev pub blockOf : List ℕ → List ℕ → List ℕ → List ℕ → List ℕ → Left
+abbrev pub blockOf : List ℕ → List ℕ → List ℕ → List ℕ → List ℕ → Outcome
 blockOf board m x l r = blockIn listed board m x l r
 
 -- ---- the number message
@@ -109,17 +116,11 @@ checkNumber p k x =
 
 -- the checks of a message behind 6
 abbrev pub checkMessage : Parsed → List ℕ → ℕ → Float → Answer
-checkMessage p m k x = andThen (checkLength p m) (andThen (checkMemory p m) (checkNumber p k x))
+checkMessage p m k x = andThen (checkMemory p m) (checkNumber p k x)
 
 -- the number is the first value of the node's cell
 abbrev pub setNumber : Parsed → ℕ → Float → List ℕ → List ℕ
 setNumber p k x ws = set ws (nodeAt p k .cell) (toBits binary32 x)
 
-abbrev pub messageBy : Reading → List ℕ → ℕ → Float → Answer × List ℕ
-messageBy (going at last p) m k x = (answer 1 at, m)
-messageBy (refused n w) m k x = (answer n w, m)
-messageBy (whole p) m k x =
-    (checkMessage p m k x, cond (eqb (checkMessage p m k x .number) 0) (unwords (setNumber p k x (words m))) m)
-
 unfoldable pub messageOf : List ℕ → List ℕ → ℕ → Float → Answer × List ℕ
-messageOf board m k x = messageBy (readBoard board) m k x
+messageOf board m k x = changeBy m (λ p. checkMessage p m k x) (λ p. setNumber p k x (words m)) (readBoard board)

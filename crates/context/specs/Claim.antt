@@ -14,13 +14,13 @@ use Rattle.graph.specs.Answer.{answer}
 use Rattle.graph.specs.Board.{Parsed, whole, memoryLength}
 use Rattle.graph.specs.Judge.{readBoard}
 use Rattle.context.specs.Memory.{freshValues}
-use Rattle.context.specs.Calls.{Left, freshOf, blockIn, messageOf, listed}
+use Rattle.context.specs.Calls.{Outcome, freshOf, blockIn, messageOf, listed}
 use Rattle.context.specs.Reading.{Call, block, message, valueOf, Reply, Timed, IsReading, accepted, repliesTo, memoryAfter}
 
 -- ---- a call on a board's bytes and its memory
 
 -- a block run's reply
-abbrev pub replied : Left → Reply
+abbrev pub replied : Outcome → Reply
 replied d = record { answer = d .answer; left = d .left; right = d .right }
 
 -- the memory as the call leaves it, and its reply; a block run takes the nodes in the order that `order` gives for the board, which is

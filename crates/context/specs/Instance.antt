@@ -1,17 +1,19 @@
 -- A board's nodes as the general theory (crate reading) takes them: its `Board`, and its `Rules` twice, on what memory holds and on what the
 -- reading knows. `shown` is the memory that cells stand for. Definitions only.
-use Prim.Native.Nat.{ℕ, zero, suc}
-use mathlib.Core.Bool.{cond}
+use Prim.Native.Nat.{ℕ}
+use mathlib.Core.Path.{_≡_}
+use mathlib.Core.Bool.{true, cond}
 use mathlib.Core.Option.{Option, none, some}
-use mathlib.Core.List.{List, [], _∷_, _++_, map}
+use mathlib.Core.List.{List, [], _∷_, map}
 use lib.ListN.{length}
 use lib.Dec.{eqb, ltb}
 use lib.Ieee.{nan, binary32, ofBits, toBits}
 use Rattle.leaves.specs.Words.{words, unwords}
-use Rattle.nodes.specs.Kind.{channelsOf}
+use Rattle.nodes.specs.Kind.{channelsOf, lineOf}
 use Rattle.nodes.specs.Rule.{Brought, Frame, State, sampleBy, stateBy}
-use Rattle.nodes.specs.Cell.{Cell, valuesOf, freshCell}
+use Rattle.nodes.specs.Cell.{Cell, valuesOf, freshCell, numberFits, carryFits, placeFits}
 use Rattle.nodes.specs.History.{Heard, freshHeard, setNumber, sampleHeard, heardAfter}
+use Rattle.reading.specs.Table.{joined}
 use Rattle.reading.specs.Order.{sources}
 use Rattle.reading.specs.Board as theory
 use Rattle.reading.specs.Blocks as blocks
@@ -19,13 +21,9 @@ use Rattle.graph.specs.Sources.{distinctSources, secondSource}
 use Rattle.graph.specs.Board.{Parsed}
 use Rattle.context.specs.Memory.{kindAt}
 use Rattle.context.specs.Calls.{listed}
-use Rattle.context.specs.Reading.{Call, block, message, valueOf, accepts, silence, rightSample, samplesOf}
+use Rattle.context.specs.Reading.{Call, block, message, valueOf, accepts, mono, silence, rightSample, samplesOf, withNumber}
 
 -- ---- the board
-
--- the sample x of a node of one channel
-abbrev pub mono : ℕ → Frame
-mono x = record { left = x; right = 0 }
 
 -- what an accepted call asks
 abbrev pub sent : Call → theory.Call Frame ℕ
@@ -71,7 +69,7 @@ unfoldable pub memoryRules : Parsed → theory.Rules Frame State ℕ
 memoryRules p = record {
   fresh = λ k. freshCell (p .size) (kindAt p k) .state;
   step = λ k i s h fs. (sampleBy (kindAt p k) s h (broughtFrom p k fs), stateBy (kindAt p k) s (broughtFrom p k fs));
-  set = λ k v s. record { number = v; carry = s .carry; place = s .place; line = s .line };
+  set = λ k v s. withNumber v s;
 }
 
 -- on what the reading knows
@@ -82,6 +80,15 @@ readingRules p = record {
   set = λ k v h. setNumber v h;
 }
 
+-- ---- what holds all along
+
+-- of node k's state: its line's length, and that its judged values are as they must be
+pub record Held (p : Parsed) (k : ℕ) (s : State) : Type 0 where
+  pub long : length (s .line) ≡ lineOf (kindAt p k)
+  pub number : numberFits (kindAt p k) (s .number) ≡ true
+  pub carry : carryFits (kindAt p k) (s .carry) ≡ true
+  pub place : placeFits (kindAt p k) (s .place) ≡ true
+
 -- ---- the memory that cells stand for
 
 abbrev pub Cells : Type 0
@@ -90,12 +97,10 @@ Cells = blocks.Cells Frame State
 abbrev pub cellIn : Parsed → Cells → ℕ → Cell
 cellIn p c k = record { state = c k .state; samples = samplesOf (channelsOf (kindAt p k)) (c k .samples) }
 
--- the first n cells, in node order
-unfoldable pub shownTo : Parsed → Cells → ℕ → List ℕ
-shownTo p c zero = []
-shownTo p c (suc k) = shownTo p c k ++ valuesOf (cellIn p c k)
+-- the values of the first n cells, in node order, and of the whole memory; its bytes
+abbrev pub shownTo : Parsed → Cells → ℕ → List ℕ
+shownTo p c n = joined n (λ k. valuesOf (cellIn p c k))
 
--- the values of the memory, and its bytes
 abbrev pub shown : Parsed → Cells → List ℕ
 shown p c = shownTo p c (length (p .nodes))
 

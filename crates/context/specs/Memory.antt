@@ -1,42 +1,41 @@
 -- A board's memory (document 01, "Memory"), as its list of 4-byte values: cells in node order. Definitions only.
-use Prim.Native.Nat.{ℕ, zero, suc, _+_, _-_, _*_}
-use mathlib.Core.Bool.{Bool, cond}
+use Prim.Native.Nat.{ℕ, suc, _+_, _-_, _*_}
+use mathlib.Core.Bool.{cond}
 use mathlib.Core.List.{List, [], _∷_, _++_, map}
-use lib.ListN.{length, getD, drop}
-use lib.Dec.{eqb}
+use lib.ListN.{getD, drop}
 use lib.Seq.{paste}
-use Rattle.leaves.specs.Words.{words}
-use Rattle.nodes.specs.Kind.{finite}
 use Rattle.nodes.specs.Rule.{Brought}
 use Rattle.nodes.specs.Cell.{valuesOf, freshCell, cellFits}
 use Rattle.nodes.specs.Node.{broughtAt, nodeRun}
 use Rattle.nodes.specs.declared.kind.NodeKind.{NodeKind}
-use Rattle.nodes.specs.declared.kind.NodeKind.the-variants.{Pass}
 use Rattle.nodes.specs.declared.kind.NodeRecord.{NodeRecord}
 use Rattle.graph.specs.Answer.{answer}
 use Rattle.graph.specs.Sources.{distinctSources, secondSource}
-use Rattle.graph.specs.Board.{Parsed}
+use Rattle.graph.specs.Board.{Parsed, blank}
 use Rattle.graph.specs.declared.answer.Answer.{Answer}
 
 -- ---- nodes by number
 
--- node k; past the end a pass at 0, which is never used
+-- node k of a list; past the end a pass at 0, which is never used
+abbrev pub nodeIn : List NodeRecord → ℕ → NodeRecord
+nodeIn nodes k = getD nodes k blank
+
 abbrev pub nodeAt : Parsed → ℕ → NodeRecord
-nodeAt p k = getD (p .nodes) k (record { kind = Pass; channels = 0; cell = 0 })
+nodeAt p k = nodeIn (p .nodes) k
 
 abbrev pub kindAt : Parsed → ℕ → NodeKind
 kindAt p k = nodeAt p k .kind
 
--- the value at which node k's samples start, and at which what the destination's channel 1 reads of it: a stereo node's channel 1, else
--- channel 0
-abbrev pub leftStart : ℕ → NodeRecord → ℕ
-leftStart N r = r .cell + 3
+-- the value at which a node's samples start, and at which starts what the destination's channel 1 reads of it: a stereo node's channel 1,
+-- else channel 0
+abbrev pub leftStart : NodeRecord → ℕ
+leftStart r = r .cell + 3
 
 abbrev pub rightStart : ℕ → NodeRecord → ℕ
 rightStart N r = r .cell + 3 + N * (r .channels - 1)
 
 abbrev pub lefts : Parsed → List ℕ
-lefts p = map (leftStart (p .size)) (p .nodes)
+lefts p = map leftStart (p .nodes)
 
 abbrev pub rights : Parsed → List ℕ
 rights p = map (rightStart (p .size)) (p .nodes)

@@ -2,30 +2,26 @@
 use Prim.Native.Nat.{ℕ, _+_, _*_, _≤_, _<_}
 use mathlib.Core.Path.{_≡_}
 use mathlib.Core.List.{List, [], _∷_, map}
-use lib.ListN.{length, getD, take}
+use lib.ListN.{length, take}
 use Rattle.leaves.specs.Floats.{setFloat}
 use Rattle.nodes.specs.Cell.{numberOf}
-use Rattle.nodes.specs.declared.kind.NodeKind.the-variants.{Pass}
 use Rattle.nodes.specs.declared.kind.NodeRecord.{NodeRecord}
 use Rattle.graph.specs.Board.{memoryLength}
 use Rattle.graph.specs.Visit.{Lists}
-use Rattle.context.specs.Memory.{passed}
-use Rattle.context.specs.Calls.{checkMemory, listed}
+use Rattle.context.specs.Memory.{nodeIn, passed}
+use Rattle.context.specs.Calls.{checkValues, listed}
 use Rattle.graph.specs.Read.{parsedOf, Sound}
 use Rattle.context.specs.Fine.{Fine}
 use Rattle.graph.specs.Formed.{TableAt}
 use Rattle.graph.specs.declared.board.Board.{Board}
 use Rattle.graph.specs.declared.graph.Order.{Order}
 
--- an element of an array of nodes
-abbrev pub nodeIn : List NodeRecord → ℕ → NodeRecord
-nodeIn nodes k = getD nodes k (record { kind = Pass; channels = 0; cell = 0 })
-
 -- the judged values of each of the first n nodes lie within so many bytes
 abbrev pub CellsIn : List NodeRecord → ℕ → ℕ → Type 0
 CellsIn nodes n long = (k : ℕ) → k < n → 4 * (nodeIn nodes k .cell + 3) ≤ long
 
--- the start of a node's samples fits: it has one channel or two, and its cell starts among so many values as a memory may have
+-- the start of a node's samples fits: it has one channel or two, and its cell starts among the values of the largest memory,
+-- 64 × (3 + 2 × 128) + 262,144
 pub record StartFits (r : NodeRecord) : Type 0 where
   pub some-channel : 1 ≤ r .channels
   pub few-channels : r .channels ≤ 2
@@ -46,7 +42,7 @@ pub record Runs (b : Board) (o : Order) (m : List ℕ) : Type 0 where
   pub table : (v : ℕ) → v < 64 → TableAt b v
   pub lists : Lists (listed (parsedOf b)) (o .nodes) (o .count)
   pub long : length m ≡ memoryLength (parsedOf b)
-  pub judged : checkMemory (parsedOf b) m ≡ passed
+  pub judged : checkValues (parsedOf b) m ≡ passed
 
 -- the values with each node's number stored at the start of its cell
 unfoldable pub putNumbers : List NodeRecord → List ℕ → List ℕ

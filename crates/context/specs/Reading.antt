@@ -12,9 +12,8 @@ use Rattle.nodes.specs.Kind.{channelsOf}
 use Rattle.nodes.specs.Rule.{Brought, Frame, State}
 use Rattle.nodes.specs.Cell.{Cell, valuesOf, numberOf, freshCell}
 use Rattle.nodes.specs.History.{Heard, freshHeard, setNumber, sampleHeard, heardAfter, stateOf}
-use Rattle.reading.specs.Table.{mem, tab}
+use Rattle.reading.specs.Table.{mem, tab, joined}
 use Rattle.reading.specs.Order.{late}
-use Rattle.reading.specs.Places.{joined}
 use Rattle.graph.specs.Sources.{distinctSources, secondSource}
 use Rattle.graph.specs.Board.{Parsed}
 use Rattle.context.specs.Memory.{kindAt}
@@ -53,8 +52,8 @@ inputs [] = []
 inputs (block x l r ∷ cs) = words x ∷ inputs cs
 inputs (message k w ∷ cs) = inputs cs
 
--- node k's number in accepted block b, where it starts as n: each accepted message to the node sets it to the message's value from then on;
--- behind the last block all have
+-- node k's number in accepted block b, where it starts as n: each accepted message to the node sets it to the message's value from then on.
+-- With as many blocks as there are for b, it is the number behind the last block
 unfoldable pub numberIn : List Call → ℕ → ℕ → ℕ → ℕ
 numberIn [] b k n = n
 numberIn (block x l r ∷ cs) zero k n = n
@@ -67,11 +66,14 @@ numberIn (message j w ∷ cs) b k n = numberIn cs b k (cond (eqb k j) (toBits bi
 abbrev pub Timed : Type 0 → Type 0
 Timed A = ℕ → ℕ → A
 
--- zero on both channels
-abbrev pub silence : Frame
-silence = record { left = 0; right = 0 }
+-- a sample of one channel, and zero on both
+abbrev pub mono : ℕ → Frame
+mono x = record { left = x; right = 0 }
 
--- the reached nodes are the listed ones: node 0 and each from which wires lead to it (proofs/Listed.antt)
+abbrev pub silence : Frame
+silence = mono 0
+
+-- the reached nodes are the listed ones: node 0 and each from which wires lead to it (`lists-reached` of the crate graph)
 abbrev pub reached : Parsed → ℕ → Bool
 reached p k = mem k (listed p)
 
@@ -115,11 +117,11 @@ module _ (p : Parsed) (s : Timed Frame) where
 
 -- what a pass without wires in gives: the input sample if it is the input node, else its own of N earlier
 abbrev pub heldAt : Parsed → List Call → Timed Frame → ℕ → ℕ → Frame
-heldAt p cs s t k = cond (eqb k (p .input)) (record { left = inputAt p cs t; right = 0 }) (earlier p s t k)
+heldAt p cs s t k = cond (eqb k (p .input)) (mono (inputAt p cs t)) (earlier p s t k)
 
 -- s is the samples of the reached nodes, and u what is known of them just before each time, for the accepted calls cs
 pub record IsReading (p : Parsed) (cs : List Call) (s : Timed Frame) (u : Timed Heard) : Type 0 where
-  -- phase, y1 and lines start at 0
+  -- phase, y1 and the last n x and y start at 0
   pub first : (k : ℕ) → reached p k ≡ true → u 0 k ≡ setNumber (numberAt p cs 0 k) (freshHeard (kindAt p k))
   -- each reached node applies its table row to what its wires bring
   pub sample : (t k : ℕ) → t < end p cs → reached p k ≡ true

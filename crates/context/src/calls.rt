@@ -1,12 +1,12 @@
 // The calls on a board's bytes and its memory: fresh memory and the block run. Each call judges
 // everything first and then works, so a refusal leaves every byte as found.
 ghost use mathlib.Core.Path.{_≡_};
-ghost use Prim.Native.Nat.{ℕ, _+_, _*_, _≤_};
+ghost use Prim.Native.Nat.{_+_, _*_, _≤_};
 ghost use lib.ListN.{length, take, drop, replicate};
 ghost use lib.Seq.{paste};
 ghost use Rattle.leaves.specs.Words.{words};
-ghost use Rattle.context.specs.Memory.{leftStart, rightStart, checkCells, runNodes};
-ghost use Rattle.context.specs.Calls.{andThen, checkNeeded, checkLength, checkMemory, checkSizes, checkSamples, asFound, listed, freshOf, blockOf};
+ghost use Rattle.context.specs.Memory.{rightStart, checkCells, runNodes};
+ghost use Rattle.context.specs.Calls.{andThen, checkNeeded, checkMemory, checkSizes, checkSamples, asLeft, listed, freshOf, blockOf};
 ghost use Rattle.graph.specs.Read.{parsedOf, Sound};
 ghost use Rattle.context.specs.Fine.{Fine};
 ghost use Rattle.context.specs.Parts.{CellsIn, StartsFit, Starts, Runs, putNumbers};
@@ -87,7 +87,7 @@ fn blocks_judged(size: usize, input: &[u8], left: usize, right: usize) -> Answer
 pub fn memory_judged(board: Board, memory: &[u8]) -> Answer
     requires { ⌜ Sound board ⌝ }
     requires { ⌜ Fine (parsedOf board) ⌝ }
-    ensures { λ r. ⌜ r ≡ andThen (checkLength (parsedOf board) (now (memory .entry))) (checkMemory (parsedOf board) (now (memory .entry))) ⌝ }
+    ensures { λ r. ⌜ r ≡ checkMemory (parsedOf board) (now (memory .entry)) ⌝ }
 {
     let judged = length_judged(board.values, memory.len());
     if judged.number != 0 {
@@ -101,8 +101,8 @@ pub fn memory_judged(board: Board, memory: &[u8]) -> Answer
 fn block_judged(board: Board, memory: &[u8], input: &[u8], left: usize, right: usize) -> Answer
     requires { ⌜ Sound board ⌝ }
     requires { ⌜ Fine (parsedOf board) ⌝ }
-    ensures { λ r. ⌜ r ≡ andThen (checkLength (parsedOf board) (now (memory .entry))) (andThen (checkMemory (parsedOf board) (now (memory .entry)))
-        (andThen (checkSizes (board .size) (length (now (input .entry))) left right) (checkSamples 0 (words (now (input .entry)))))) ⌝ }
+    ensures { λ r. ⌜ r ≡ andThen (checkMemory (parsedOf board) (now (memory .entry)))
+        (andThen (checkSizes (board .size) (length (now (input .entry))) left right) (checkSamples 0 (words (now (input .entry))))) ⌝ }
 {
     let judged = memory_judged(board, memory);
     if judged.number != 0 {
@@ -138,6 +138,8 @@ fn put_numbers(nodes: [NodeRecord; 64], count: usize, memory: &mut [u8])
 }
 
 // The fresh call writes the whole memory: numbers at their start, all else 0.
+// Ruled out, and tried by must-fail edits: numbers left at 0 (fresh_numbers_left_out), a refused call
+// that writes (fresh_refused_writes).
 pub fn fresh(s: &[u8], memory: &mut [u8]) -> Answer
     ensures answered { λ r. ⌜ r ≡ (freshOf (now (s .entry)) (now (memory .entry))) .0 ⌝ }
     ensures bytes { λ _. ⌜ now (memory .exit) ≡ (freshOf (now (s .entry)) (now (memory .entry))) .1 ⌝ }
@@ -171,23 +173,9 @@ fn copy(from: &[u8], start: usize, to: &mut [u8], at: usize, count: usize)
     }
 }
 
-// Where each node's channel 0 starts.
-fn left_starts(nodes: [NodeRecord; 64], count: usize) -> [usize; 64]
-    requires { ⌜ (length nodes ≡ 64) × (count ≤ 64) × StartsFit nodes count ⌝ }
-    ensures { λ r. ⌜ ((size : ℕ) → Starts (leftStart size) nodes count r) ⌝ }
-{
-    let mut at = [0usize; 64];
-    let mut i = 0;
-    while i < count {
-        let node = nodes[i];
-        at[i] = node.cell + 3;
-        i += 1;
-    }
-    at
-}
-
-// Where what the destination's channel 1 reads of each node starts.
-fn right_starts(nodes: [NodeRecord; 64], count: usize, size: usize) -> [usize; 64]
+// Where what the destination's channel 1 reads of each node starts; for a size of 0, where its
+// channel 0 does.
+fn starts(nodes: [NodeRecord; 64], count: usize, size: usize) -> [usize; 64]
     requires { ⌜ (length nodes ≡ 64) × (count ≤ 64) × (size ≤ 128) × StartsFit nodes count ⌝ }
     ensures { λ r. ⌜ Starts (rightStart size) nodes count r ⌝ }
 {
@@ -211,8 +199,8 @@ fn run(board: Board, order: Order, memory: &mut [u8])
     let lists = board.lists;
     let seconds = board.seconds;
     let listed = order.nodes;
-    let lefts = left_starts(nodes, board.count);
-    let rights = right_starts(nodes, board.count, board.size);
+    let lefts = starts(nodes, board.count, 0);
+    let rights = starts(nodes, board.count, board.size);
     let mut x = [0.0f32; 128];
     let mut m = [0.0f32; 128];
     let mut i = 0;
@@ -237,10 +225,12 @@ fn run(board: Board, order: Order, memory: &mut [u8])
     }
 }
 
-// The input block into the input node's samples, listed or not; the listed nodes in order; node 0's
-// two channels out.
+// The block run: the input block into the input node's samples, listed or not; the listed nodes in
+// order; node 0's two channels out.
+// Ruled out: memory left untouched (block_runs_nothing), a fixed output (block_fixed_output), a block of
+// a fixed size (block_fixed_size), 9 judged before 8 (block_nine_before_eight).
 pub fn block(s: &[u8], memory: &mut [u8], input: &[u8], out0: &mut [u8], out1: &mut [u8]) -> Answer
-    ensures { λ r. ⌜ asFound r (now (memory .exit)) (now (out0 .exit)) (now (out1 .exit))
+    ensures { λ r. ⌜ asLeft r (now (memory .exit)) (now (out0 .exit)) (now (out1 .exit))
         ≡ blockOf (now (s .entry)) (now (memory .entry)) (now (input .entry)) (now (out0 .entry)) (now (out1 .entry)) ⌝ }
 {
     let board = read_board(s);

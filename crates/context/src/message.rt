@@ -5,7 +5,7 @@ ghost use lib.ListN.{length};
 ghost use Rattle.leaves.specs.Words.{words};
 ghost use Rattle.graph.specs.Read.{parsedOf, Sound};
 ghost use Rattle.context.specs.Fine.{Fine};
-ghost use Rattle.context.specs.Calls.{checkNumber, checkMessage, setNumber, messageOf};
+ghost use Rattle.context.specs.Calls.{checkNumber, setNumber, messageOf};
 use crate::calls::memory_judged;
 use graph::answer::Answer;
 use graph::board::Board;
@@ -35,20 +35,6 @@ fn number_judged(board: Board, k: usize, value: f32) -> Answer
     }
 }
 
-// Checks 7, 8, 11 and 12.
-fn message_judged(board: Board, memory: &[u8], k: usize, value: f32) -> Answer
-    requires { ⌜ Sound board ⌝ }
-    requires { ⌜ Fine (parsedOf board) ⌝ }
-    requires { ⌜ k < 4294967296 ⌝ }
-    ensures { λ r. ⌜ r ≡ checkMessage (parsedOf board) (now (memory .entry)) k value ⌝ }
-{
-    let judged = memory_judged(board, memory);
-    if judged.number != 0 {
-        return judged;
-    }
-    number_judged(board, k, value)
-}
-
 // The value as node k's number, in a memory of the board's length.
 pub fn put_number(board: Board, k: usize, value: f32, memory: &mut [u8])
     requires { ⌜ Sound board ⌝ }
@@ -62,6 +48,8 @@ pub fn put_number(board: Board, k: usize, value: f32, memory: &mut [u8])
 }
 
 // The number message. Every check comes first, so a refusal leaves every byte as found.
+// Ruled out, and tried by must-fail edits: one that writes another value of the cell
+// (message_sets_carry), a value out of range answered as a wrong node (message_eleven_for_twelve).
 pub fn message(s: &[u8], memory: &mut [u8], node: u32, value: f32) -> Answer
     ensures answered { λ r. ⌜ r ≡ (messageOf (now (s .entry)) (now (memory .entry)) node value) .0 ⌝ }
     ensures bytes { λ _. ⌜ now (memory .exit) ≡ (messageOf (now (s .entry)) (now (memory .entry)) node value) .1 ⌝ }
@@ -71,11 +59,15 @@ pub fn message(s: &[u8], memory: &mut [u8], node: u32, value: f32) -> Answer
     if refused.number != 0 {
         return refused;
     }
-    let k = node as usize;
-    let judged = message_judged(board, memory, k, value);
+    let judged = memory_judged(board, memory);
     if judged.number != 0 {
         return judged;
     }
+    let k = node as usize;
+    let taken = number_judged(board, k, value);
+    if taken.number != 0 {
+        return taken;
+    }
     put_number(board, k, value, memory);
-    judged
+    Answer::new(0, 0)
 }

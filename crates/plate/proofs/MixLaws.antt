@@ -1,18 +1,18 @@
 -- Laws of the mix message: an accepted one is its four number messages, one after the other (`mix-four`), and after it the four cells hold
 -- mix and 1 − mix (`mix-holds`). Assumes nothing.
-use Prim.Native.Nat.{ℕ, _*_, _/_, _%_, _<_}
+use Prim.Native.Nat.{ℕ, _<_}
 use mathlib.Core.Path.{_≡_, refl, sym, ap, _∙_, subst}
 use mathlib.Core.Bool.{true, cond, _&&_, false≢true}
-use mathlib.Core.List.{List, [], _∷_}
+use mathlib.Core.List.{List}
 use native.Mathlib.Omega.{arith}
-use borrow.Author.Tests.{lt-ltb, eq-eqb}
+use borrow.Author.Tests.{lt-ltb}
 use lib.Dec.{T, eqb}
 use lib.Ieee.{Float, binary32, toBits, fits}
 use lib.Ieee.Fits.{sub-fits}
 use lib.ListN.{length, getD, length-set}
 use lib.Seq.{getD-set-same, getD-set-other}
 use Rattle.leaves.specs.Floors.{f1, finiteF}
-use Rattle.leaves.specs.Words.{word, words, unwords, length-words, Bytes}
+use Rattle.leaves.specs.Words.{words, unwords, length-words, words-unwords, length-unwords, Bytes}
 use Rattle.nodes.specs.Cell.{takesNumber, valueFits}
 use Rattle.nodes.specs.declared.kind.NodeKind.{NodeKind}
 use Rattle.nodes.specs.declared.kind.NodeKind.the-variants.{Pass, Sum, Destination, Balance, Mul, Add, Delay, AllPass, OnePole, Sine}
@@ -20,30 +20,20 @@ use Rattle.graph.specs.Answer.{answer}
 use Rattle.graph.specs.Board.{Parsed, Reading, going, refused, whole, memoryLength}
 use Rattle.graph.specs.Judge.{readBoard}
 use Rattle.context.specs.Memory.{passed, nodeAt, kindAt}
-use Rattle.context.specs.Calls.{andThen, checkLength, checkMemory, checkNumber, checkMessage, setNumber, messageBy, messageOf}
+use Rattle.context.specs.Calls.{andThen, checkMemory, changeBy, checkNumber, checkMessage, setNumber, messageOf}
 use Rattle.context.specs.Fine.{Fine}
-use Rattle.context.proofs.CallCells.{cell-in, cell-apart}
-use Rattle.context.proofs.CallLaws.{Whole, Judged, judged-passed, passed-judged}
-use Rattle.context.proofs.CallMessage.{set-long, set-judged}
+use Rattle.graph.proofs.Ending.{Ended, board-ends}
 use Rattle.context.proofs.FineBoard.{fine-board}
-use Rattle.graph.proofs.Ending.{Ended as Numbered, board-ends as read-numbered}
+use Rattle.context.proofs.CallCells.{cell-in, cell-apart}
+use Rattle.context.proofs.CallChecks.{then-both}
+use Rattle.context.proofs.CallBy.{change-passes}
+use Rattle.context.proofs.CallLaws.{Whole, Judged, memory-passed, memory-told}
+use Rattle.context.proofs.CallMessage.{set-long, set-judged}
 use Rattle.plate.specs.Plate.{dryOf}
-use Rattle.plate.specs.Mix.{isMul, checkMul, checkFinite, checkMixed, after, setMix, mixBy, mixOf, IsFour, HoldsMix}
+use Rattle.plate.specs.Mix.{isMul, checkMul, checkFinite, checkMix, checkMixed, after, setMix, mixOf, IsFour, HoldsMix}
 use Rattle.plate.proofs.Written.{answer-of, bytes-of}
 use Rattle.plate.proofs.Dry.{dry-finite}
 use Rattle.plate.proofs.Mixing.{MulAt, MixTold, mix-told}
-
--- ---- words of bytes that words make
-
-words-unwords : (ws : List ℕ) → words (unwords ws) ≡ ws
-unfolding words unwords
-words-unwords [] = refl
-words-unwords (w ∷ ws) = let e : word (w % 256) (w / 256 % 256) (w / 65536 % 256) (w / 16777216) ≡ w = omega arith in λ i. e i ∷ words-unwords ws i
-
-length-unwords : (ws : List ℕ) → length (unwords ws) ≡ 4 * length ws
-unfolding unwords
-length-unwords [] = refl
-length-unwords (w ∷ ws) = omega (arith, length-unwords ws)
 
 -- ---- a mul takes every finite number
 
@@ -82,8 +72,8 @@ module _ (s : List ℕ) (p : Parsed) (reads : readBoard s ≡ whole p) (fine : F
     size : length m ≡ memoryLength p
     judged : Judged p ws
 
-  length-passed : (m : List ℕ) → length m ≡ memoryLength p → checkLength p m ≡ passed
-  length-passed m e = λ i. cond (eq-eqb (length m) (memoryLength p) e i) passed (answer 7 (memoryLength p))
+  checked : (m ws : List ℕ) → Ready m ws → checkMemory p m ≡ passed
+  checked m ws r = memory-passed p m (r .size) (subst (Judged p) (sym (r .is)) (r .judged))
 
   module _ (m ws : List ℕ) (r : Ready m ws) (k : ℕ) (mul : MulAt p k) (x : Float) (fit : T (fits binary32 x)) (number : finiteF x ≡ true) where
     all : Whole p ws
@@ -92,12 +82,11 @@ module _ (s : List ℕ) (p : Parsed) (reads : readBoard s ≡ whole p) (fine : F
     sent : messageOf s m k x ≡ (passed, unwords (setNumber p k x ws))
     unfolding messageOf
     sent =
-        let long = length-passed m (r .size) in
-        let cells : checkMemory p m ≡ passed = judged-passed p (words m) (subst (Judged p) (sym (r .is)) (r .judged)) in
         let takes : checkNumber p k x ≡ passed =
         λ i. cond (lt-ltb k (length (p .nodes)) (mul .0) i && mul-takes (kindAt p k) (mul .1) i) (cond (mul-fits (kindAt p k) x (mul .1) number i) passed (answer 12 k)) (answer 11 k) in
-        let checks : checkMessage p m k x ≡ passed = λ i. andThen (long i) (andThen (cells i) (takes i)) in
-        ap (λ (v : Reading). messageBy v m k x) reads ∙ (λ i. (checks i, cond (eqb (checks i .number) 0) (unwords (setNumber p k x (r .is i))) m))
+        let checks : checkMessage p m k x ≡ passed = λ i. andThen (checked m ws r i) (takes i) in
+        ap (changeBy m (λ q. checkMessage q m k x) (λ q. setNumber q k x (words m))) reads
+        ∙ (λ i. cond (eqb (checks i .number) 0) (passed, unwords (setNumber p k x (r .is i))) (checks i, m))
 
     ready : Ready (unwords (setNumber p k x ws)) (setNumber p k x ws)
     ready = record {
@@ -108,7 +97,7 @@ module _ (s : List ℕ) (p : Parsed) (reads : readBoard s ≡ whole p) (fine : F
 
   -- ---- the four
 
-  module _ (m : List ℕ) (mix : Float) (told : MixTold p m mix) (fit : T (fits binary32 mix)) where
+  module _ (m : List ℕ) (mix : Float) (memory : (length m ≡ memoryLength p) × Judged p (words m)) (told : MixTold p mix) (fit : T (fits binary32 mix)) where
     abbrev dry : Float
     dry = dryOf mix
 
@@ -119,7 +108,7 @@ module _ (s : List ℕ) (p : Parsed) (reads : readBoard s ≡ whole p) (fine : F
     dry-number = dry-finite mix fit (told .number)
 
     start : Ready m (words m)
-    start = record { is = refl; size = told .long; judged = passed-judged p (words m) (told .judged) }
+    start = record { is = refl; size = memory .0; judged = memory .1 }
 
     mul-passed : (k : ℕ) → MulAt p k → checkMul p k ≡ passed
     mul-passed k h = λ i. cond (lt-ltb k (length (p .nodes)) (h .0) i && h .1 i) passed (answer 11 k)
@@ -127,16 +116,15 @@ module _ (s : List ℕ) (p : Parsed) (reads : readBoard s ≡ whole p) (fine : F
     mixed : mixOf s m mix ≡ (passed, unwords (setMix p mix (words m)))
     unfolding mixOf
     mixed =
-        let long = length-passed m (told .long) in
-        let cells : checkMemory p m ≡ passed = judged-passed p (words m) (start .judged) in
         let number : checkFinite mix ≡ passed = λ i. cond (told .number i) passed (answer 12 41) in
         let a = mul-passed 41 (told .left-wet) in
         let b = mul-passed 47 (told .right-wet) in
         let c = mul-passed 43 (told .left-dry) in
         let d = mul-passed 49 (told .right-dry) in
         let checks : checkMixed p m mix ≡ passed =
-        λ i. andThen (long i) (andThen (cells i) (andThen (a i) (andThen (b i) (andThen (c i) (andThen (d i) (number i)))))) in
-        ap (λ (v : Reading). mixBy v m mix) reads ∙ (λ i. (checks i, cond (eqb (checks i .number) 0) (unwords (setMix p mix (words m))) m))
+        λ i. andThen (checked m (words m) start i) (andThen (a i) (andThen (b i) (andThen (c i) (andThen (d i) (number i))))) in
+        ap (changeBy m (λ q. checkMixed q m mix) (λ q. setMix q mix (words m))) reads
+        ∙ (λ i. cond (eqb (checks i .number) 0) (passed, unwords (setMix p mix (words m))) (checks i, m))
 
     four : IsFour s m mix
     four =
@@ -203,29 +191,37 @@ module _ (s : List ℕ) (p : Parsed) (reads : readBoard s ≡ whole p) (fine : F
 
 -- ---- of bytes
 
--- a board whose mix message is accepted is accepted, and its checks pass
-told-of : (s m : List ℕ) (mix : Float) → (mixOf s m mix) .0 .number ≡ 0 → (p : Parsed) × (readBoard s ≡ whole p) × MixTold p m mix
+-- a board whose mix message is accepted is read whole, and its checks pass
+record Told (s m : List ℕ) (mix : Float) : Type 0 where
+  parsed : Parsed
+  reads : readBoard s ≡ whole parsed
+  memory : (length m ≡ memoryLength parsed) × Judged parsed (words m)
+  muls : MixTold parsed mix
+
+told-of : (s m : List ℕ) (mix : Float) → (mixOf s m mix) .0 .number ≡ 0 → Told s m mix
 unfolding mixOf
-told-of s m mix = go (readBoard s) refl (read-numbered s)
+told-of s m mix = go (readBoard s) refl (board-ends s)
   where
-    go : (r : Reading) → readBoard s ≡ r → Numbered r → (mixBy r m mix) .0 .number ≡ 0 → (p : Parsed) × (readBoard s ≡ whole p) × MixTold p m mix
+    go : (r : Reading) → readBoard s ≡ r → Ended r → (changeBy m (λ p. checkMixed p m mix) (λ p. setMix p mix (words m)) r) .0 .number ≡ 0 → Told s m mix
     go (going at last p) e n z = absurd (omega arith)
     go (refused k w) e n z = absurd (omega arith)
-    go (whole p) e n z = (p, e, mix-told p m mix z)
+    go (whole p) e n z =
+        let two = then-both (checkMemory p m) (checkMix p mix) (change-passes m (λ q. checkMixed q m mix) (λ q. setMix q mix (words m)) p z) in
+        record { parsed = p; reads = e; memory = memory-told p m (two .0); muls = mix-told p mix (two .1) }
 
 pub mix-four : (s m : List ℕ) (mix : Float) → Bytes s → T (fits binary32 mix) → (mixOf s m mix) .0 .number ≡ 0 → IsFour s m mix
 mix-four s m mix small fit z =
-    let known = told-of s m mix z in
-    four s (known .0) (known .1) (fine-board s small (known .0) (known .1)) m mix (known .2) fit
+    let k = told-of s m mix z in
+    four s (k .parsed) (k .reads) (fine-board s small (k .parsed) (k .reads)) m mix (k .memory) (k .muls) fit
 
 pub mix-holds : (s m : List ℕ) (mix : Float) → Bytes s → T (fits binary32 mix) → (mixOf s m mix) .0 .number ≡ 0
     → (p : Parsed) → readBoard s ≡ whole p → HoldsMix p mix (words ((mixOf s m mix) .1))
 mix-holds s m mix small fit z p e =
-    let known = told-of s m mix z in
-    let q = known .0 in
-    let fine = fine-board s small q (known .1) in
-    let same : q ≡ p = cc (sym (known .1) ∙ e) in
-    let left = holds s q (known .1) fine m mix (known .2) fit in
-    let bytes : (mixOf s m mix) .1 ≡ unwords (setMix q mix (words m)) = ap bytes-of (mixed s q (known .1) fine m mix (known .2) fit) in
+    let k = told-of s m mix z in
+    let q = k .parsed in
+    let fine = fine-board s small q (k .reads) in
+    let same : q ≡ p = cc (sym (k .reads) ∙ e) in
+    let left = holds s q (k .reads) fine m mix (k .memory) (k .muls) fit in
+    let bytes : (mixOf s m mix) .1 ≡ unwords (setMix q mix (words m)) = ap bytes-of (mixed s q (k .reads) fine m mix (k .memory) (k .muls) fit) in
     subst (λ (x : Parsed). HoldsMix x mix (words ((mixOf s m mix) .1))) same
     (subst (HoldsMix q mix) (sym (ap words bytes ∙ words-unwords (setMix q mix (words m)))) left)

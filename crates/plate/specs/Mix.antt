@@ -5,21 +5,21 @@ use mathlib.Core.Path.{_≡_}
 use mathlib.Core.Bool.{Bool, true, false, cond, _&&_}
 use mathlib.Core.List.{List}
 use lib.ListN.{length, getD}
-use lib.Dec.{eqb, ltb}
+use lib.Dec.{ltb}
 use lib.Ieee.{Float, binary32, toBits}
 use Rattle.leaves.specs.Floors.{finiteF}
-use Rattle.leaves.specs.Words.{words, unwords}
+use Rattle.leaves.specs.Words.{words}
 use Rattle.nodes.specs.declared.kind.NodeKind.{NodeKind}
 use Rattle.nodes.specs.declared.kind.NodeKind.the-variants.{Pass, Sum, Destination, Balance, Mul, Add, Delay, AllPass, OnePole, Sine}
 use Rattle.graph.specs.Answer.{answer}
-use Rattle.graph.specs.Board.{Parsed, Reading, going, refused, whole}
+use Rattle.graph.specs.Board.{Parsed}
 use Rattle.graph.specs.Judge.{readBoard}
 use Rattle.context.specs.Memory.{passed, nodeAt, kindAt}
-use Rattle.context.specs.Calls.{andThen, checkLength, checkMemory, setNumber, messageOf}
+use Rattle.context.specs.Calls.{andThen, checkMemory, changeBy, setNumber, messageOf}
 use Rattle.graph.specs.declared.answer.Answer.{Answer}
 use Rattle.plate.specs.Plate.{dryOf}
 
--- ---- the checks behind 6
+-- ---- the checks
 
 abbrev pub isMul : NodeKind → Bool
 isMul Pass = false
@@ -45,8 +45,9 @@ checkFinite mix = cond (finiteF mix) passed (answer 12 41)
 abbrev pub checkMix : Parsed → Float → Answer
 checkMix p mix = andThen (checkMul p 41) (andThen (checkMul p 47) (andThen (checkMul p 43) (andThen (checkMul p 49) (checkFinite mix))))
 
+-- the checks of the mix message behind 6
 abbrev pub checkMixed : Parsed → List ℕ → Float → Answer
-checkMixed p m mix = andThen (checkLength p m) (andThen (checkMemory p m) (checkMix p mix))
+checkMixed p m mix = andThen (checkMemory p m) (checkMix p mix)
 
 -- ---- the call
 
@@ -54,13 +55,8 @@ checkMixed p m mix = andThen (checkLength p m) (andThen (checkMemory p m) (check
 abbrev pub setMix : Parsed → Float → List ℕ → List ℕ
 setMix p mix ws = setNumber p 49 (dryOf mix) (setNumber p 43 (dryOf mix) (setNumber p 47 mix (setNumber p 41 mix ws)))
 
-abbrev pub mixBy : Reading → List ℕ → Float → Answer × List ℕ
-mixBy (going at last p) m mix = (answer 1 at, m)
-mixBy (refused n w) m mix = (answer n w, m)
-mixBy (whole p) m mix = (checkMixed p m mix, cond (eqb (checkMixed p m mix .number) 0) (unwords (setMix p mix (words m))) m)
-
 unfoldable pub mixOf : List ℕ → List ℕ → Float → Answer × List ℕ
-mixOf board m mix = mixBy (readBoard board) m mix
+mixOf board m mix = changeBy m (λ p. checkMixed p m mix) (λ p. setMix p mix (words m)) (readBoard board)
 
 -- ---- what is shown of it: an accepted mix is its four number messages, one after the other
 

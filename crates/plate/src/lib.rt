@@ -4,7 +4,7 @@ ghost use mathlib.Core.Path.{_≡_};
 ghost use Rattle.leaves.specs.Lengths.{delayOf, allPassOf};
 ghost use Rattle.graph.specs.Judge.{judgeOf};
 ghost use Rattle.graph.specs.Tail.{tailAnswer};
-ghost use Rattle.context.specs.Calls.{asFound, freshOf, blockOf, messageOf};
+ghost use Rattle.context.specs.Calls.{asLeft, freshOf, blockOf, messageOf};
 ghost use Rattle.plate.specs.Plate.{writeOf};
 ghost use Rattle.plate.specs.Mix.{mixOf};
 ghost use Rattle.plate.specs.Lengths.{lengthAnswer};
@@ -56,7 +56,7 @@ pub extern "C" fn plate_block(
     out0: &mut [u8],
     out1: &mut [u8],
 ) -> Answer
-    ensures { λ r. ⌜ asFound r (now (memory .exit)) (now (out0 .exit)) (now (out1 .exit))
+    ensures { λ r. ⌜ asLeft r (now (memory .exit)) (now (out0 .exit)) (now (out1 .exit))
         ≡ blockOf (now (board .entry)) (now (memory .entry)) (now (input .entry)) (now (out0 .entry)) (now (out1 .entry)) ⌝ }
 {
     context::calls::block(board, memory, input, out0, out1)
@@ -74,8 +74,8 @@ pub extern "C" fn plate_message(board: &[u8], memory: &mut [u8], node: u32, valu
 }
 
 // The mix message.
-// Ruled out: mix and 1 - mix exchanged (mix_and_dry_exchanged), 43 judged before 47
-// (mix_judges_43_before_47).
+// Ruled out: 43 judged before 47 (mix_judges_43_before_47), 43 set before the checks end
+// (mix_43_set_before_checks_end).
 #[no_mangle]
 pub extern "C" fn plate_mix(board: &[u8], memory: &mut [u8], mix: f32) -> Answer
     ensures answered { λ r. ⌜ r ≡ (mixOf (now (board .entry)) (now (memory .entry)) mix) .0 ⌝ }
@@ -86,7 +86,7 @@ pub extern "C" fn plate_mix(board: &[u8], memory: &mut [u8], mix: f32) -> Answer
 
 // The plate writer.
 // Ruled out: the repeated wires left out (repeats_left_out), an all-pass one sample longer
-// (all_pass_one_longer).
+// (all_pass_one_longer), mix and 1 - mix exchanged (mix_and_dry_exchanged).
 #[no_mangle]
 pub extern "C" fn plate_write(n: u32, mix: f32, board: &mut [u8]) -> Answer
     ensures answered { λ r. ⌜ r ≡ (writeOf n mix (now (board .entry))) .0 ⌝ }

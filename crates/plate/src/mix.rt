@@ -5,7 +5,7 @@ ghost use lib.ListN.{length};
 ghost use Rattle.leaves.specs.Words.{words};
 ghost use Rattle.graph.specs.Read.{parsedOf, Sound};
 ghost use Rattle.context.specs.Fine.{Fine};
-ghost use Rattle.plate.specs.Mix.{isMul, checkMul, checkMix, checkMixed, setMix, mixOf};
+ghost use Rattle.plate.specs.Mix.{isMul, checkMul, checkMix, setMix, mixOf};
 use context::calls::memory_judged;
 use context::message::put_number;
 use graph::answer::Answer;
@@ -77,19 +77,6 @@ fn mix_judged(board: Board, mix: f32) -> Answer
     }
 }
 
-// Checks 7, 8, 11 and 12.
-fn mixed_judged(board: Board, memory: &[u8], mix: f32) -> Answer
-    requires { ⌜ Sound board ⌝ }
-    requires { ⌜ Fine (parsedOf board) ⌝ }
-    ensures { λ r. ⌜ r ≡ checkMixed (parsedOf board) (now (memory .entry)) mix ⌝ }
-{
-    let judged = memory_judged(board, memory);
-    if judged.number != 0 {
-        return judged;
-    }
-    mix_judged(board, mix)
-}
-
 // The two wet numbers, then the two dry ones.
 fn put_mix(board: Board, mix: f32, memory: &mut [u8])
     requires { ⌜ Sound board ⌝ }
@@ -115,10 +102,14 @@ pub fn set_mix(s: &[u8], memory: &mut [u8], mix: f32) -> Answer
     if refused.number != 0 {
         return refused;
     }
-    let judged = mixed_judged(board, memory, mix);
+    let judged = memory_judged(board, memory);
     if judged.number != 0 {
         return judged;
     }
+    let taken = mix_judged(board, mix);
+    if taken.number != 0 {
+        return taken;
+    }
     put_mix(board, mix, memory);
-    judged
+    Answer::new(0, 0)
 }

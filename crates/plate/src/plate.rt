@@ -5,10 +5,12 @@ ghost use mathlib.Core.List.{_++_};
 ghost use Prim.Native.Nat.{_+_, _≤_};
 ghost use lib.ListN.{length};
 ghost use lib.Seq.{sets};
-ghost use Rattle.leaves.specs.Bytes.{u16Bytes, u32Bytes};
+ghost use Rattle.leaves.specs.Bytes.{u16Bytes};
 ghost use Rattle.graph.specs.Write.{nodeBytes, nodesBytes, wiresBytes, writeBoard};
 ghost use Rattle.plate.specs.Plate.{node, plateNodes, plateWires, plateCard, writeOf};
 use graph::answer::Answer;
+use leaves::bytes::put_u16;
+use leaves::bytes::put_u32;
 use leaves::float::finite;
 use leaves::float::to_bits;
 
@@ -321,26 +323,6 @@ const TARGETS: [u16; 68] = [
 
 // How long the plate's bytes are.
 const LENGTH: usize = 1270;
-
-// The number v in the two bytes at `at`, the lowest first.
-fn put_u16(board: &mut [u8], at: usize, v: u16)
-    requires { ⌜ at + 2 ≤ length (now board) ⌝ }
-    ensures { λ _. ⌜ now (board .exit) ≡ sets (now (board .entry)) at (u16Bytes v) ⌝ }
-{
-    board[at] = (v % 256) as u8;
-    board[at + 1] = (v / 256 % 256) as u8;
-}
-
-// The number v in the four bytes at `at`.
-fn put_u32(board: &mut [u8], at: usize, v: u32)
-    requires { ⌜ at + 4 ≤ length (now board) ⌝ }
-    ensures { λ _. ⌜ now (board .exit) ≡ sets (now (board .entry)) at (u32Bytes v) ⌝ }
-{
-    board[at] = (v % 256) as u8;
-    board[at + 1] = (v / 256 % 256) as u8;
-    board[at + 2] = (v / 65536 % 256) as u8;
-    board[at + 3] = (v / 16777216 % 256) as u8;
-}
 
 // A record of four 2-byte numbers: the head, or a wire.
 fn put_four(board: &mut [u8], at: usize, kind: u16, a: u16, b: u16)

@@ -1,3 +1,5 @@
+-- The theorems: a block run in any order that fits is what the reading by samples says (Main, Flat, Memory); the visiting list (Visit),
+-- rings against histories (Ring), the tail (Tail).
 pub mod Table
 pub mod Order
 pub mod Moment
@@ -10,9 +12,7 @@ pub mod Time
 pub mod Encode
 pub mod Ring
 pub mod Nodes
-pub mod Theorem
 pub mod Visit
-pub mod Places
 pub mod Flat
 pub mod Tail
 pub mod Memory

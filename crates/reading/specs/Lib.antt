@@ -1,3 +1,4 @@
+-- Block run and reading by samples, over any nodes' rules: what the theorems of the crate speak of.
 pub mod Table
 pub mod Order
 pub mod Visit
@@ -9,7 +10,6 @@ pub mod Keeps
 pub mod Time
 pub mod Encode
 pub mod Ring
-pub mod Places
 pub mod Flat
 pub mod Tail
 pub mod Memory

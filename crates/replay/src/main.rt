@@ -112,7 +112,8 @@ fn list() -> [u8; 1048576]
     [0; 1048576]
 }
 
-// Room for any board's memory.
+// Room for the memory of each board that is replayed: the plate's at N 128 is the longest, 236,392 +
+// 212 x 128 bytes. (The longest of any board is 1,114,880.)
 fn lent() -> [u8; 263528]
     ensures { λ r. ⌜ 263528 ≡ length r ⌝ }
 {

@@ -3,12 +3,6 @@ use borrow.Author.Needs.{needs}
 use Rattle.plate.proofs.length_answer.Statement.{statement}
 use Rattle.plate.proofs.length_answer.Tie as tie
 
-enum-known-length : tie.Need-enum-known-length
-enum-known-length c = search needs
-
-enum-told : tie.Need-enum-told
-enum-told c = search needs
-
 returns : tie.Need-returns
 returns c = simp (c .before .length .given .1)
 
@@ -16,4 +10,4 @@ returns-2 : tie.Need-returns-2
 returns-2 c = simp (c .enum-told .given .1)
 
 pub length-answer-spec : {M : Type 1} → statement M
-length-answer-spec = tie.close (tie.spec enum-known-length enum-told returns returns-2)
+length-answer-spec = tie.close (tie.spec (λ c. search needs) (λ c. search needs) returns returns-2)

@@ -5,14 +5,8 @@ use borrow.Author.Needs.{needs}
 use Rattle.plate.proofs.plate_delay_length.Statement.{statement}
 use Rattle.plate.proofs.plate_delay_length.Tie as tie
 
-delay-length-requires : tie.Need-delay-length-requires
-delay-length-requires c κs = search needs
-
-length-answer-requires : tie.Need-length-answer-requires
-length-answer-requires c κs = search needs
-
 returns : tie.Need-returns
 returns c = c .length-answer .ensures ∙ ap lengthAnswer (c .before .delay-length .ensures)
 
 pub plate-delay-length-spec : {M : Type 1} → statement M
-plate-delay-length-spec = tie.close (tie.spec delay-length-requires length-answer-requires returns)
+plate-delay-length-spec = tie.close (tie.spec (λ c κs. search needs) (λ c κs. search needs) returns)

@@ -7,26 +7,37 @@ use lib.ListN.{length}
 use borrow.Author.Needs.{needs}
 use Rattle.leaves.specs.Words.{words}
 use Rattle.context.specs.Memory.{runNodes, runBlock}
-use Rattle.context.specs.Calls.{asFound, listed}
+use Rattle.context.specs.Calls.{Outcome, asLeft, checkBlock, ranBlock, blockIn, listed}
+use Rattle.graph.specs.Board.{Parsed}
 use Rattle.graph.specs.Read.{parsedOf}
 use Rattle.context.specs.Fine.{Fine}
 use Rattle.graph.specs.declared.answer.Answer.{Answer}
-use Rattle.graph.proofs.Accepted.{accepted-board}
-use Rattle.context.proofs.FineBoard.{fine-board}
+use Rattle.context.proofs.FineBoard.{accepted-fine}
+use Rattle.context.proofs.CallBy.{call-refused, call-lacking}
 use Rattle.context.proofs.CallCells.{count-nodes}
 use Rattle.context.proofs.CallAccepted.{AcceptedRun, checked, board-table, board-gathered, few-bytes, input-room, output-room, input-put, input-runs}
-use Rattle.context.proofs.CallBlock.{block-refused, block-lacking, block-ran}
+use Rattle.context.proofs.CallBlock.{block-ran}
 use Rattle.context.proofs.calls.block.Statement.{statement}
 use Rattle.context.proofs.calls.block.Tie as tie
 
-read-board-requires : tie.Need-read-board-requires
-read-board-requires c κs = search needs
+-- ---- refusals
+
+module _ (start : tie.Start) where
+  abbrev found : Answer → Outcome
+  found a = asLeft a (start .args .memory .now) (start .args .out0 .now) (start .args .out1 .now)
+
+  abbrev check : Parsed → Answer
+  check p = checkBlock p (start .args .memory .now) (start .args .input .now) (start .args .out0 .now) (start .args .out1 .now)
+
+  abbrev done : Parsed → Outcome
+  done p = ranBlock p (listed p) (start .args .input .now) (start .args .memory .now)
 
 returns : tie.Need-returns
+unfolding blockIn
 returns c =
-    let args = c .before .before .before .before .before .before .before .before .before .args in
+    let start = c .before .before .before .before .before .before .before .before .before in
     let board = c .before .before .before .read-board in
-    block-refused (args .s .now) (args .memory .now) (args .input .now) (args .out0 .now) (args .out1 .now) (board .result) (board .ensures) (c .if1 .taken)
+    sym (call-refused (start .args .s .now) (board .result) (board .ensures) (found start) (check start) (done start) (c .if1 .taken))
 
 -- ---- an accepted board
 
@@ -39,23 +50,19 @@ module _ (c : tie.Else1) where
 
   fine : Fine (parsedOf (reading .read-board .result))
   fine =
-      fine-board (start .args .s .now) (λ i. omega (arith, c .before .before .before .before .before .before .before .before .shared-slice-known .given i)) (parsedOf (reading .read-board .result))
-      (accepted-board (start .args .s .now) (reading .read-board .result) (reading .read-board .ensures) (c .if1 .left))
+      accepted-fine (start .args .s .now) (λ i. omega (arith, c .before .before .before .before .before .before .before .before .shared-slice-known .given i)) (reading .read-board .result) (reading .read-board .ensures) (c .if1 .left)
 
 block-judged-requires : tie.Need-block-judged-requires
 block-judged-requires c κs = (c .before .before .before .before .read-board .ensures .sound, fine (c .before))
 
-same-length : tie.Need-same-length
-same-length c = search needs
-
 returns-2 : tie.Need-returns-2
+unfolding blockIn
 returns-2 c =
     let e = c .before .before .before .before in
-    let args = (start e) .args in
     let board = (reading e) .read-board in
     let judged = c .before .before .block-judged in
-    block-lacking (args .s .now) (args .memory .now) (args .input .now) (args .out0 .now) (args .out1 .now) (board .result) (board .ensures) (e .if1 .left) (judged .result)
-    (judged .ensures) (c .if2 .taken)
+    sym (call-lacking (start e .args .s .now) (board .result) (board .ensures) (found (start e)) (check (start e)) (done (start e)) (e .if1 .left) (judged .result)
+    (judged .ensures) (c .if2 .taken))
 
 -- ---- an accepted call
 
@@ -96,9 +103,6 @@ module _ (c : tie.After-run) where
       let copied = before-run c .copy in
       c .run .ensures ∙ ap (runNodes p (listed p)) (input-put (accepted chosen) (copied .last .1 .1 .0) (copied .ensures))
 
-mul-node : tie.Need-mul-node
-mul-node c = search needs
-
 element-copy-out-node : tie.Need-element-copy-out-node
 element-copy-out-node c =
     let run = accepted c in
@@ -109,9 +113,6 @@ add-copy c = let run = accepted (c .before .before .before) in omega (arith, inp
 
 mul-copy : tie.Need-mul-copy
 mul-copy c = let run = accepted (c .before .before .before) in omega (arith, input-room run, few-bytes run)
-
-mul-copy-2 : tie.Need-mul-copy-2
-mul-copy-2 c = search needs
 
 copy-requires : tie.Need-copy-requires
 copy-requires c κs = let run = accepted (c .before .before .before) in (omega (arith, checked run .input-long), input-room run)
@@ -152,25 +153,13 @@ copy-requires-3 c κs =
     let run = accepted (chosen after) in
     (omega (arith, output-room run, kept after), omega (arith, checked run .right-long))
 
-new-requires : tie.Need-new-requires
-new-requires c κs = search needs
-
-same-length-2 : tie.Need-same-length-2
-same-length-2 c = search needs
-
-same-length-3 : tie.Need-same-length-3
-same-length-3 c = search needs
-
-same-length-4 : tie.Need-same-length-4
-same-length-4 c = search needs
-
 returns-3 : tie.Need-returns-3
 returns-3 c =
     let after = c .before .before .before .before .before .before .before .before .before .before .before .before .before in
     let memory = after .run .last .1 .1 .0 in
     let left = c .before .before .before .before .before .before .before .before .copy2 in
     let right = c .before .before .before .copy3 in
-    ap (λ (a : Answer). asFound a memory (left .last .1 .1 .0) (right .last .1 .1 .0)) (c .new .ensures)
+    ap (λ (a : Answer). asLeft a memory (left .last .1 .1 .0) (right .last .1 .1 .0)) (c .new .ensures)
     ∙ block-ran (accepted (chosen after)) memory (λ i. omega (arith, c .before .before .before .before .before .before .before .before .before .before .before .slice-known5 .given i)) (kept after) (ran after)
     (left .last .1 .1 .0) (right .last .1 .1 .0)
     (λ i. omega (arith, c .before .before .before .before .before .before .slice-known6 .given i))
@@ -180,28 +169,6 @@ returns-3 c =
 pub block-spec : {M : Type 1} → statement M
 block-spec =
     tie.close
-    (tie.spec
-    read-board-requires
-    returns
-    block-judged-requires
-    same-length
-    returns-2
-    mul-node
-    element-copy-out-node
-    add-copy
-    mul-copy
-    mul-copy-2
-    copy-requires
-    visiting-list-requires
-    run-requires
-    mul-copy-3
-    copy-requires-2
-    mul-copy-4
-    add-copy-2
-    mul-copy-5
-    copy-requires-3
-    new-requires
-    same-length-2
-    same-length-3
-    same-length-4
-    returns-3)
+    (tie.spec (λ c κs. search needs) returns block-judged-requires (λ c. search needs) returns-2 (λ c. search needs) element-copy-out-node
+    add-copy mul-copy (λ c. search needs) copy-requires visiting-list-requires run-requires mul-copy-3 copy-requires-2 mul-copy-4 add-copy-2
+    mul-copy-5 copy-requires-3 (λ c κs. search needs) (λ c. search needs) (λ c. search needs) (λ c. search needs) returns-3)

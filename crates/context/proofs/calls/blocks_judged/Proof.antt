@@ -11,20 +11,8 @@ use borrow.Author.Needs.{needs}
 use Rattle.context.proofs.calls.blocks_judged.Statement.{statement}
 use Rattle.context.proofs.calls.blocks_judged.Tie as tie
 
-mul-if1 : tie.Need-mul-if1
-mul-if1 c = search needs
-
-mul-if1-2 : tie.Need-mul-if1-2
-mul-if1-2 c = search needs
-
-mul-if1-3 : tie.Need-mul-if1-3
-mul-if1-3 c = search needs
-
 samples-judged-requires : tie.Need-samples-judged-requires
 samples-judged-requires c κs = (c .before .before .pre, sizes-long (c .before .before .args .size) _ _ _ (c .if1 .taken) .0)
-
-new-requires : tie.Need-new-requires
-new-requires c κs = search needs
 
 returns : tie.Need-returns
 returns c =
@@ -44,4 +32,4 @@ returns-2 c =
 pub blocks-judged-spec : {M : Type 1} → statement M
 blocks-judged-spec =
     tie.close
-    (tie.spec mul-if1 mul-if1-2 mul-if1-3 samples-judged-requires new-requires returns returns-2)
+    (tie.spec (λ c. search needs) (λ c. search needs) (λ c. search needs) samples-judged-requires (λ c κs. search needs) returns returns-2)

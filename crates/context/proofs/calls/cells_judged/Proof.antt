@@ -18,20 +18,8 @@ abbrev μ-loop : tie.MeasureT-loop
 loop-holds : tie.Need-loop-holds Inv-loop μ-loop
 loop-holds c = (omega arith, refl)
 
-mul-node : tie.Need-mul-node Inv-loop μ-loop
-mul-node c = omega arith
-
-array-copy-out-node : tie.Need-array-copy-out-node Inv-loop μ-loop
-array-copy-out-node c = omega arith
-
 cell-fits-requires : tie.Need-cell-fits-requires Inv-loop μ-loop
 cell-fits-requires c κs = c .before .before .before .before .pre .2 (c .before .before .loop .i) (c .before .loop-test .taken)
-
-add-i : tie.Need-add-i Inv-loop μ-loop
-add-i c = omega arith
-
-loop-less : tie.Need-loop-less Inv-loop μ-loop
-loop-less c = omega arith
 
 loop-again : tie.Need-loop-again Inv-loop μ-loop
 loop-again c =
@@ -39,17 +27,11 @@ loop-again c =
     let at = c .before .before .before .before in
     (omega arith, cells-next (words (start .args .memory .now)) (start .args .t1) (start .args .count) (omega arith) (at .loop .i) (omega arith) (sym (c .before .cell-fits .ensures) ∙ c .if1 .taken) ∙ at .loop .inv .1)
 
-new-requires : tie.Need-new-requires Inv-loop μ-loop
-new-requires c κs = omega arith
-
 returns : tie.Need-returns Inv-loop μ-loop
 returns c =
     let start = c .before .before .before .before .before .before .before in
     let at = c .before .before .before .before .before in
     c .new .ensures ∙ sym (cells-wrong (words (start .args .memory .now)) (start .args .t1) (start .args .count) (omega arith) (at .loop .i) (omega arith) (sym (c .before .before .cell-fits .ensures) ∙ c .before .if1 .left)) ∙ at .loop .inv .1
-
-new-requires-2 : tie.Need-new-requires-2 Inv-loop μ-loop
-new-requires-2 c κs = omega arith
 
 returns-2 : tie.Need-returns-2 Inv-loop μ-loop
 returns-2 c =
@@ -60,17 +42,5 @@ returns-2 c =
 pub cells-judged-spec : {M : Type 1} → statement M
 cells-judged-spec =
     tie.close
-    (tie.spec
-    Inv-loop
-    μ-loop
-    loop-holds
-    mul-node
-    array-copy-out-node
-    cell-fits-requires
-    add-i
-    loop-less
-    loop-again
-    new-requires
-    returns
-    new-requires-2
-    returns-2)
+    (tie.spec Inv-loop μ-loop loop-holds (λ c. omega arith) (λ c. omega arith) cell-fits-requires (λ c. omega arith) (λ c. omega arith)
+    loop-again (λ c κs. omega arith) returns (λ c κs. omega arith) returns-2)

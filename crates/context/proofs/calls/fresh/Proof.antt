@@ -1,42 +1,49 @@
 -- `context::calls::fresh` meets its contract. The checks decide; then the numbers in zeros are the fresh values. Assumes nothing.
-use Prim.Native.Nat.{ℕ, _*_, _<_}
+use Prim.Native.Nat.{ℕ, _*_}
 use mathlib.Core.Path.{_≡_, sym, ap, _∙_}
 use native.Mathlib.Omega.{arith}
-use mathlib.Core.List.{List}
-use lib.ListN.{length, getD, take}
-use Rattle.leaves.specs.Words.{words}
-use Rattle.context.specs.Parts.{putNumbers}
+use lib.ListN.{length, replicate}
 use borrow.Author.Needs.{needs}
+use Rattle.leaves.specs.Words.{words}
+use Rattle.graph.specs.Board.{Parsed, cellsOf}
+use Rattle.graph.specs.Read.{parsedOf, Sound}
+use Rattle.context.specs.Fine.{Fine}
 use Rattle.graph.specs.declared.answer.Answer.{Answer}
-use Rattle.graph.proofs.Accepted.{accepted-board}
-use Rattle.context.proofs.FineBoard.{fine-board}
+use Rattle.graph.specs.declared.board.Board.{Board}
+use Rattle.context.proofs.FineBoard.{accepted-fine}
+use Rattle.context.specs.Memory.{freshValues}
+use Rattle.context.specs.Calls.{checkNeeded, checkLength, freshOf}
+use Rattle.context.specs.Parts.{putNumbers}
 use Rattle.context.proofs.CallCells.{cells-in}
 use Rattle.context.proofs.CallChecks.{needed-long}
-use Rattle.context.proofs.CallFresh.{fresh-refused, fresh-lacking, fresh-written}
+use Rattle.context.proofs.CallFresh.{numbers-fresh, words-zeros}
+use Rattle.context.proofs.CallBy.{change-refused, change-lacking, change-done}
 use Rattle.context.proofs.calls.fresh.Statement.{statement}
 use Rattle.context.proofs.calls.fresh.Tie as tie
 
-read-board-requires : tie.Need-read-board-requires
-read-board-requires c κs = search needs
+-- the call's checks and what it writes
+abbrev check : tie.Start → Parsed → Answer
+check start p = checkLength p (start .args .memory .now)
 
 returns : tie.Need-returns
+unfolding freshOf
 returns c =
-    let args = c .before .before .before .before .before .before .args in
+    let start = c .before .before .before .before .before .before in
     let board = c .before .before .before .read-board in
-    fresh-refused (args .s .now) (args .memory .now) (board .result) (board .ensures) (c .if1 .taken)
+    change-refused (start .args .s .now) (board .result) (board .ensures) (start .args .memory .now) (check start) freshValues (c .if1 .taken)
 
-length-judged-requires : tie.Need-length-judged-requires
-length-judged-requires c κs = search needs
+-- the code counts the board's values
+length-is : (start : tie.Start) (b : Board) → Sound b → (a : Answer) → a ≡ checkNeeded (4 * b .values) (length (start .args .memory .now)) → a ≡ check start (parsedOf b)
+length-is start b sound a e = e ∙ ap (λ (v : ℕ). checkNeeded (4 * v) (length (start .args .memory .now))) (sound .values-sum)
 
 returns-2 : tie.Need-returns-2
+unfolding freshOf
 returns-2 c =
-    let args = c .before .before .before .before .before .before .before .before .before .args in
+    let start = c .before .before .before .before .before .before .before .before .before in
     let board = c .before .before .before .before .before .before .read-board in
     let judged = c .before .before .length-judged in
-    fresh-lacking (args .s .now) (args .memory .now) (board .result) (board .ensures) (c .before .before .before .if1 .left) (judged .result) (judged .ensures) (c .if2 .taken)
-
-clear-requires : tie.Need-clear-requires
-clear-requires c κs = search needs
+    change-lacking (start .args .s .now) (board .result) (board .ensures) (start .args .memory .now) (check start) freshValues (c .before .before .before .if1 .left)
+    (judged .result) (length-is start (board .result) (board .ensures .sound) (judged .result) (judged .ensures)) (c .if2 .taken)
 
 -- what is known once the memory is cleared
 module _ (c : tie.After-clear) where
@@ -55,46 +62,36 @@ module _ (c : tie.After-clear) where
   long : length (start .args .memory .now) ≡ 4 * reading .read-board .result .values
   long = needed-long _ _ (ap (λ (a : Answer). a .number) (sym (judging .length-judged .ensures)) ∙ c .before .before .if2 .left)
 
-  board-bytes : (i : ℕ) → getD (start .args .s .now) i 0 < 256
-  board-bytes i = omega (arith, reading .before .before .shared-slice-known .given i)
+  fine : Fine (parsedOf (reading .read-board .result))
+  fine = accepted-fine (start .args .s .now) (λ i. omega (arith, reading .before .before .shared-slice-known .given i)) (reading .read-board .result) (reading .read-board .ensures) accepted
 
 put-numbers-requires : tie.Need-put-numbers-requires
 put-numbers-requires c κs =
     let cleared = c .before .before .before .before in
     let board = (reading cleared) .read-board in
     let sound = board .ensures .sound in
-    let s = (start cleared) .args .s .now in
-    let fine = fine-board s (board-bytes cleared) _ (accepted-board s (board .result) (board .ensures) (accepted cleared)) in
-    (sound .nodes-long, sound .few-nodes, cells-in (board .result) sound fine (cleared .clear .last .0) (cleared .clear .kept .0 ∙ long cleared))
-
-new-requires : tie.Need-new-requires
-new-requires c κs = search needs
-
-same-length : tie.Need-same-length
-same-length c = search needs
+    (sound .nodes-long, sound .few-nodes, cells-in (board .result) sound (fine cleared) (cleared .clear .last .0) (cleared .clear .kept .0 ∙ long cleared))
 
 returns-3 : tie.Need-returns-3
+unfolding freshOf
 returns-3 c =
     let cleared = c .before .before .before .before .before .before .before .before in
-    let args = (start cleared) .args in
+    let m = start cleared .args .memory .now in
     let board = (reading cleared) .read-board in
+    let judged = judging cleared .length-judged in
+    let p = parsedOf (board .result) in
     let stored = c .before .before .before .put-numbers in
-    let numbers =
-    stored .ensures ∙ ap (λ (m : List ℕ). putNumbers (take (board .result .count) (board .result .nodes)) (words m)) (cleared .clear .ensures) in
-    fresh-written (args .s .now) (args .memory .now) (board .result) (board .ensures) (accepted cleared) (board-bytes cleared) (long cleared)
-    (stored .last .1 .1 .0) (stored .kept .1 .1 .0 ∙ cleared .clear .kept .0) (λ i. omega (arith, c .before .slice-known3 .given i)) numbers
+    let size : length m ≡ 4 * cellsOf (p .size) (p .nodes) = long cleared ∙ ap (λ (v : ℕ). 4 * v) (board .ensures .sound .values-sum) in
+    let zeros : words (cleared .clear .last .0) ≡ replicate (cellsOf (p .size) (p .nodes)) 0 =
+    ap words (cleared .clear .ensures) ∙ ap (λ (k : ℕ). words (replicate k 0)) size ∙ words-zeros (cellsOf (p .size) (p .nodes)) in
+    change-done (start cleared .args .s .now) (board .result) (board .ensures) m (check (start cleared)) freshValues (accepted cleared)
+    (judged .result) (length-is (start cleared) (board .result) (board .ensures .sound) (judged .result) (judged .ensures)) (cleared .before .before .if2 .left)
+    (stored .last .1 .1 .0) (stored .kept .1 .1 .0 ∙ cleared .clear .kept .0 ∙ long cleared) (λ i. omega (arith, c .before .slice-known3 .given i))
+    (stored .ensures ∙ ap (putNumbers (p .nodes)) zeros ∙ numbers-fresh p (fine cleared))
     (c .new .result) (c .new .ensures)
 
 pub fresh-spec : {M : Type 1} → statement M
 fresh-spec =
     tie.close
-    (tie.spec
-    read-board-requires
-    returns
-    length-judged-requires
-    returns-2
-    clear-requires
-    put-numbers-requires
-    new-requires
-    same-length
-    returns-3)
+    (tie.spec (λ c κs. search needs) returns (λ c κs. search needs) returns-2 (λ c κs. search needs) put-numbers-requires
+    (λ c κs. search needs) (λ c. search needs) returns-3)

@@ -6,18 +6,6 @@ use borrow.Author.Needs.{needs}
 use Rattle.context.proofs.calls.length_judged.Statement.{statement}
 use Rattle.context.proofs.calls.length_judged.Tie as tie
 
-mul-if1 : tie.Need-mul-if1
-mul-if1 c = search needs
-
-new-requires : tie.Need-new-requires
-new-requires c κs = search needs
-
-mul-new : tie.Need-mul-new
-mul-new c = search needs
-
-new-requires-2 : tie.Need-new-requires-2
-new-requires-2 c κs = search needs
-
 returns : tie.Need-returns
 returns c = c .new .ensures ∙ rw (eq-eqb (c .before .before .args .lent) (4 * c .before .before .args .values) (c .before .if1 .taken))
 
@@ -26,4 +14,4 @@ returns-2 c = c .new2 .ensures ∙ rw (ne-eqb (c .before .before .args .lent) (4
 
 pub length-judged-spec : {M : Type 1} → statement M
 length-judged-spec =
-    tie.close (tie.spec mul-if1 new-requires mul-new new-requires-2 returns returns-2)
+    tie.close (tie.spec (λ c. search needs) (λ c κs. search needs) (λ c. search needs) (λ c κs. search needs) returns returns-2)

@@ -2,7 +2,7 @@
 use Prim.Native.Nat.{ℕ, _*_}
 use mathlib.Core.Path.{_≡_, sym, ap, _∙_}
 use lib.ListN.{length}
-use Rattle.context.specs.Calls.{checkNeeded, checkLength, checkMemory}
+use Rattle.context.specs.Calls.{checkNeeded, checkLength, checkValues}
 use Rattle.graph.specs.Read.{parsedOf}
 use Rattle.graph.specs.declared.answer.Answer.{Answer}
 use Rattle.context.proofs.CallCells.{cells-in}
@@ -16,14 +16,11 @@ abbrev length-of : tie.Start → Answer
 length-of c = checkLength (parsedOf (c .args .board)) (c .args .memory .now)
 
 abbrev cells-of : tie.Start → Answer
-cells-of c = checkMemory (parsedOf (c .args .board)) (c .args .memory .now)
+cells-of c = checkValues (parsedOf (c .args .board)) (c .args .memory .now)
 
 length-answer : (c : tie.Start) (a : Answer) → a ≡ checkNeeded (4 * c .args .board .values) (length (c .args .memory .now))
     → a ≡ length-of c
 length-answer c a e = e ∙ ap (λ (v : ℕ). checkNeeded (4 * v) (length (c .args .memory .now))) (c .pre .0 .values-sum)
-
-length-judged-requires : tie.Need-length-judged-requires
-length-judged-requires c κs = search needs
 
 returns : tie.Need-returns
 returns c =
@@ -46,4 +43,4 @@ returns-2 c =
 
 pub memory-judged-spec : {M : Type 1} → statement M
 memory-judged-spec =
-    tie.close (tie.spec length-judged-requires returns cells-judged-requires returns-2)
+    tie.close (tie.spec (λ c κs. search needs) returns cells-judged-requires returns-2)

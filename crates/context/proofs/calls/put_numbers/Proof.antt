@@ -3,10 +3,11 @@ use Prim.Native.Nat.{_+_, _≤_, _-_}
 use mathlib.Core.Path.{_≡_, refl, sym, ap, _∙_}
 use native.Mathlib.Omega.{arith}
 use lib.ListN.{length, take, drop}
+use Rattle.context.specs.Memory.{nodeIn}
 use Rattle.leaves.specs.Words.{words}
 use Rattle.leaves.specs.Floats.{setFloat}
 use Rattle.nodes.specs.Cell.{numberOf}
-use Rattle.context.specs.Parts.{nodeIn, putNumbers}
+use Rattle.context.specs.Parts.{putNumbers}
 use Rattle.context.proofs.CallFresh.{numbers-next, numbers-end}
 use Rattle.context.proofs.calls.put_numbers.Statement.{statement}
 use Rattle.context.proofs.calls.put_numbers.Tie as tie
@@ -20,26 +21,11 @@ abbrev μ-loop : tie.MeasureT-loop
 loop-holds : tie.Need-loop-holds Inv-loop μ-loop
 loop-holds c = (omega arith, refl, refl)
 
-mul-node : tie.Need-mul-node Inv-loop μ-loop
-mul-node c = omega arith
-
-array-copy-out-node : tie.Need-array-copy-out-node Inv-loop μ-loop
-array-copy-out-node c = omega arith
-
-number-of-requires : tie.Need-number-of-requires Inv-loop μ-loop
-number-of-requires c κs = tt
-
 store-requires : tie.Need-store-requires Inv-loop μ-loop
 store-requires c κs =
     let start = c .before .before .before .before .before .before in
     let at = c .before .before .before .before .loop in
     omega (arith, start .pre .2 (at .i) (c .before .before .before .loop-test .taken))
-
-add-i : tie.Need-add-i Inv-loop μ-loop
-add-i c = omega arith
-
-loop-less : tie.Need-loop-less Inv-loop μ-loop
-loop-less c = omega arith
 
 loop-again : tie.Need-loop-again Inv-loop μ-loop
 loop-again c =
@@ -67,16 +53,5 @@ returns c =
 pub put-numbers-spec : {M : Type 1} → statement M
 put-numbers-spec =
     tie.close
-    (tie.spec
-    Inv-loop
-    μ-loop
-    loop-holds
-    mul-node
-    array-copy-out-node
-    number-of-requires
-    store-requires
-    add-i
-    loop-less
-    loop-again
-    same-length
-    returns)
+    (tie.spec Inv-loop μ-loop loop-holds (λ c. omega arith) (λ c. omega arith) (λ c κs. tt) store-requires (λ c. omega arith)
+    (λ c. omega arith) loop-again same-length returns)

@@ -8,10 +8,10 @@ use lib.ListN.{length, getD, take, drop}
 use Rattle.leaves.specs.Words.{words}
 use Rattle.nodes.specs.Node.{broughtAt, nodeRun, Ready}
 use Rattle.graph.specs.Board.{memoryLength}
-use Rattle.context.specs.Memory.{runNode}
+use Rattle.context.specs.Memory.{nodeIn, runNode}
 use Rattle.graph.specs.Read.{parsedOf}
-use Rattle.context.specs.Parts.{nodeIn}
 use Rattle.graph.specs.declared.board.Board.{Board}
+use Rattle.context.proofs.CallStarts.{starts-left}
 use Rattle.context.proofs.CallRun.{starts-fit, turn-run, turn-ready, Running, running-none, running-end, running-more, node-listed}
 use Rattle.context.proofs.calls.run.Statement.{statement}
 use Rattle.context.proofs.calls.run.Tie as tie
@@ -23,13 +23,13 @@ Inv-loop board order memory₀ nodes counts lists seconds listed lefts rights x�
 abbrev μ-loop : tie.MeasureT-loop
 μ-loop board order memory₀ nodes counts lists seconds listed lefts rights x₀ m₀ i₀ memory x m i = order .count - i
 
-left-starts-requires : tie.Need-left-starts-requires Inv-loop μ-loop
-left-starts-requires c κs =
+starts-requires : tie.Need-starts-requires Inv-loop μ-loop
+starts-requires c κs =
     let start = c .before .before .before .before .before .before in
-    (start .pre .sound .nodes-long, start .pre .sound .few-nodes, starts-fit (start .args .board) (start .pre .sound) (start .pre .fine))
+    (start .pre .sound .nodes-long, start .pre .sound .few-nodes, omega arith, starts-fit (start .args .board) (start .pre .sound) (start .pre .fine))
 
-right-starts-requires : tie.Need-right-starts-requires Inv-loop μ-loop
-right-starts-requires c κs =
+starts-requires-2 : tie.Need-starts-requires-2 Inv-loop μ-loop
+starts-requires-2 c κs =
     let start = c .before .before .before .before .before .before .before in
     (start .pre .sound .nodes-long, start .pre .sound .few-nodes, start .pre .sound .small-size, starts-fit (start .args .board) (start .pre .sound) (start .pre .fine))
 
@@ -40,9 +40,6 @@ loop-holds c =
 
 array-read-wide : tie.Need-array-read-wide Inv-loop μ-loop
 array-read-wide c = omega (arith, c .before .before .before .before .before .before .before .before .before .before .before .pre .lists .fits)
-
-wide-requires : tie.Need-wide-requires Inv-loop μ-loop
-wide-requires c κs = tt
 
 -- a turn's node is the board's, and has few sources
 node-here : (c : tie.After-wide Inv-loop μ-loop) → c .wide .result < c .before .before .before .before .before .before .before .before .before .before .before .before .args .board .count
@@ -65,29 +62,17 @@ mul-from c = omega (arith, node-small c)
 array-read-wide-2 : tie.Need-array-read-wide-2 Inv-loop μ-loop
 array-read-wide-2 c = omega (arith, node-small c)
 
-wide-requires-2 : tie.Need-wide-requires-2 Inv-loop μ-loop
-wide-requires-2 c κs = tt
-
 add-to : tie.Need-add-to Inv-loop μ-loop
 add-to c = omega (arith, node-small (c .before), count-small c)
 
 array-read-wide-3 : tie.Need-array-read-wide-3 Inv-loop μ-loop
 array-read-wide-3 c = omega (arith, node-small (c .before))
 
-wide-requires-3 : tie.Need-wide-requires-3 Inv-loop μ-loop
-wide-requires-3 c κs = tt
-
 mul-node : tie.Need-mul-node Inv-loop μ-loop
 mul-node c = omega (arith, node-small (c .before .before))
 
 array-copy-out-node : tie.Need-array-copy-out-node Inv-loop μ-loop
 array-copy-out-node c = omega (arith, node-small (c .before .before))
-
-sub-step : tie.Need-sub-step Inv-loop μ-loop
-sub-step c = omega arith
-
-part-step-start : tie.Need-part-step-start Inv-loop μ-loop
-part-step-start c = omega arith
 
 part-step-end : tie.Need-part-step-end Inv-loop μ-loop
 part-step-end c = omega (arith, node-small (c .before .before .before .before .before), count-small (c .before .before .before .before))
@@ -116,22 +101,22 @@ module _ (c : tie.After-wide3 Inv-loop μ-loop) where
   long = at .loop .inv .0 .kept ∙ start .pre .long
 
   ready : Ready (at .loop .memory) (nodeIn (board .nodes) k .kind) (board .size) (nodeIn (board .nodes) k .cell)
-      (take (8 * k + n - 8 * k) (drop (8 * k) (board .lists))) (at .before .before .left-starts .result) (at .before .right-starts .result) (c .wide3 .result)
+      (take (8 * k + n - 8 * k) (drop (8 * k) (board .lists))) (at .before .before .starts .result) (at .before .starts2 .result) (c .wide3 .result)
   ready =
       turn-ready board (start .pre .sound) (start .pre .fine) (start .pre .table) k (node-here (c .before .before)) (8 * k + n - 8 * k) sized
-      (at .before .before .left-starts .result) (at .before .right-starts .result) (at .before .before .left-starts .ensures (board .size)) (at .before .right-starts .ensures)
+      (at .before .before .starts .result) (at .before .starts2 .result) (starts-left (at .before .before .starts .ensures)) (at .before .starts2 .ensures)
       (c .wide3 .result) (c .wide3 .ensures) (at .loop .memory) long (at .loop .inv .0 .judged)
 
   -- the node's block is the definition's
   ran : (m : List ℕ)
       → words m ≡ nodeRun (nodeIn (board .nodes) k .kind) (board .size) (nodeIn (board .nodes) k .cell)
-      (broughtAt (words (at .loop .memory)) (at .before .before .left-starts .result) (at .before .right-starts .result) (take (8 * k + n - 8 * k) (drop (8 * k) (board .lists))) (c .wide3 .result))
+      (broughtAt (words (at .loop .memory)) (at .before .before .starts .result) (at .before .starts2 .result) (take (8 * k + n - 8 * k) (drop (8 * k) (board .lists))) (c .wide3 .result))
       (words (at .loop .memory))
       → words m ≡ runNode (parsedOf board) (getD (start .args .order .nodes) (at .loop .i) 0) (words (at .loop .memory))
   ran m e =
       e
       ∙ turn-run board (start .pre .sound) (start .pre .fine) (start .pre .table) k (node-here (c .before .before)) (8 * k + n - 8 * k) sized
-      (at .before .before .left-starts .result) (at .before .right-starts .result) (at .before .before .left-starts .ensures (board .size)) (at .before .right-starts .ensures)
+      (at .before .before .starts .result) (at .before .starts2 .result) (starts-left (at .before .before .starts .ensures)) (at .before .starts2 .ensures)
       (c .wide3 .result) (c .wide3 .ensures) (at .loop .memory)
       ∙ ap (λ (j : ℕ). runNode (parsedOf board) j (words (at .loop .memory))) (c .before .before .wide .ensures)
 
@@ -142,9 +127,6 @@ step-requires c κs =
 
 add-i : tie.Need-add-i Inv-loop μ-loop
 add-i c = omega (arith, c .before .before .before .before .before .before .before .before .before .before .before .before .before .before .before .before .before .before .before .before .before .before .before .before .before .pre .lists .fits)
-
-loop-less : tie.Need-loop-less Inv-loop μ-loop
-loop-less c = omega arith
 
 loop-again : tie.Need-loop-again Inv-loop μ-loop
 loop-again c =
@@ -171,28 +153,6 @@ returns c =
 pub run-spec : {M : Type 1} → statement M
 run-spec =
     tie.close
-    (tie.spec
-    Inv-loop
-    μ-loop
-    left-starts-requires
-    right-starts-requires
-    loop-holds
-    array-read-wide
-    wide-requires
-    mul-from
-    array-read-wide-2
-    wide-requires-2
-    add-to
-    array-read-wide-3
-    wide-requires-3
-    mul-node
-    array-copy-out-node
-    sub-step
-    part-step-start
-    part-step-end
-    step-requires
-    add-i
-    loop-less
-    loop-again
-    same-length
-    returns)
+    (tie.spec Inv-loop μ-loop starts-requires starts-requires-2 loop-holds array-read-wide (λ c κs. tt) mul-from array-read-wide-2
+    (λ c κs. tt) add-to array-read-wide-3 (λ c κs. tt) mul-node array-copy-out-node (λ c. omega arith) (λ c. omega arith) part-step-end
+    step-requires add-i (λ c. omega arith) loop-again same-length returns)

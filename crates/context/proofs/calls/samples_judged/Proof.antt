@@ -19,15 +19,6 @@ abbrev μ-loop : tie.MeasureT-loop
 loop-holds : tie.Need-loop-holds Inv-loop μ-loop
 loop-holds c = (omega arith, refl)
 
-word-at-requires : tie.Need-word-at-requires Inv-loop μ-loop
-word-at-requires c κs = omega arith
-
-add-i : tie.Need-add-i Inv-loop μ-loop
-add-i c = omega arith
-
-loop-less : tie.Need-loop-less Inv-loop μ-loop
-loop-less c = omega arith
-
 loop-again : tie.Need-loop-again Inv-loop μ-loop
 loop-again c =
     let start = c .before .before .before .before .before in
@@ -35,9 +26,6 @@ loop-again c =
     let ws = words (start .args .input .now) in
     let fits = lt-ltb _ _ (c .if1 .taken) in
     (omega arith, samples-next ws i (omega (arith, length-words (start .args .input .now))) (rw (← c .before .word-at .ensures) fits) ∙ c .before .before .before .loop .inv .1)
-
-new-requires : tie.Need-new-requires Inv-loop μ-loop
-new-requires c κs = omega arith
 
 returns : tie.Need-returns Inv-loop μ-loop
 returns c =
@@ -48,9 +36,6 @@ returns c =
     c .new .ensures ∙ sym (samples-wrong ws i (omega (arith, length-words (start .args .input .now))) (rw (← c .before .before .word-at .ensures) wrong))
     ∙ c .before .before .before .before .loop .inv .1
 
-new-requires-2 : tie.Need-new-requires-2 Inv-loop μ-loop
-new-requires-2 c κs = omega arith
-
 returns-2 : tie.Need-returns-2 Inv-loop μ-loop
 returns-2 c =
     let start = c .before .before .before .before in
@@ -60,15 +45,5 @@ returns-2 c =
 pub samples-judged-spec : {M : Type 1} → statement M
 samples-judged-spec =
     tie.close
-    (tie.spec
-    Inv-loop
-    μ-loop
-    loop-holds
-    word-at-requires
-    add-i
-    loop-less
-    loop-again
-    new-requires
-    returns
-    new-requires-2
-    returns-2)
+    (tie.spec Inv-loop μ-loop loop-holds (λ c κs. omega arith) (λ c. omega arith) (λ c. omega arith) loop-again (λ c κs. omega arith)
+    returns (λ c κs. omega arith) returns-2)

@@ -9,19 +9,10 @@ use borrow.Author.Needs.{needs}
 use Rattle.context.proofs.message.put_number.Statement.{statement}
 use Rattle.context.proofs.message.put_number.Tie as tie
 
-mul-node : tie.Need-mul-node
-mul-node c = search needs
-
-element-copy-out-node : tie.Need-element-copy-out-node
-element-copy-out-node c = search needs
-
 store-requires : tie.Need-store-requires
 store-requires c κs =
     let start = c .before .before .before in
     omega (arith, cells-in (start .args .t1) (start .pre .0) (start .pre .1 .0) (start .args .memory .now) (start .pre .1 .1 .1) (start .args .k) (start .pre .1 .1 .0))
-
-same-length : tie.Need-same-length
-same-length c = search needs
 
 returns : tie.Need-returns
 returns c =
@@ -33,4 +24,4 @@ returns c =
 
 pub put-number-spec : {M : Type 1} → statement M
 put-number-spec =
-    tie.close (tie.spec mul-node element-copy-out-node store-requires same-length returns)
+    tie.close (tie.spec (λ c. search needs) (λ c. search needs) store-requires (λ c. search needs) returns)

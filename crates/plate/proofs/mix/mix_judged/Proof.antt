@@ -42,46 +42,25 @@ past-3 c e = past-2 (c .before .before .before) (then-passed _ (rest-3 (c .befor
 past-4 : (c : tie.Else4) {r : Answer} → r ≡ checkFinite ((c .before .before .before .before .before .before .before .before .before .before .before .before) .args .mix) → r ≡ all (c .before .before .before .before .before .before .before .before .before .before .before .before)
 past-4 c e = past-3 (c .before .before .before) (then-passed _ (checkFinite ((c .before .before .before .before .before .before .before .before .before .before .before .before) .args .mix)) _ _ (c .before .before .mul-judged4 .ensures) (c .if4 .left) e)
 
-mul-judged-requires : tie.Need-mul-judged-requires
-mul-judged-requires c κs = search needs
-
 returns : tie.Need-returns
 returns c =
     let start = c .before .before .before in
     then-refused (mul-at start 41) (rest-1 start) _ (c .before .before .mul-judged .ensures) (c .if1 .taken)
-
-mul-judged-requires-2 : tie.Need-mul-judged-requires-2
-mul-judged-requires-2 c κs = search needs
 
 returns-2 : tie.Need-returns-2
 returns-2 c =
     let start = c .before .before .before .before .before .before in
     past-1 (c .before .before .before) (then-refused (mul-at start 47) (rest-2 start) _ (c .before .before .mul-judged2 .ensures) (c .if2 .taken))
 
-mul-judged-requires-3 : tie.Need-mul-judged-requires-3
-mul-judged-requires-3 c κs = search needs
-
 returns-3 : tie.Need-returns-3
 returns-3 c =
     let start = c .before .before .before .before .before .before .before .before .before in
     past-2 (c .before .before .before) (then-refused (mul-at start 43) (rest-3 start) _ (c .before .before .mul-judged3 .ensures) (c .if3 .taken))
 
-mul-judged-requires-4 : tie.Need-mul-judged-requires-4
-mul-judged-requires-4 c κs = search needs
-
 returns-4 : tie.Need-returns-4
 returns-4 c =
     let start = c .before .before .before .before .before .before .before .before .before .before .before .before in
     past-3 (c .before .before .before) (then-refused (mul-at start 49) (checkFinite (start .args .mix)) _ (c .before .before .mul-judged4 .ensures) (c .if4 .taken))
-
-finite-requires : tie.Need-finite-requires
-finite-requires c κs = search needs
-
-new-requires : tie.Need-new-requires
-new-requires c κs = search needs
-
-new-requires-2 : tie.Need-new-requires-2
-new-requires-2 c κs = search needs
 
 returns-5 : tie.Need-returns-5
 returns-5 c =
@@ -96,17 +75,5 @@ returns-6 c =
 pub mix-judged-spec : {M : Type 1} → statement M
 mix-judged-spec =
     tie.close
-    (tie.spec
-    mul-judged-requires
-    returns
-    mul-judged-requires-2
-    returns-2
-    mul-judged-requires-3
-    returns-3
-    mul-judged-requires-4
-    returns-4
-    finite-requires
-    new-requires
-    new-requires-2
-    returns-5
-    returns-6)
+    (tie.spec (λ c κs. search needs) returns (λ c κs. search needs) returns-2 (λ c κs. search needs) returns-3 (λ c κs. search needs)
+    returns-4 (λ c κs. search needs) (λ c κs. search needs) (λ c κs. search needs) returns-5 returns-6)

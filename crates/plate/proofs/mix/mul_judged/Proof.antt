@@ -5,28 +5,10 @@ use borrow.Author.Needs.{needs}
 use Rattle.plate.proofs.mix.mul_judged.Statement.{statement}
 use Rattle.plate.proofs.mix.mul_judged.Tie as tie
 
-new-requires : tie.Need-new-requires
-new-requires c κs = search needs
-
 returns : tie.Need-returns
 returns c =
     let start = c .before .before in
     c .new .ensures ∙ sym (mul-missing (start .args .t1) (start .pre .0) (start .args .k) (c .before .if1 .taken))
-
-mul-node : tie.Need-mul-node
-mul-node c = search needs
-
-element-copy-out-node : tie.Need-element-copy-out-node
-element-copy-out-node c = search needs
-
-is-mul-requires : tie.Need-is-mul-requires
-is-mul-requires c κs = search needs
-
-new-requires-2 : tie.Need-new-requires-2
-new-requires-2 c κs = search needs
-
-new-requires-3 : tie.Need-new-requires-3
-new-requires-3 c κs = search needs
 
 returns-2 : tie.Need-returns-2
 returns-2 c =
@@ -41,13 +23,5 @@ returns-3 c =
 pub mul-judged-spec : {M : Type 1} → statement M
 mul-judged-spec =
     tie.close
-    (tie.spec
-    new-requires
-    returns
-    mul-node
-    element-copy-out-node
-    is-mul-requires
-    new-requires-2
-    new-requires-3
-    returns-2
-    returns-3)
+    (tie.spec (λ c κs. search needs) returns (λ c. search needs) (λ c. search needs) (λ c κs. search needs) (λ c κs. search needs)
+    (λ c κs. search needs) returns-2 returns-3)

@@ -29,9 +29,6 @@ put-number-requires-4 c κs =
     let start = c .before .before .before .before .before .before .before .before .before .before .before .before .before .before in
     (start .pre .0, (start .pre .1 .0, (omega (arith, start .pre .1 .1 .0), c .before .before .before .put-number3 .kept .1 .1 .1 .0 ∙ c .before .before .before .before .before .before .before .put-number2 .kept .1 .1 .1 .0 ∙ c .before .before .before .before .before .before .before .before .before .before .before .put-number .kept .1 .1 .1 .0 ∙ start .pre .1 .1 .1)))
 
-same-length : tie.Need-same-length
-same-length c = search needs
-
 returns : tie.Need-returns
 unfolding ofBits
 returns c =
@@ -44,10 +41,4 @@ returns c =
 pub put-mix-spec : {M : Type 1} → statement M
 put-mix-spec =
     tie.close
-    (tie.spec
-    put-number-requires
-    put-number-requires-2
-    put-number-requires-3
-    put-number-requires-4
-    same-length
-    returns)
+    (tie.spec put-number-requires put-number-requires-2 put-number-requires-3 put-number-requires-4 (λ c. search needs) returns)

@@ -20,53 +20,8 @@ Inv-loop board₀ mix dry floats i₀ board i = (i ≤ 51) × (length board ≡ 
 abbrev μ-loop : tie.MeasureT-loop
 μ-loop board₀ mix dry floats i₀ board i = 51 - i
 
-array-write-floats : tie.Need-array-write-floats Inv-loop μ-loop
-array-write-floats c = lit< tt
-
-array-write-floats-2 : tie.Need-array-write-floats-2 Inv-loop μ-loop
-array-write-floats-2 c = lit< tt
-
-array-write-floats-3 : tie.Need-array-write-floats-3 Inv-loop μ-loop
-array-write-floats-3 c = lit< tt
-
-array-write-floats-4 : tie.Need-array-write-floats-4 Inv-loop μ-loop
-array-write-floats-4 c = lit< tt
-
 loop-holds : tie.Need-loop-holds Inv-loop μ-loop
 loop-holds c = (omega arith, refl, refl)
-
-mul-put-node : tie.Need-mul-put-node Inv-loop μ-loop
-mul-put-node c = search needs
-
-add-put-node : tie.Need-add-put-node Inv-loop μ-loop
-add-put-node c = search needs
-
-mul-put-node-2 : tie.Need-mul-put-node-2 Inv-loop μ-loop
-mul-put-node-2 c = search needs
-
-array-read-put-node : tie.Need-array-read-put-node Inv-loop μ-loop
-array-read-put-node c = search needs
-
-mul-put-node-3 : tie.Need-mul-put-node-3 Inv-loop μ-loop
-mul-put-node-3 c = search needs
-
-array-read-put-node-2 : tie.Need-array-read-put-node-2 Inv-loop μ-loop
-array-read-put-node-2 c = search needs
-
-mul-put-node-4 : tie.Need-mul-put-node-4 Inv-loop μ-loop
-mul-put-node-4 c = search needs
-
-array-read-put-node-3 : tie.Need-array-read-put-node-3 Inv-loop μ-loop
-array-read-put-node-3 c = search needs
-
-put-node-requires : tie.Need-put-node-requires Inv-loop μ-loop
-put-node-requires c κs = omega arith
-
-add-i : tie.Need-add-i Inv-loop μ-loop
-add-i c = search needs
-
-loop-less : tie.Need-loop-less Inv-loop μ-loop
-loop-less c = search needs
 
 loop-again : tie.Need-loop-again Inv-loop μ-loop
 unfolding plateNodes
@@ -86,9 +41,6 @@ loop-again c =
           (put .ensures ∙ ap (λ (d : NodeCard). sets m at (nodeBytes d)) (node-at nodes i)),
     )
 
-same-length : tie.Need-same-length Inv-loop μ-loop
-same-length c = search needs
-
 returns : tie.Need-returns Inv-loop μ-loop
 unfolding plateNodes
 returns c =
@@ -100,25 +52,6 @@ returns c =
 pub put-nodes-spec : {M : Type 1} → statement M
 put-nodes-spec =
     tie.close
-    (tie.spec
-    Inv-loop
-    μ-loop
-    array-write-floats
-    array-write-floats-2
-    array-write-floats-3
-    array-write-floats-4
-    loop-holds
-    mul-put-node
-    add-put-node
-    mul-put-node-2
-    array-read-put-node
-    mul-put-node-3
-    array-read-put-node-2
-    mul-put-node-4
-    array-read-put-node-3
-    put-node-requires
-    add-i
-    loop-less
-    loop-again
-    same-length
-    returns)
+    (tie.spec Inv-loop μ-loop (λ c. lit< tt) (λ c. lit< tt) (λ c. lit< tt) (λ c. lit< tt) loop-holds (λ c. search needs) (λ c. search needs)
+    (λ c. search needs) (λ c. search needs) (λ c. search needs) (λ c. search needs) (λ c. search needs) (λ c. search needs)
+    (λ c κs. omega arith) (λ c. search needs) (λ c. search needs) loop-again (λ c. search needs) returns)

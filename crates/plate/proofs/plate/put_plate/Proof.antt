@@ -15,24 +15,6 @@ use borrow.Author.Needs.{needs}
 use Rattle.plate.proofs.plate.put_plate.Statement.{statement}
 use Rattle.plate.proofs.plate.put_plate.Tie as tie
 
-put-four-requires : tie.Need-put-four-requires
-put-four-requires c κs = search needs
-
-put-nodes-requires : tie.Need-put-nodes-requires
-put-nodes-requires c κs = search needs
-
-put-wires-requires : tie.Need-put-wires-requires
-put-wires-requires c κs = search needs
-
-put-u16-requires : tie.Need-put-u16-requires
-put-u16-requires c κs = search needs
-
-put-u16-requires-2 : tie.Need-put-u16-requires-2
-put-u16-requires-2 c κs = search needs
-
-same-length : tie.Need-same-length
-same-length c = search needs
-
 returns : tie.Need-returns
 unfolding writeBoard
 returns c =
@@ -57,11 +39,5 @@ returns c =
 pub put-plate-spec : {M : Type 1} → statement M
 put-plate-spec =
     tie.close
-    (tie.spec
-    put-four-requires
-    put-nodes-requires
-    put-wires-requires
-    put-u16-requires
-    put-u16-requires-2
-    same-length
-    returns)
+    (tie.spec (λ c κs. search needs) (λ c κs. search needs) (λ c κs. search needs) (λ c κs. search needs) (λ c κs. search needs)
+    (λ c. search needs) returns)

@@ -23,33 +23,6 @@ abbrev μ-loop : tie.MeasureT-loop
 loop-holds : tie.Need-loop-holds Inv-loop μ-loop
 loop-holds c = (omega arith, refl, refl)
 
-mul-put-four : tie.Need-mul-put-four Inv-loop μ-loop
-mul-put-four c = search needs
-
-add-put-four : tie.Need-add-put-four Inv-loop μ-loop
-add-put-four c = search needs
-
-mul-put-four-2 : tie.Need-mul-put-four-2 Inv-loop μ-loop
-mul-put-four-2 c = search needs
-
-array-read-put-four : tie.Need-array-read-put-four Inv-loop μ-loop
-array-read-put-four c = search needs
-
-mul-put-four-3 : tie.Need-mul-put-four-3 Inv-loop μ-loop
-mul-put-four-3 c = search needs
-
-array-read-put-four-2 : tie.Need-array-read-put-four-2 Inv-loop μ-loop
-array-read-put-four-2 c = search needs
-
-put-four-requires : tie.Need-put-four-requires Inv-loop μ-loop
-put-four-requires c κs = omega arith
-
-add-i : tie.Need-add-i Inv-loop μ-loop
-add-i c = search needs
-
-loop-less : tie.Need-loop-less Inv-loop μ-loop
-loop-less c = search needs
-
 loop-again : tie.Need-loop-again Inv-loop μ-loop
 unfolding plateWires
 loop-again c =
@@ -66,9 +39,6 @@ loop-again c =
           (put .ensures ∙ ap (λ (w : Wire). sets m at (wireBytes w)) (wire-at plateWires i)),
     )
 
-same-length : tie.Need-same-length Inv-loop μ-loop
-same-length c = search needs
-
 returns : tie.Need-returns Inv-loop μ-loop
 unfolding plateWires
 returns c =
@@ -78,19 +48,5 @@ returns c =
 pub put-wires-spec : {M : Type 1} → statement M
 put-wires-spec =
     tie.close
-    (tie.spec
-    Inv-loop
-    μ-loop
-    loop-holds
-    mul-put-four
-    add-put-four
-    mul-put-four-2
-    array-read-put-four
-    mul-put-four-3
-    array-read-put-four-2
-    put-four-requires
-    add-i
-    loop-less
-    loop-again
-    same-length
-    returns)
+    (tie.spec Inv-loop μ-loop loop-holds (λ c. search needs) (λ c. search needs) (λ c. search needs) (λ c. search needs) (λ c. search needs)
+    (λ c. search needs) (λ c κs. omega arith) (λ c. search needs) (λ c. search needs) loop-again (λ c. search needs) returns)

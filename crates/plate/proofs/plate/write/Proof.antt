@@ -14,9 +14,6 @@ use borrow.Author.Needs.{needs}
 use Rattle.plate.proofs.plate.write.Statement.{statement}
 use Rattle.plate.proofs.plate.write.Tie as tie
 
-new-requires : tie.Need-new-requires
-new-requires c κs = search needs
-
 returns : tie.Need-returns
 returns c =
     let start = c .before .before .before .args in
@@ -25,21 +22,12 @@ returns c =
     let e = wrong-size (start .n) (start .mix) b out in
     (c .new .ensures ∙ sym (ap answer-of e), sym (ap bytes-of e))
 
-finite-requires : tie.Need-finite-requires
-finite-requires c κs = search needs
-
-new-requires-2 : tie.Need-new-requires-2
-new-requires-2 c κs = search needs
-
 returns-2 : tie.Need-returns-2
 returns-2 c =
     let start = c .before .before .before .before .before .before .args in
     let b = now (start .board) in
     let e = wrong-mix (start .n) (start .mix) b (size-in (start .n) (omega arith) (omega (arith, ltb-false))) (sym (c .before .before .finite .ensures) ∙ not-true _ (c .before .if3 .taken)) in
     (c .new2 .ensures ∙ sym (ap answer-of e), sym (ap bytes-of e))
-
-new-requires-3 : tie.Need-new-requires-3
-new-requires-3 c κs = search needs
 
 returns-3 : tie.Need-returns-3
 returns-3 c =
@@ -48,24 +36,6 @@ returns-3 c =
     let size = size-in (start .n) (omega arith) (omega (arith, ltb-false)) in
     let e = wrong-length (start .n) (start .mix) b size (sym (c .before .before .before .finite .ensures) ∙ not-false _ (c .before .before .if3 .left)) (c .before .if4 .taken) in
     (c .new3 .ensures ∙ sym (ap answer-of e), sym (ap bytes-of e))
-
-cast-put-plate : tie.Need-cast-put-plate
-cast-put-plate c = search needs
-
-to-bits-requires : tie.Need-to-bits-requires
-to-bits-requires c κs = search needs
-
-to-bits-requires-2 : tie.Need-to-bits-requires-2
-to-bits-requires-2 c κs = search needs
-
-put-plate-requires : tie.Need-put-plate-requires
-put-plate-requires c κs = search needs
-
-new-requires-4 : tie.Need-new-requires-4
-new-requires-4 c κs = search needs
-
-same-length : tie.Need-same-length
-same-length c = search needs
 
 returns-4 : tie.Need-returns-4
 unfolding ofBits
@@ -82,18 +52,6 @@ returns-4 c =
 pub write-spec : {M : Type 1} → statement M
 write-spec =
     tie.close
-    (tie.spec
-    new-requires
-    returns
-    finite-requires
-    new-requires-2
-    returns-2
-    new-requires-3
-    returns-3
-    cast-put-plate
-    to-bits-requires
-    to-bits-requires-2
-    put-plate-requires
-    new-requires-4
-    same-length
+    (tie.spec (λ c κs. search needs) returns (λ c κs. search needs) (λ c κs. search needs) returns-2 (λ c κs. search needs) returns-3
+    (λ c. search needs) (λ c κs. search needs) (λ c κs. search needs) (λ c κs. search needs) (λ c κs. search needs) (λ c. search needs)
     returns-4)

@@ -1,4 +1,4 @@
--- `context::calls::right_starts` meets its contract. The nodes passed have their starts. Assumes nothing.
+-- `context::calls::starts` meets its contract. The nodes passed have their starts. Assumes nothing.
 use Prim.Native.Nat.{ℕ, _-_, _≤_}
 use mathlib.Core.Path.{_≡_}
 use native.Mathlib.Omega.{arith}
@@ -6,8 +6,8 @@ use lib.ListN.{length-replicate}
 use Rattle.context.specs.Memory.{rightStart}
 use Rattle.context.specs.Parts.{Starts}
 use Rattle.context.proofs.CallStarts.{starts-none, starts-more, channel-start}
-use Rattle.context.proofs.calls.right_starts.Statement.{statement}
-use Rattle.context.proofs.calls.right_starts.Tie as tie
+use Rattle.context.proofs.calls.starts.Statement.{statement}
+use Rattle.context.proofs.calls.starts.Tie as tie
 
 abbrev Inv-loop : tie.InvT-loop
 Inv-loop count size nodes at₀ i₀ at i = (i ≤ count) × Starts (rightStart size) nodes i at
@@ -17,12 +17,6 @@ abbrev μ-loop : tie.MeasureT-loop
 
 loop-holds : tie.Need-loop-holds Inv-loop μ-loop
 loop-holds c = (omega arith, starts-none _ _ _ (length-replicate {A = ℕ} 64 0))
-
-mul-node : tie.Need-mul-node Inv-loop μ-loop
-mul-node c = omega arith
-
-array-copy-out-node : tie.Need-array-copy-out-node Inv-loop μ-loop
-array-copy-out-node c = omega arith
 
 add-at : tie.Need-add-at Inv-loop μ-loop
 add-at c =
@@ -46,17 +40,8 @@ add-at-2 c =
     let node = start .pre .3 (c .before .before .before .before .loop .i) (c .before .before .before .loop-test .taken) in
     omega (arith, node .cell-in, channel-start (start .args .size) _ (start .pre .2) (node .few-channels))
 
-mul-at-2 : tie.Need-mul-at-2 Inv-loop μ-loop
-mul-at-2 c = omega arith
-
 array-write-at : tie.Need-array-write-at Inv-loop μ-loop
 array-write-at c = omega (arith, c .before .before .before .before .loop .inv .1 .long)
-
-add-i : tie.Need-add-i Inv-loop μ-loop
-add-i c = omega arith
-
-loop-less : tie.Need-loop-less Inv-loop μ-loop
-loop-less c = omega arith
 
 loop-again : tie.Need-loop-again Inv-loop μ-loop
 loop-again c =
@@ -70,22 +55,8 @@ returns c =
     let all : at .i ≡ c .before .before .args .count = omega arith in
     rw all at (at .inv .1)
 
-pub right-starts-spec : {M : Type 1} → statement M
-right-starts-spec =
+pub starts-spec : {M : Type 1} → statement M
+starts-spec =
     tie.close
-    (tie.spec
-    Inv-loop
-    μ-loop
-    loop-holds
-    mul-node
-    array-copy-out-node
-    add-at
-    sub-at
-    mul-at
-    add-at-2
-    mul-at-2
-    array-write-at
-    add-i
-    loop-less
-    loop-again
-    returns)
+    (tie.spec Inv-loop μ-loop loop-holds (λ c. omega arith) (λ c. omega arith) add-at sub-at mul-at add-at-2 (λ c. omega arith)
+    array-write-at (λ c. omega arith) (λ c. omega arith) loop-again returns)
