@@ -57,11 +57,3 @@ digits-value n h = round-whole binary32 false n (le-of-lt h)
 
 pub tens-pos : (k : ℕ) → 0 < 10 ^ k
 tens-pos k = omega (arith, one-le-pow k 10 (omega arith))
-
--- a number that is not the next one is past it
-pub past : {k : ℕ} (a : ℕ) → a ≤ k → (k ≡ a → ⊥) → a + 1 ≤ k
-past a h n = omega arith
-
--- ten to a number, and to one that equals it
-pub ten-at : (x : Float) (i k : ℕ) → k ≡ i → HasValue x false (10 ^ i) 1 → HasValue x false (10 ^ k) 1
-ten-at x i k e v = subst (λ (j : ℕ). HasValue x false (10 ^ j) 1) (sym e) v

@@ -14,24 +14,40 @@ pub enum Decimal {
     Nothing,
 }
 
-// Ten to k, as a float.
+// Ten to each k up to 10; all are floats exactly.
+const TENS: [f32; 11] = [
+    1.0,
+    10.0,
+    100.0,
+    1000.0,
+    10000.0,
+    100000.0,
+    1000000.0,
+    10000000.0,
+    100000000.0,
+    1000000000.0,
+    10000000000.0,
+];
+
+const POWERS: [u64; 11] = [
+    1,
+    10,
+    100,
+    1000,
+    10000,
+    100000,
+    1000000,
+    10000000,
+    100000000,
+    1000000000,
+    10000000000,
+];
+
 fn ten(k: u32) -> f32
     requires { ⌜ k ≤ 10 ⌝ }
     ensures { λ r. ⌜ HasValue r false (10 ^ k) 1 ⌝ }
 {
-    match k {
-        0 => 1.0,
-        1 => 10.0,
-        2 => 100.0,
-        3 => 1000.0,
-        4 => 10000.0,
-        5 => 100000.0,
-        6 => 1000000.0,
-        7 => 10000000.0,
-        8 => 100000000.0,
-        9 => 1000000000.0,
-        _ => 10000000000.0,
-    }
+    TENS[k as usize]
 }
 
 // The float nearest to digits × 10^k.
@@ -50,24 +66,11 @@ pub fn quotient(digits: u32, k: u32) -> f32
     digits as f32 / ten(k)
 }
 
-// Ten to k.
 pub fn power(k: u32) -> u64
     requires { ⌜ k ≤ 10 ⌝ }
-    ensures { λ r. ⌜ (1 ≤ r) × (r ≤ 10000000000) ⌝ }
+    ensures { λ r. ⌜ (r ≡ 10 ^ k) × (1 ≤ r) × (r ≤ 10000000000) ⌝ }
 {
-    match k {
-        0 => 1,
-        1 => 10,
-        2 => 100,
-        3 => 1000,
-        4 => 10000,
-        5 => 100000,
-        6 => 1000000,
-        7 => 10000000,
-        8 => 100000000,
-        9 => 1000000000,
-        _ => 10000000000,
-    }
+    POWERS[k as usize]
 }
 
 // The whole number nearest to a positive float, by its bits, times `tens`: 2^24 if the float is
