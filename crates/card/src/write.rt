@@ -1,213 +1,206 @@
-// The text of a board: each function writes into `out` from the place `at` on, and returns the place
-// after what it wrote.
-ghost use Prim.Native.Nat.{_+_, _<_, _≤_};
+// A board as text, a card or a graph for Graphviz: each function writes into `out` from the place `at`
+// on, and returns the place after what it wrote.
+ghost use Prim.Native.Nat.{_+_, _≤_};
 ghost use lib.ListN.{length};
 ghost use Rattle.io.specs.Counts.{Counts};
 ghost use Rattle.graph.specs.Read.{Sound};
+ghost use Rattle.card.specs.Board.{Accepted};
+use crate::names::NAMES;
+use crate::names::has_float;
+use crate::names::has_whole;
+use crate::names::name;
 use graph::board::Board;
+use graph::graph::is_late;
+use graph::graph::places;
+use graph::graph::visiting_list;
 use graph::sources::wide;
-use leaves::float::to_bits;
 use nodes::kind::NodeKind;
-use text::decimal::Decimal;
-use text::decimal::decimal_of;
-use text::decimal::power;
+use text::float::put_float;
 use text::written::put;
-use text::written::put_number;
+use text::written::put_pair;
+use text::written::put_spaced;
 use text::written::put_word;
 
-// The last k decimal digits of a number.
-fn put_places(out: &mut [u8], at: usize, v: u32, k: u32) -> usize
-    requires { ⌜ (at + 10 ≤ length (now out)) × (k ≤ 10) ⌝ }
-    ensures { λ r. ⌜ r ≤ at + 10 ⌝ }
-{
-    let mut n = at;
-    let mut i = k;
-    while 0 < i {
-        i -= 1;
-        let digit = v as u64 / power(i) % 10;
-        n = put(out, n, (48 + digit) as u8);
-    }
-    n
+// What a board is shown as: a card, or a graph with a node for each node and an arrow for each wire,
+// dashed if it is late.
+pub enum Form {
+    Card,
+    Graph,
 }
 
-// digits / 10^k, with k digits after the point.
-fn put_decimal(out: &mut [u8], at: usize, digits: u32, k: u32) -> usize
-    requires { ⌜ (at + 21 ≤ length (now out)) × (k ≤ 10) ⌝ }
-    ensures { λ r. ⌜ r ≤ at + 21 ⌝ }
-{
-    let whole = digits as u64 / power(k);
-    let n = put_number(out, at, whole as u32);
-    if k == 0 {
-        return n;
-    }
-    let m = put(out, n, b'.');
-    put_places(out, m, digits, k)
+// A node by its type, whole number and float.
+struct Fields {
+    t: usize,
+    n: u32,
+    f: f32,
 }
 
-// A digit of base 16.
-fn glyph(digit: u32) -> u8
-    requires { ⌜ digit < 16 ⌝ }
+fn fields_of(kind: NodeKind) -> Fields
+    ensures { λ r. ⌜ r .t ≤ 10 ⌝ }
 {
-    if digit < 10 {
-        (48 + digit) as u8
-    } else {
-        (87 + digit) as u8
+    match kind {
+        NodeKind::Pass => Fields { t: 1, n: 0, f: 0.0 },
+        NodeKind::Sum => Fields { t: 2, n: 0, f: 0.0 },
+        NodeKind::Destination => Fields { t: 3, n: 0, f: 0.0 },
+        NodeKind::Balance => Fields { t: 4, n: 0, f: 0.0 },
+        NodeKind::Mul(x) => Fields { t: 5, n: 0, f: x },
+        NodeKind::Add(x) => Fields { t: 6, n: 0, f: x },
+        NodeKind::Delay(n) => Fields { t: 7, n, f: 0.0 },
+        NodeKind::AllPass(n, g) => Fields { t: 8, n, f: g },
+        NodeKind::OnePole(b) => Fields { t: 9, n: 0, f: b },
+        NodeKind::Sine(f) => Fields { t: 10, n: 0, f },
     }
 }
 
-// The bits of a float, in base 16 after an `x`.
-fn put_bits(out: &mut [u8], at: usize, bits: u32) -> usize
-    requires { ⌜ at + 9 ≤ length (now out) ⌝ }
-    ensures { λ r. ⌜ r ≤ at + 9 ⌝ }
+// The whole number, if the type has one.
+fn put_whole(out: &mut [u8], at: usize, node: Fields) -> usize
+    requires { ⌜ at + 11 ≤ length (now out) ⌝ }
+    ensures { λ r. ⌜ r ≤ at + 11 ⌝ }
 {
-    let mut n = put(out, at, b'x');
-    let mut i: u32 = 8;
-    while 0 < i {
-        i -= 1;
-        n = put(out, n, glyph((bits >> (4 * i)) % 16));
+    if has_whole(node.t) {
+        return put_spaced(out, at, node.n);
     }
-    n
+    at
 }
 
-// A minus before a negative float, by its bits.
-fn put_sign(out: &mut [u8], at: usize, bits: u32) -> usize
-    requires { ⌜ at + 1 ≤ length (now out) ⌝ }
-    ensures { λ r. ⌜ r ≤ at + 1 ⌝ }
-{
-    if bits < 0x8000_0000 {
-        return at;
-    }
-    put(out, at, b'-')
-}
-
-// A space and a float: the decimal that reads as this float, or its bits.
-fn put_float(out: &mut [u8], at: usize, x: f32) -> usize
+// The float, if the type has one.
+fn put_fraction(out: &mut [u8], at: usize, node: Fields) -> usize
     requires { ⌜ at + 23 ≤ length (now out) ⌝ }
     ensures { λ r. ⌜ r ≤ at + 23 ⌝ }
 {
-    let bits = to_bits(x);
-    let n = put(out, at, b' ');
-    match decimal_of(bits % 0x8000_0000) {
-        Decimal::Is(digits, k) => {
-            let m = put_sign(out, n, bits);
-            put_decimal(out, m, digits, k)
-        }
-        Decimal::Nothing => put_bits(out, n, bits),
+    if has_float(node.t) {
+        let n = put(out, at, b' ');
+        return put_float(out, n, node.f);
     }
-}
-
-// A name and a float.
-fn put_number_node(out: &mut [u8], at: usize, name: &[u8], x: f32) -> usize
-    requires { ⌜ (at + 34 ≤ length (now out)) × (length (now name) ≤ 11) ⌝ }
-    ensures { λ r. ⌜ r ≤ at + 34 ⌝ }
-{
-    let n = put_word(out, at, name);
-    put_float(out, n, x)
-}
-
-// A name and the length of a line.
-fn put_line_node(out: &mut [u8], at: usize, name: &[u8], samples: u32) -> usize
-    requires { ⌜ (at + 22 ≤ length (now out)) × (length (now name) ≤ 11) ⌝ }
-    ensures { λ r. ⌜ r ≤ at + 22 ⌝ }
-{
-    let n = put_word(out, at, name);
-    let m = put(out, n, b' ');
-    put_number(out, m, samples)
+    at
 }
 
 // A type's name, and its whole number and float.
-pub fn put_kind(out: &mut [u8], at: usize, kind: NodeKind) -> usize
-    requires { ⌜ at + 48 ≤ length (now out) ⌝ }
-    ensures { λ r. ⌜ r ≤ at + 48 ⌝ }
+fn put_kind(out: &mut [u8], at: usize, kind: NodeKind) -> usize
+    requires { ⌜ at + 45 ≤ length (now out) ⌝ }
+    ensures { λ r. ⌜ r ≤ at + 45 ⌝ }
 {
-    match kind {
-        NodeKind::Pass => put_word(out, at, b"pass"),
-        NodeKind::Sum => put_word(out, at, b"sum"),
-        NodeKind::Destination => put_word(out, at, b"destination"),
-        NodeKind::Balance => put_word(out, at, b"balance"),
-        NodeKind::Mul(x) => put_number_node(out, at, b"mul", x),
-        NodeKind::Add(x) => put_number_node(out, at, b"add", x),
-        NodeKind::Delay(n) => put_line_node(out, at, b"delay", n),
-        NodeKind::AllPass(n, g) => {
-            let m = put_line_node(out, at, b"allpass", n);
-            put_float(out, m, g)
+    let node = fields_of(kind);
+    let n = put_word(out, at, name(&NAMES, node.t));
+    let m = put_whole(out, n, node);
+    put_fraction(out, m, node)
+}
+
+// Node i.
+fn put_node(out: &mut [u8], at: usize, kind: NodeKind, i: u32, form: Form) -> usize
+    requires { ⌜ at + 81 ≤ length (now out) ⌝ }
+    ensures { λ r. ⌜ r ≤ at + 81 ⌝ }
+{
+    match form {
+        Form::Card => {
+            let n = put_kind(out, at, kind);
+            let m = put_word(out, n, b"  #");
+            let k = put_spaced(out, m, i);
+            put(out, k, b'\n')
         }
-        NodeKind::OnePole(b) => put_number_node(out, at, b"onepole", b),
-        NodeKind::Sine(f) => put_number_node(out, at, b"sine", f),
+        Form::Graph => {
+            let n = put_pair(out, at, b"  ", i, b" [label=\"", i, b" ");
+            let m = put_kind(out, n, kind);
+            put_word(out, m, b"\"];\n")
+        }
     }
 }
 
-// The line of node i.
-fn put_node(out: &mut [u8], at: usize, kind: NodeKind, i: u32) -> usize
-    requires { ⌜ at + 64 ≤ length (now out) ⌝ }
-    ensures { λ r. ⌜ r ≤ at + 64 ⌝ }
+fn put_wire(out: &mut [u8], at: usize, s: u32, t: u32, late: bool, form: Form) -> usize
+    requires { ⌜ at + 43 ≤ length (now out) ⌝ }
+    ensures { λ r. ⌜ r ≤ at + 43 ⌝ }
 {
-    let n = put_kind(out, at, kind);
-    let m = put_word(out, n, b"  # ");
-    let k = put_number(out, m, i);
-    put(out, k, b'\n')
+    match form {
+        Form::Card => put_pair(out, at, b"wire ", s, b" ", t, b"\n"),
+        Form::Graph => {
+            if late {
+                put_pair(out, at, b"  ", s, b" -> ", t, b" [style=dashed];\n")
+            } else {
+                put_pair(out, at, b"  ", s, b" -> ", t, b";\n")
+            }
+        }
+    }
 }
 
-// The line of the head.
-fn put_head(out: &mut [u8], at: usize, size: u32, input: u32) -> usize
-    requires { ⌜ at + 34 ≤ length (now out) ⌝ }
-    ensures { λ r. ⌜ r ≤ at + 34 ⌝ }
+fn put_head(out: &mut [u8], size: u32, input: u32, form: Form) -> usize
+    requires { ⌜ 34 ≤ length (now out) ⌝ }
+    ensures { λ r. ⌜ r ≤ 34 ⌝ }
 {
-    let n = put_word(out, at, b"block ");
-    let m = put_number(out, n, size);
-    let k = put_word(out, m, b" input ");
-    let l = put_number(out, k, input);
-    put(out, l, b'\n')
+    match form {
+        Form::Card => put_pair(out, 0, b"block ", size, b" input ", input, b"\n"),
+        Form::Graph => put_word(out, 0, b"digraph board {\n"),
+    }
 }
 
-// The line of a wire.
-fn put_wire(out: &mut [u8], at: usize, source: u32, target: u32) -> usize
-    requires { ⌜ at + 32 ≤ length (now out) ⌝ }
-    ensures { λ r. ⌜ r ≤ at + 32 ⌝ }
+fn put_end(out: &mut [u8], at: usize, form: Form) -> usize
+    requires { ⌜ at + 2 ≤ length (now out) ⌝ }
+    ensures { λ r. ⌜ r ≤ at + 2 ⌝ }
 {
-    let n = put_word(out, at, b"wire ");
-    let m = put_number(out, n, source);
-    let k = put(out, m, b' ');
-    let l = put_number(out, k, target);
-    put(out, l, b'\n')
+    match form {
+        Form::Card => at,
+        Form::Graph => put_word(out, at, b"}\n"),
+    }
 }
 
-fn put_nodes(out: &mut [u8], at: usize, board: Board) -> usize
-    requires { ⌜ (at + 4096 ≤ length (now out)) × Sound board ⌝ }
-    ensures { λ r. ⌜ r ≤ at + 4096 ⌝ }
+fn put_nodes(out: &mut [u8], at: usize, board: Board, form: Form) -> usize
+    requires { ⌜ (at + 5184 ≤ length (now out)) × Sound board ⌝ }
+    ensures { λ r. ⌜ r ≤ at + 5184 ⌝ }
 {
     let mut n = at;
     let mut i = 0;
     while i < board.count {
         let node = board.nodes[i];
         let kind = node.kind;
-        n = put_node(out, n, kind, i as u32);
+        n = put_node(out, n, kind, i as u32, form);
         i += 1;
     }
     n
 }
 
-fn put_wires(out: &mut [u8], at: usize, board: Board) -> usize
-    requires { ⌜ (at + 4096 ≤ length (now out)) × Sound board ⌝ }
-    ensures { λ r. ⌜ r ≤ at + 4096 ⌝ }
+fn put_wires(
+    out: &mut [u8],
+    at: usize,
+    board: Board,
+    places: &[u8; 64],
+    count: usize,
+    form: Form,
+) -> usize
+    requires { ⌜ (at + 5504 ≤ length (now out)) × Sound board ⌝ }
+    ensures { λ r. ⌜ r ≤ at + 5504 ⌝ }
 {
     let mut n = at;
     let mut i = 0;
     while i < board.wires {
-        let source = wide(board.sources[i]);
-        let target = wide(board.targets[i]);
-        n = put_wire(out, n, source as u32, target as u32);
+        let s = wide(board.sources[i]);
+        let t = wide(board.targets[i]);
+        let late = is_late(places, count, s, t);
+        n = put_wire(out, n, s as u32, t as u32, late, form);
         i += 1;
     }
     n
 }
 
+// A board whose listed nodes have these places.
+fn put_board(out: &mut [u8], board: Board, places: &[u8; 64], count: usize, form: Form) -> usize
+    requires { ⌜ (10724 ≤ length (now out)) × Sound board ⌝ }
+    ensures { λ r. ⌜ r ≤ length (now (out .exit)) ⌝ }
+{
+    let n = put_head(out, board.size as u32, board.input as u32, form);
+    let m = put_nodes(out, n, board, form);
+    let k = put_wires(out, m, board, places, count, form);
+    put_end(out, k, form)
+}
+
 // The text of a board, in the first bytes of `out`.
-pub fn text_of(board: Board, out: &mut [u8]) -> usize
-    requires { ⌜ (16384 ≤ length (now out)) × Sound board ⌝ }
+pub fn text_of(board: Board, form: Form, out: &mut [u8]) -> usize
+    requires { ⌜ (16384 ≤ length (now out)) × Accepted board ⌝ }
     ensures { λ r. ⌜ Counts r (now (out .exit)) ⌝ }
 {
-    let n = put_head(out, 0, board.size as u32, board.input as u32);
-    let m = put_nodes(out, n, board);
-    put_wires(out, m, board)
+    let counts = board.counts;
+    let lists = board.lists;
+    let order = visiting_list(&counts, &lists);
+    let list = order.nodes;
+    let count = order.count;
+    let at = places(&list, count);
+    put_board(out, board, &at, count, form)
 }

@@ -10,10 +10,10 @@ use Rattle.graph.specs.Board.{wire}
 use Rattle.graph.specs.Wires.{wiresOf}
 use Rattle.graph.specs.Late.{isLate, lateWires}
 use Rattle.graph.proofs.Late.{late-more}
-use Rattle.text.specs.Written.{spaced, line}
-use Rattle.text.proofs.Writing.{take-snoc, line-length}
-use Rattle.text.proofs.Digits.{spaced-short}
-use Rattle.order.specs.Text.{spacedAll, lateWord, lateLines}
+use Rattle.text.specs.Written.{spaced}
+use Rattle.text.proofs.Writing.{take-snoc, pair-length}
+use Rattle.text.proofs.Digits.{two-digits}
+use Rattle.order.specs.Text.{spacedAll, line, lateWord, lateLines}
 
 -- ---- the nodes of a list
 
@@ -34,7 +34,7 @@ all-snoc l i v is h =
 -- ---- lines
 
 pub late-short : (s t : ℕ) → s < 64 → t < 64 → length (line lateWord s t) ≤ 11
-late-short s t a b = omega (arith, line-length lateWord s t, spaced-short s (omega arith), spaced-short t (omega arith))
+late-short s t a b = omega (arith, pair-length (lateWord ++ (32 ∷ [])) s (32 ∷ []) t (10 ∷ []), two-digits s (omega arith), two-digits t (omega arith))
 
 lines-append : (xs ys : List Wire) → lateLines (xs ++ ys) ≡ lateLines xs ++ lateLines ys
 unfolding lateLines

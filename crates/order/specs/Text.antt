@@ -5,7 +5,7 @@ use Rattle.reading.specs.Order.{Wire}
 use Rattle.graph.specs.Board.{Reading, going, refused, whole}
 use Rattle.graph.specs.Visit.{visitingList}
 use Rattle.graph.specs.Late.{lateWires}
-use Rattle.text.specs.Written.{spaced, line}
+use Rattle.text.specs.Written.{spaced, pair}
 
 -- each number with a space before it
 unfoldable pub spacedAll : List ℕ → List ℕ
@@ -21,6 +21,10 @@ lateWord = 108 ∷ 97 ∷ 116 ∷ 101 ∷ []
 
 abbrev pub refusedWord : List ℕ
 refusedWord = 114 ∷ 101 ∷ 102 ∷ 117 ∷ 115 ∷ 101 ∷ 100 ∷ []
+
+-- a line: a word and two numbers, one space between
+abbrev pub line : List ℕ → ℕ → ℕ → List ℕ
+line word a b = pair (word ++ (32 ∷ [])) a (32 ∷ []) b (10 ∷ [])
 
 -- source and target of each late wire
 unfoldable pub lateLines : List Wire → List ℕ

@@ -10,15 +10,15 @@ ghost use Rattle.graph.specs.Wires.{wiresOf};
 ghost use Rattle.graph.specs.Visit.{visitingList};
 ghost use Rattle.graph.specs.Walking.{Table, Gathered};
 ghost use Rattle.graph.specs.Late.{lateWires, Placed};
-ghost use Rattle.text.specs.Written.{Wrote, WroteUpto, line};
-ghost use Rattle.order.specs.Text.{spacedAll, orderWord, lateWord, refusedWord, lateLines, orderText, textOf};
+ghost use Rattle.text.specs.Written.{Wrote, WroteUpto};
+ghost use Rattle.order.specs.Text.{spacedAll, line, orderWord, lateWord, refusedWord, lateLines, orderText, textOf};
 use graph::graph::is_late;
 use graph::graph::places;
 use graph::graph::visiting_list;
 use graph::judge::read_board;
 use graph::sources::wide;
 use text::written::put;
-use text::written::put_line;
+use text::written::put_pair;
 use text::written::put_spaced;
 use text::written::put_word;
 
@@ -41,7 +41,7 @@ fn put_late(out: &mut [u8], at: usize, source: usize, target: usize) -> usize
     requires { ⌜ (source < 64) × (target < 64) × (at + 27 ≤ length (now out)) ⌝ }
     ensures { λ r. ⌜ WroteUpto 11 (now (out .entry)) at (line lateWord source target) (now (out .exit)) r ⌝ }
 {
-    put_line(out, at, b"late", source as u32, target as u32)
+    put_pair(out, at, b"late ", source as u32, b" ", target as u32, b"\n")
 }
 
 // A line for each late wire. The list, with its nodes' places, is there for the contract.
@@ -108,7 +108,7 @@ fn refusal_text(number: u32, place: u32, out: &mut [u8]) -> usize
     requires { ⌜ 2048 ≤ length (now out) ⌝ }
     ensures { λ r. ⌜ Wrote (now (out .entry)) 0 (line refusedWord number place) (now (out .exit)) r ⌝ }
 {
-    put_line(out, 0, b"refused", number, place)
+    put_pair(out, 0, b"refused ", number, b" ", place, b"\n")
 }
 
 // The text of the board that the bytes hold.

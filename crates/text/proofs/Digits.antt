@@ -8,7 +8,7 @@ use mathlib.Core.List.{List, [], _∷_, _++_}
 use borrow.Author.Tests.{lt-ltb, le-ltb, ltb-false}
 use lib.Dec.{ltb}
 use lib.ListN.{length, length-append}
-use Rattle.text.specs.Written.{digits, number, spaced}
+use Rattle.text.specs.Written.{digits, number}
 
 -- ten times ten, so many times
 abbrev tens : ℕ → ℕ
@@ -56,10 +56,9 @@ unfolding number
 number-short n = digits-short 10 n
 
 -- a number below 100 has at most 2 digits
-pub spaced-short : (n : ℕ) → n < 100 → length (spaced n) ≤ 3
-unfolding spaced
-spaced-short n h = pick (decLt n 10)
+pub two-digits : (n : ℕ) → n < 100 → length (number n) ≤ 2
+two-digits n h = pick (decLt n 10)
   where
-    pick : Dec (n < 10) → suc (length (number n)) ≤ 3
+    pick : Dec (n < 10) → length (number n) ≤ 2
     pick (yes l) = omega (arith, ap length (number-digit n l))
     pick (no g) = omega (arith, ap length (number-digit (n / 10) (omega arith)), number-length n (omega arith) (omega arith))

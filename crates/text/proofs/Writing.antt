@@ -7,7 +7,7 @@ use native.Mathlib.Numerals.{add-one}
 use native.Mathlib.Omega.{arith}
 use lib.ListN.{length, getD, set, take, length-set, length-append}
 use lib.Seq.{take-suc, take-suc-set}
-use Rattle.text.specs.Written.{Wrote, spaced, line}
+use Rattle.text.specs.Written.{Wrote, number, pair}
 
 pub wrote-none : (o : List ℕ) (at : ℕ) → at ≤ length o → Wrote o at [] o at
 wrote-none o at h = record { size = refl; fits = h; next = sym (add-zero at); same = sym (append-nil (take at o)) }
@@ -28,8 +28,7 @@ wrote-both {o} {s = s} {t = t} {a} p q = record {
 pub take-snoc : (l : List ℕ) (i : ℕ) → i < length l → take (i + 1) l ≡ take i l ++ (getD l i 0 ∷ [])
 take-snoc l i h = rw add-one (take-suc l i 0 h)
 
-pub line-length : (word : List ℕ) (a b : ℕ) → length (line word a b) ≡ length word + length (spaced a) + length (spaced b) + 1
-unfolding line
-line-length word a b =
-    length-append ((word ++ spaced a) ++ spaced b) (10 ∷ [])
-    ∙ ap (λ (n : ℕ). n + 1) (length-append (word ++ spaced a) (spaced b) ∙ ap (λ (n : ℕ). n + length (spaced b)) (length-append word (spaced a)))
+pub pair-length : (first : List ℕ) (a : ℕ) (between : List ℕ) (b : ℕ) (last : List ℕ)
+    → length (pair first a between b last) ≡ length first + length (number a) + length between + length (number b) + length last
+unfolding pair
+pair-length first a between b last = simp length-append

@@ -31,6 +31,6 @@ number n = digits 10 n
 unfoldable pub spaced : ℕ → List ℕ
 spaced n = 32 ∷ number n
 
--- a line: a word and two numbers, one space between
-unfoldable pub line : List ℕ → ℕ → ℕ → List ℕ
-line word a b = ((word ++ spaced a) ++ spaced b) ++ (10 ∷ [])
+-- two numbers, with words before, between and after them
+unfoldable pub pair : List ℕ → ℕ → List ℕ → ℕ → List ℕ → List ℕ
+pair first a between b last = (((first ++ number a) ++ between) ++ number b) ++ last

@@ -3,7 +3,7 @@
 ghost use mathlib.Core.List.{[], _∷_};
 ghost use Prim.Native.Nat.{_+_, _<_, _≤_};
 ghost use lib.ListN.{length};
-ghost use Rattle.text.specs.Written.{Wrote, WroteUpto, number, spaced, line};
+ghost use Rattle.text.specs.Written.{Wrote, WroteUpto, number, spaced, pair};
 
 pub fn put(out: &mut [u8], at: usize, byte: u8) -> usize
     requires { ⌜ at < length (now out) ⌝ }
@@ -47,13 +47,22 @@ pub fn put_spaced(out: &mut [u8], at: usize, v: u32) -> usize
     put_number(out, n, v)
 }
 
-// A line of a word and two numbers.
-pub fn put_line(out: &mut [u8], at: usize, word: &[u8], a: u32, b: u32) -> usize
-    requires { ⌜ at + length (now word) + 23 ≤ length (now out) ⌝ }
-    ensures { λ r. ⌜ WroteUpto (length (now (word .entry)) + 23) (now (out .entry)) at (line (now (word .entry)) a b) (now (out .exit)) r ⌝ }
+// Two numbers, with words before, between and after them.
+pub fn put_pair(
+    out: &mut [u8],
+    at: usize,
+    first: &[u8],
+    a: u32,
+    between: &[u8],
+    b: u32,
+    last: &[u8],
+) -> usize
+    requires { ⌜ at + length (now first) + length (now between) + length (now last) + 20 ≤ length (now out) ⌝ }
+    ensures { λ r. ⌜ WroteUpto (length (now (first .entry)) + length (now (between .entry)) + length (now (last .entry)) + 20) (now (out .entry)) at (pair (now (first .entry)) a (now (between .entry)) b (now (last .entry))) (now (out .exit)) r ⌝ }
 {
-    let n = put_word(out, at, word);
-    let m = put_spaced(out, n, a);
-    let k = put_spaced(out, m, b);
-    put(out, k, b'\n')
+    let n = put_word(out, at, first);
+    let m = put_number(out, n, a);
+    let k = put_word(out, m, between);
+    let l = put_number(out, k, b);
+    put_word(out, l, last)
 }

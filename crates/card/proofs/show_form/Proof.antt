@@ -13,11 +13,11 @@ show-refusal-requires c κs = search needs
 returns : tie.Need-returns
 returns c = search needs
 
-slice-aggregate-form-of : tie.Need-slice-aggregate-form-of
-slice-aggregate-form-of c = search needs
+slice-aggregate-text-of : tie.Need-slice-aggregate-text-of
+slice-aggregate-text-of c = search needs
 
-form-of-requires : tie.Need-form-of-requires
-form-of-requires c κs =
+text-of-requires : tie.Need-text-of-requires
+text-of-requires c κs =
     let here = c .before in
     let read = here .before .before .before .read-board .ensures in
     (search needs, record { sound = read .sound; table = table _ _ read (here .if1 .left); gathered = gathered _ _ read (here .if1 .left) })
@@ -41,8 +41,8 @@ show-form-spec =
     read-board-requires
     show-refusal-requires
     returns
-    slice-aggregate-form-of
-    form-of-requires
+    slice-aggregate-text-of
+    text-of-requires
     array-share-prefix-out
     slice-aggregate-write-all
     write-all-requires

@@ -22,14 +22,17 @@ find-requires c κs = search needs
 add-line : tie.Need-add-line Inv-loop μ-loop
 add-line c = search needs
 
-sub-add-line : tie.Need-sub-add-line Inv-loop μ-loop
-sub-add-line c = search needs
+sub-said : tie.Need-sub-said Inv-loop μ-loop
+sub-said c = search needs
 
-part-add-line-start : tie.Need-part-add-line-start Inv-loop μ-loop
-part-add-line-start c = search needs
+part-said-start : tie.Need-part-said-start Inv-loop μ-loop
+part-said-start c = search needs
 
-part-add-line-end : tie.Need-part-add-line-end Inv-loop μ-loop
-part-add-line-end c = search needs
+part-said-end : tie.Need-part-said-end Inv-loop μ-loop
+part-said-end c = search needs
+
+said-requires : tie.Need-said-requires Inv-loop μ-loop
+said-requires c κs = search needs
 
 add-line-requires : tie.Need-add-line-requires Inv-loop μ-loop
 add-line-requires c κs = search needs
@@ -76,9 +79,10 @@ board-of-spec =
     loop-holds
     find-requires
     add-line
-    sub-add-line
-    part-add-line-start
-    part-add-line-end
+    sub-said
+    part-said-start
+    part-said-end
+    said-requires
     add-line-requires
     enum-known-next
     enum-known-reason

@@ -4,14 +4,11 @@ use Rattle.text.proofs.Writing.{wrote-both}
 use Rattle.card.proofs.records.put_node.Statement.{statement}
 use Rattle.card.proofs.records.put_node.Tie as tie
 
+put-two-requires : tie.Need-put-two-requires
+put-two-requires c κs = search needs
+
 put-u16-requires : tie.Need-put-u16-requires
 put-u16-requires c κs = search needs
-
-put-u16-requires-2 : tie.Need-put-u16-requires-2
-put-u16-requires-2 c κs = search needs
-
-put-u16-requires-3 : tie.Need-put-u16-requires-3
-put-u16-requires-3 c κs = search needs
 
 put-u32-requires : tie.Need-put-u32-requires
 put-u32-requires c κs = search needs
@@ -24,21 +21,11 @@ same-length c = search needs
 
 returns : tie.Need-returns
 returns c =
-    let fifth = c .before .before in
-    let fourth = fifth .before .before .before .before in
+    let fourth = c .before .before in
     let third = fourth .before .before .before .before in
     let second = third .before .before .before .before in
     let first = second .before .before .before .before in
-    wrote-both (wrote-both (wrote-both (wrote-both (first .put-u16 .ensures) (second .put-u162 .ensures)) (third .put-u163 .ensures)) (fourth .put-u32 .ensures)) (fifth .put-u322 .ensures)
+    wrote-both (wrote-both (wrote-both (first .put-two .ensures) (second .put-u16 .ensures)) (third .put-u32 .ensures)) (fourth .put-u322 .ensures)
 
 pub put-node-spec : {M : Type 1} → statement M
-put-node-spec =
-    tie.close
-    (tie.spec
-    put-u16-requires
-    put-u16-requires-2
-    put-u16-requires-3
-    put-u32-requires
-    put-u32-requires-2
-    same-length
-    returns)
+put-node-spec = tie.close (tie.spec put-two-requires put-u16-requires put-u32-requires put-u32-requires-2 same-length returns)

@@ -1,4 +1,4 @@
--- `card::write::put_nodes` meets its contract: each line takes at most 64 bytes. Assumes nothing.
+-- `card::write::put_nodes` meets its contract: each line takes at most 81 bytes. Assumes nothing.
 use mathlib.Core.Path.{_≡_}
 use Prim.Native.Nat.{_≤_, _+_, _*_, _-_}
 use lib.ListN.{length}
@@ -7,10 +7,10 @@ use Rattle.card.proofs.write.put_nodes.Statement.{statement}
 use Rattle.card.proofs.write.put_nodes.Tie as tie
 
 abbrev Inv-loop : tie.InvT-loop
-Inv-loop out₀ at board n₀ i₀ out n i = (i ≤ board .count) × (n ≤ at + 64 * i) × (length out ≡ length out₀)
+Inv-loop out₀ at form board n₀ i₀ out n i = (i ≤ board .count) × (n ≤ at + 81 * i) × (length out ≡ length out₀)
 
 abbrev μ-loop : tie.MeasureT-loop
-μ-loop out₀ at board n₀ i₀ out n i = board .count - i
+μ-loop out₀ at form board n₀ i₀ out n i = board .count - i
 
 loop-holds : tie.Need-loop-holds Inv-loop μ-loop
 loop-holds c = search needs

@@ -1,4 +1,4 @@
--- `card::write::put_wires` meets its contract: each line takes at most 32 bytes. Assumes nothing.
+-- `card::write::put_wires` meets its contract: each line takes at most 43 bytes. Assumes nothing.
 use mathlib.Core.Path.{_≡_}
 use Prim.Native.Nat.{_≤_, _<_, _+_, _*_, _-_}
 use lib.ListN.{length}
@@ -9,10 +9,10 @@ use Rattle.card.proofs.write.put_wires.Statement.{statement}
 use Rattle.card.proofs.write.put_wires.Tie as tie
 
 abbrev Inv-loop : tie.InvT-loop
-Inv-loop out₀ at board n₀ i₀ out n i = (i ≤ board .wires) × (n ≤ at + 32 * i) × (length out ≡ length out₀)
+Inv-loop out₀ at places count form board n₀ i₀ out n i = (i ≤ board .wires) × (n ≤ at + 43 * i) × (length out ≡ length out₀)
 
 abbrev μ-loop : tie.MeasureT-loop
-μ-loop out₀ at board n₀ i₀ out n i = board .wires - i
+μ-loop out₀ at places count form board n₀ i₀ out n i = board .wires - i
 
 loop-holds : tie.Need-loop-holds Inv-loop μ-loop
 loop-holds c = search needs
@@ -37,11 +37,14 @@ ends c =
     let e = wire-ends (start .args .t3) (start .pre .1) (turn .before .loop .i) (turn .loop-test .taken) in
     (omega (arith, e .0, c .before .before .wide .ensures), omega (arith, e .1, c .wide2 .ensures))
 
+is-late-requires : tie.Need-is-late-requires Inv-loop μ-loop
+is-late-requires c κs = ends c
+
 cast-put-wire : tie.Need-cast-put-wire Inv-loop μ-loop
-cast-put-wire c = omega (arith, ends (c .before) .0)
+cast-put-wire c = omega (arith, ends (c .before .before) .0)
 
 cast-put-wire-2 : tie.Need-cast-put-wire-2 Inv-loop μ-loop
-cast-put-wire-2 c = omega (arith, ends (c .before) .1)
+cast-put-wire-2 c = omega (arith, ends (c .before .before) .1)
 
 put-wire-requires : tie.Need-put-wire-requires Inv-loop μ-loop
 put-wire-requires c κs = search needs
@@ -72,6 +75,7 @@ put-wires-spec =
     wide-requires
     element-copy-out-wide-2
     wide-requires-2
+    is-late-requires
     cast-put-wire
     cast-put-wire-2
     put-wire-requires

@@ -4,9 +4,9 @@ use Prim.Native.Nat.{ℕ, _≤_, _<_, _+_, _-_, _*_}
 use native.Mathlib.Omega.{arith}
 use borrow.Author.Needs.{needs}
 use lib.ListN.{length, take}
-use Rattle.text.specs.Written.{WroteUpto}
+use Rattle.text.specs.Written.{WroteUpto, spaced}
 use Rattle.order.specs.Text.{spacedAll}
-use Rattle.text.proofs.Digits.{spaced-short}
+use Rattle.text.proofs.Digits.{two-digits}
 use Rattle.text.proofs.Writing.{wrote-none, wrote-both}
 use Rattle.order.proofs.Writing.{all-snoc}
 use Rattle.order.proofs.lines.put_nodes.Statement.{statement}
@@ -47,6 +47,7 @@ loop-less : tie.Need-loop-less Inv-loop μ-loop
 loop-less c = omega arith
 
 loop-again : tie.Need-loop-again Inv-loop μ-loop
+unfolding spaced
 loop-again c =
     let turn = c .before .before .before .before .before .before in
     let at = turn .before .loop in
@@ -57,7 +58,7 @@ loop-again c =
       omega arith,
       record {
         wrote = rw (all-snoc list (at .i) (found .wide .result) (found .wide .ensures) inside) (wrote-both (at .inv .1 .wrote) w);
-        short = omega (arith, at .inv .1 .short, w .next, spaced-short (found .wide .result) (omega (arith, listed-node found)));
+        short = omega (arith, at .inv .1 .short, w .next, two-digits (found .wide .result) (omega (arith, listed-node found)));
       },
     )
 

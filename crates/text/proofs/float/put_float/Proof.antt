@@ -1,15 +1,12 @@
--- `card::write::put_float` meets its contract: a decimal that was found has at most 10 places. Assumes nothing.
+-- `text::float::put_float` meets its contract: a decimal that was found has at most 10 places. Assumes nothing.
 use mathlib.Core.Path.{subst}
 use Rattle.text.specs.Decimal.{Prints}
 use borrow.Author.Needs.{needs}
-use Rattle.card.proofs.write.put_float.Statement.{statement}
-use Rattle.card.proofs.write.put_float.Tie as tie
+use Rattle.text.proofs.float.put_float.Statement.{statement}
+use Rattle.text.proofs.float.put_float.Tie as tie
 
 to-bits-requires : tie.Need-to-bits-requires
 to-bits-requires c κs = search needs
-
-put-requires : tie.Need-put-requires
-put-requires c κs = search needs
 
 decimal-of-requires : tie.Need-decimal-of-requires
 decimal-of-requires c κs = search needs
@@ -48,7 +45,6 @@ put-float-spec =
     tie.close
     (tie.spec
     to-bits-requires
-    put-requires
     decimal-of-requires
     enum-known-digits
     put-sign-requires

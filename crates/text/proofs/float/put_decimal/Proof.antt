@@ -1,9 +1,9 @@
--- `card::write::put_decimal` meets its contract: the part before the point is no larger than the digits. Assumes nothing.
+-- `text::float::put_decimal` meets its contract: the part before the point is no larger than the digits. Assumes nothing.
 use native.Mathlib.Nat.{div-le-self}
 use native.Mathlib.Omega.{arith}
 use borrow.Author.Needs.{needs}
-use Rattle.card.proofs.write.put_decimal.Statement.{statement}
-use Rattle.card.proofs.write.put_decimal.Tie as tie
+use Rattle.text.proofs.float.put_decimal.Statement.{statement}
+use Rattle.text.proofs.float.put_decimal.Tie as tie
 
 power-requires : tie.Need-power-requires
 power-requires c κs = search needs
@@ -28,8 +28,8 @@ returns c = search needs
 put-requires : tie.Need-put-requires
 put-requires c κs = search needs
 
-put-places-requires : tie.Need-put-places-requires
-put-places-requires c κs = search needs
+put-digits-requires : tie.Need-put-digits-requires
+put-digits-requires c κs = search needs
 
 same-length-2 : tie.Need-same-length-2
 same-length-2 c = search needs
@@ -48,6 +48,6 @@ put-decimal-spec =
     same-length
     returns
     put-requires
-    put-places-requires
+    put-digits-requires
     same-length-2
     returns-2)
