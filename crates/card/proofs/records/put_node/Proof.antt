@@ -4,21 +4,6 @@ use Rattle.text.proofs.Writing.{wrote-both}
 use Rattle.card.proofs.records.put_node.Statement.{statement}
 use Rattle.card.proofs.records.put_node.Tie as tie
 
-put-two-requires : tie.Need-put-two-requires
-put-two-requires c κs = search needs
-
-put-u16-requires : tie.Need-put-u16-requires
-put-u16-requires c κs = search needs
-
-put-u32-requires : tie.Need-put-u32-requires
-put-u32-requires c κs = search needs
-
-put-u32-requires-2 : tie.Need-put-u32-requires-2
-put-u32-requires-2 c κs = search needs
-
-same-length : tie.Need-same-length
-same-length c = search needs
-
 returns : tie.Need-returns
 returns c =
     let fourth = c .before .before in
@@ -28,4 +13,7 @@ returns c =
     wrote-both (wrote-both (wrote-both (first .put-two .ensures) (second .put-u16 .ensures)) (third .put-u32 .ensures)) (fourth .put-u322 .ensures)
 
 pub put-node-spec : {M : Type 1} → statement M
-put-node-spec = tie.close (tie.spec put-two-requires put-u16-requires put-u32-requires put-u32-requires-2 same-length returns)
+put-node-spec =
+    tie.close
+    (tie.spec (λ c κs. search needs) (λ c κs. search needs) (λ c κs. search needs) (λ c κs. search needs)
+    (λ c. search needs) returns)

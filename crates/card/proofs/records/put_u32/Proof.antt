@@ -21,22 +21,12 @@ halves v =
     let d : v / 16777216 % 256 ≡ high / 256 % 256 = ap (λ (n : ℕ). n % 256) (sym (div-div-eq-div-mul v 65536 256)) in
     cc
 
-cast-put-two : tie.Need-cast-put-two
-cast-put-two c = search needs
-
-cast-put-two-2 : tie.Need-cast-put-two-2
-cast-put-two-2 c = search needs
-
-put-two-requires : tie.Need-put-two-requires
-put-two-requires c κs = search needs
-
-same-length : tie.Need-same-length
-same-length c = search needs
-
 returns : tie.Need-returns
 returns c =
     let v = c .before .before .before .before .before .args .v in
     rw (halves v) (c .before .before .put-two .ensures)
 
 pub put-u32-spec : {M : Type 1} → statement M
-put-u32-spec = tie.close (tie.spec cast-put-two cast-put-two-2 put-two-requires same-length returns)
+put-u32-spec =
+    tie.close
+    (tie.spec (λ c. search needs) (λ c. search needs) (λ c κs. search needs) (λ c. search needs) returns)

@@ -14,21 +14,6 @@ Inv-loop out₀ at places count form board n₀ i₀ out n i = (i ≤ board .wir
 abbrev μ-loop : tie.MeasureT-loop
 μ-loop out₀ at places count form board n₀ i₀ out n i = board .wires - i
 
-loop-holds : tie.Need-loop-holds Inv-loop μ-loop
-loop-holds c = search needs
-
-element-copy-out-wide : tie.Need-element-copy-out-wide Inv-loop μ-loop
-element-copy-out-wide c = search needs
-
-wide-requires : tie.Need-wide-requires Inv-loop μ-loop
-wide-requires c κs = search needs
-
-element-copy-out-wide-2 : tie.Need-element-copy-out-wide-2 Inv-loop μ-loop
-element-copy-out-wide-2 c = search needs
-
-wide-requires-2 : tie.Need-wide-requires-2 Inv-loop μ-loop
-wide-requires-2 c κs = search needs
-
 -- both ends are nodes
 ends : (c : tie.After-wide2 Inv-loop μ-loop) → (c .before .before .wide .result < 64) × (c .wide2 .result < 64)
 ends c =
@@ -46,41 +31,10 @@ cast-put-wire c = omega (arith, ends (c .before .before) .0)
 cast-put-wire-2 : tie.Need-cast-put-wire-2 Inv-loop μ-loop
 cast-put-wire-2 c = omega (arith, ends (c .before .before) .1)
 
-put-wire-requires : tie.Need-put-wire-requires Inv-loop μ-loop
-put-wire-requires c κs = search needs
-
-add-i : tie.Need-add-i Inv-loop μ-loop
-add-i c = search needs
-
-loop-less : tie.Need-loop-less Inv-loop μ-loop
-loop-less c = search needs
-
-loop-again : tie.Need-loop-again Inv-loop μ-loop
-loop-again c = search needs
-
-same-length : tie.Need-same-length Inv-loop μ-loop
-same-length c = search needs
-
-returns : tie.Need-returns Inv-loop μ-loop
-returns c = search needs
-
 pub put-wires-spec : {M : Type 1} → statement M
 put-wires-spec =
     tie.close
-    (tie.spec
-    Inv-loop
-    μ-loop
-    loop-holds
-    element-copy-out-wide
-    wide-requires
-    element-copy-out-wide-2
-    wide-requires-2
-    is-late-requires
-    cast-put-wire
-    cast-put-wire-2
-    put-wire-requires
-    add-i
-    loop-less
-    loop-again
-    same-length
-    returns)
+    (tie.spec Inv-loop μ-loop (λ c. search needs) (λ c. search needs) (λ c κs. search needs)
+    (λ c. search needs) (λ c κs. search needs) is-late-requires cast-put-wire cast-put-wire-2
+    (λ c κs. search needs) (λ c. search needs) (λ c. search needs) (λ c. search needs) (λ c. search needs)
+    (λ c. search needs))

@@ -5,20 +5,11 @@ use borrow.Author.Needs.{needs}
 use Rattle.card.proofs.write.text_of.Statement.{statement}
 use Rattle.card.proofs.write.text_of.Tie as tie
 
-visiting-list-requires : tie.Need-visiting-list-requires
-visiting-list-requires c κs = search needs
-
 places-requires : tie.Need-places-requires
 places-requires c κs =
     let found = c .before .before in
     let l = found .visiting-list .ensures _ (found .before .before .before .before .before .before .pre .1 .gathered) in
     (l .size, l .fits, l .below)
-
-put-board-requires : tie.Need-put-board-requires
-put-board-requires c κs = search needs
-
-same-length : tie.Need-same-length
-same-length c = search needs
 
 returns : tie.Need-returns
 returns c =
@@ -28,4 +19,4 @@ returns c =
 pub text-of-spec : {M : Type 1} → statement M
 text-of-spec =
     tie.close
-    (tie.spec visiting-list-requires places-requires put-board-requires same-length returns)
+    (tie.spec (λ c κs. search needs) places-requires (λ c κs. search needs) (λ c. search needs) returns)

@@ -10,15 +10,6 @@ use borrow.Author.Needs.{needs}
 use Rattle.order.proofs.lines.board_text.Statement.{statement}
 use Rattle.order.proofs.lines.board_text.Tie as tie
 
-read-board-requires : tie.Need-read-board-requires
-read-board-requires c κs = search needs
-
-refusal-text-requires : tie.Need-refusal-text-requires
-refusal-text-requires c κs = search needs
-
-same-length : tie.Need-same-length
-same-length c = search needs
-
 returns : tie.Need-returns
 unfolding textOf
 returns c =
@@ -36,9 +27,6 @@ order-text-requires c κs =
       (table _ _ read (here .if1 .left), gathered _ _ read (here .if1 .left)),
     )
 
-same-length-2 : tie.Need-same-length-2
-same-length-2 c = search needs
-
 returns-2 : tie.Need-returns-2
 unfolding textOf
 returns-2 c =
@@ -51,11 +39,5 @@ returns-2 c =
 pub board-text-spec : {M : Type 1} → statement M
 board-text-spec =
     tie.close
-    (tie.spec
-    read-board-requires
-    refusal-text-requires
-    same-length
-    returns
-    order-text-requires
-    same-length-2
-    returns-2)
+    (tie.spec (λ c κs. search needs) (λ c κs. search needs) (λ c. search needs) returns order-text-requires
+    (λ c. search needs) returns-2)

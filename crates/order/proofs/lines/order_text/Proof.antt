@@ -15,9 +15,6 @@ use borrow.Author.Needs.{needs}
 use Rattle.order.proofs.lines.order_text.Statement.{statement}
 use Rattle.order.proofs.lines.order_text.Tie as tie
 
-visiting-list-requires : tie.Need-visiting-list-requires
-visiting-list-requires c κs = search needs
-
 -- the visiting list of the wires
 listed : (c : tie.After-visiting-list) →
     let a = c .before .before .args in
@@ -53,9 +50,6 @@ put-lates-requires c κs =
       (long, first .before .before .before .places .ensures),
     )
 
-same-length : tie.Need-same-length
-same-length c = search needs
-
 returns : tie.Need-returns
 unfolding orderText
 returns c =
@@ -70,10 +64,5 @@ returns c =
 pub order-text-spec : {M : Type 1} → statement M
 order-text-spec =
     tie.close
-    (tie.spec
-    visiting-list-requires
-    places-requires
-    put-order-requires
-    put-lates-requires
-    same-length
+    (tie.spec (λ c κs. search needs) places-requires put-order-requires put-lates-requires (λ c. search needs)
     returns)

@@ -28,14 +28,8 @@ loop-holds c = (omega arith, record { wrote = wrote-none _ _ (omega arith); shor
 element-copy-out-wide : tie.Need-element-copy-out-wide Inv-loop μ-loop
 element-copy-out-wide c = omega arith
 
-wide-requires : tie.Need-wide-requires Inv-loop μ-loop
-wide-requires c κs = search needs
-
 element-copy-out-wide-2 : tie.Need-element-copy-out-wide-2 Inv-loop μ-loop
 element-copy-out-wide-2 c = omega arith
-
-wide-requires-2 : tie.Need-wide-requires-2 Inv-loop μ-loop
-wide-requires-2 c κs = search needs
 
 -- the wire's two ends are nodes
 ends : (c : tie.After-wide2 Inv-loop μ-loop) → (c .before .before .wide .result < 64) × (c .wide2 .result < 64)
@@ -101,18 +95,5 @@ returns c =
 pub put-lates-spec : {M : Type 1} → statement M
 put-lates-spec =
     tie.close
-    (tie.spec
-    Inv-loop
-    μ-loop
-    loop-holds
-    element-copy-out-wide
-    wide-requires
-    element-copy-out-wide-2
-    wide-requires-2
-    is-late-requires
-    put-late-requires
-    add-i
-    loop-less
-    loop-again
-    same-length
-    returns)
+    (tie.spec Inv-loop μ-loop loop-holds element-copy-out-wide (λ c κs. search needs) element-copy-out-wide-2
+    (λ c κs. search needs) is-late-requires put-late-requires add-i loop-less loop-again same-length returns)

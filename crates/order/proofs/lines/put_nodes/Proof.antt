@@ -25,9 +25,6 @@ loop-holds c = (omega arith, record { wrote = wrote-none _ _ (omega arith); shor
 element-copy-out-wide : tie.Need-element-copy-out-wide Inv-loop μ-loop
 element-copy-out-wide c = omega arith
 
-wide-requires : tie.Need-wide-requires Inv-loop μ-loop
-wide-requires c κs = search needs
-
 -- the listed number is a node
 listed-node : (c : tie.After-wide Inv-loop μ-loop) → c .wide .result < 64
 listed-node c =
@@ -75,16 +72,5 @@ returns c =
 pub put-nodes-spec : {M : Type 1} → statement M
 put-nodes-spec =
     tie.close
-    (tie.spec
-    Inv-loop
-    μ-loop
-    loop-holds
-    element-copy-out-wide
-    wide-requires
-    cast-put-spaced
-    put-spaced-requires
-    add-i
-    loop-less
-    loop-again
-    same-length
-    returns)
+    (tie.spec Inv-loop μ-loop loop-holds element-copy-out-wide (λ c κs. search needs) cast-put-spaced
+    put-spaced-requires add-i loop-less loop-again same-length returns)

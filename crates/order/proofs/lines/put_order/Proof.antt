@@ -4,21 +4,6 @@ use borrow.Author.Needs.{needs}
 use Rattle.order.proofs.lines.put_order.Statement.{statement}
 use Rattle.order.proofs.lines.put_order.Tie as tie
 
-slice-aggregate-put-word : tie.Need-slice-aggregate-put-word
-slice-aggregate-put-word c = search needs
-
-put-word-requires : tie.Need-put-word-requires
-put-word-requires c κs = search needs
-
-put-nodes-requires : tie.Need-put-nodes-requires
-put-nodes-requires c κs = search needs
-
-put-requires : tie.Need-put-requires
-put-requires c κs = search needs
-
-same-length : tie.Need-same-length
-same-length c = search needs
-
 returns : tie.Need-returns
 returns c =
     let last = c .before .before in
@@ -32,10 +17,5 @@ returns c =
 pub put-order-spec : {M : Type 1} → statement M
 put-order-spec =
     tie.close
-    (tie.spec
-    slice-aggregate-put-word
-    put-word-requires
-    put-nodes-requires
-    put-requires
-    same-length
-    returns)
+    (tie.spec (λ c. search needs) (λ c κs. search needs) (λ c κs. search needs) (λ c κs. search needs)
+    (λ c. search needs) returns)

@@ -18,12 +18,6 @@ powers = 1 ∷ 10 ∷ 100 ∷ 1000 ∷ 10000 ∷ 100000 ∷ 1000000 ∷ 10000000
 right : ℕ → Bool
 right k = eqb (getD powers k 0) (10 ^ k)
 
-mul-result : tie.Need-mul-result
-mul-result c = search needs
-
-array-read-result : tie.Need-array-read-result
-array-read-result c = search needs
-
 returns : tie.Need-returns
 unfolding powers right
 returns c =
@@ -32,4 +26,6 @@ returns c =
     (e, omega (arith, e, one-le-pow k 10 (omega arith)), omega (arith, e, pow-le-pow-right {n = 10} (omega arith) {i = k} {j = 10} (omega arith)))
 
 pub power-spec : {M : Type 1} → statement M
-power-spec = tie.close (tie.spec mul-result array-read-result returns)
+power-spec =
+    tie.close
+    (tie.spec (λ c. search needs) (λ c. search needs) returns)

@@ -11,9 +11,6 @@ use Rattle.text.proofs.decimal.product.Tie as tie
 int-to-float-result : tie.Need-int-to-float-result
 int-to-float-result c = digits-fit _ (c .before .pre .0)
 
-ten-requires : tie.Need-ten-requires
-ten-requires c κs = search needs
-
 returns : tie.Need-returns
 unfolding times
 returns c =
@@ -22,4 +19,6 @@ returns c =
     times-at (ofInt binary32 (pos (a .digits))) (c .ten .result) (a .digits) (10 ^ a .k) (digits-value (a .digits) (start .pre .0)) (c .ten .ensures)
 
 pub product-spec : {M : Type 1} → statement M
-product-spec = tie.close (tie.spec int-to-float-result ten-requires returns)
+product-spec =
+    tie.close
+    (tie.spec int-to-float-result (λ c κs. search needs) returns)

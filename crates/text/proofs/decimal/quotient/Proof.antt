@@ -11,9 +11,6 @@ use Rattle.text.proofs.decimal.quotient.Tie as tie
 int-to-float-result : tie.Need-int-to-float-result
 int-to-float-result c = digits-fit _ (c .before .pre .0)
 
-ten-requires : tie.Need-ten-requires
-ten-requires c κs = search needs
-
 returns : tie.Need-returns
 unfolding over
 returns c =
@@ -22,4 +19,6 @@ returns c =
     over-at (ofInt binary32 (pos (a .digits))) (c .ten .result) (a .digits) (10 ^ a .k) (tens-pos (a .k)) (digits-value (a .digits) (start .pre .0)) (c .ten .ensures)
 
 pub quotient-spec : {M : Type 1} → statement M
-quotient-spec = tie.close (tie.spec int-to-float-result ten-requires returns)
+quotient-spec =
+    tie.close
+    (tie.spec int-to-float-result (λ c κs. search needs) returns)

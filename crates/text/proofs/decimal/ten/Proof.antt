@@ -29,12 +29,6 @@ tens =
 right : ℕ → Bool
 right k = whole (getD tens k nan) (10 ^ k)
 
-mul-result : tie.Need-mul-result
-mul-result c = search needs
-
-array-read-result : tie.Need-array-read-result
-array-read-result c = search needs
-
 returns : tie.Need-returns
 unfolding tens right ofBits
 returns c =
@@ -42,4 +36,6 @@ returns c =
     whole-value (getD tens k nan) (10 ^ k) (every-at right 11 tt k (omega arith))
 
 pub ten-spec : {M : Type 1} → statement M
-ten-spec = tie.close (tie.spec mul-result array-read-result returns)
+ten-spec =
+    tie.close
+    (tie.spec (λ c. search needs) (λ c. search needs) returns)

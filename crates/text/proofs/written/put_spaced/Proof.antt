@@ -5,15 +5,6 @@ use Rattle.text.proofs.Writing.{wrote-both}
 use Rattle.text.proofs.written.put_spaced.Statement.{statement}
 use Rattle.text.proofs.written.put_spaced.Tie as tie
 
-put-requires : tie.Need-put-requires
-put-requires c κs = search needs
-
-put-number-requires : tie.Need-put-number-requires
-put-number-requires c κs = search needs
-
-same-length : tie.Need-same-length
-same-length c = search needs
-
 returns : tie.Need-returns
 unfolding spaced
 returns c =
@@ -21,4 +12,6 @@ returns c =
     record { wrote = wrote-both (second .before .before .before .before .put .ensures) (second .put-number .ensures .wrote); short = search needs }
 
 pub put-spaced-spec : {M : Type 1} → statement M
-put-spaced-spec = tie.close (tie.spec put-requires put-number-requires same-length returns)
+put-spaced-spec =
+    tie.close
+    (tie.spec (λ c κs. search needs) (λ c κs. search needs) (λ c. search needs) returns)
