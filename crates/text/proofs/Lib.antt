@@ -3,3 +3,4 @@ pub mod Writing
 pub mod Digits
 pub mod Scaling
 pub mod Tens
+pub mod Reading

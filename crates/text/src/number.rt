@@ -1,7 +1,8 @@
 // Numbers of a text: whole numbers, and floats as decimals or as bits.
 ghost use mathlib.Core.Path.{_≡_};
 ghost use Prim.Native.Nat.{_<_, _≤_};
-ghost use lib.ListN.{length};
+ghost use lib.ListN.{length, drop};
+ghost use Rattle.text.specs.Number.{digitOf, more, digitsFrom, wholeOf};
 use crate::decimal::product;
 use crate::decimal::quotient;
 use leaves::float::to_bits;
@@ -50,7 +51,7 @@ pub enum Float {
 
 // The value of a digit, of base 16 too; 16 for any other byte.
 fn digit_of(byte: u8) -> u64
-    ensures { λ r. ⌜ r ≤ 16 ⌝ }
+    ensures { λ r. ⌜ (r ≡ digitOf byte) × (r ≤ 16) ⌝ }
 {
     if byte < 48 {
         return 16;
@@ -67,25 +68,25 @@ fn digit_of(byte: u8) -> u64
     16
 }
 
-// The largest value of a run of digits.
-const LARGEST: u64 = 42949672959;
+// From this on a number is too large for every field, and is read as this.
+const LARGEST: u64 = 42949672960;
 
-// One decimal digit more. From 2^32 on a value is too large for every field, and stays.
+// One decimal digit more.
 fn appended(value: u64, digit: u64) -> u64
-    requires { ⌜ (value < 42949672960) × (digit < 10) ⌝ }
-    ensures { λ r. ⌜ r < 42949672960 ⌝ }
+    requires { ⌜ (value ≤ 42949672960) × (digit < 10) ⌝ }
+    ensures { λ r. ⌜ (r ≡ more value digit) × (r ≤ 42949672960) ⌝ }
 {
     if value < 4294967296 {
         value * 10 + digit
     } else {
-        value
+        LARGEST
     }
 }
 
 // The decimal digits from `at` on, appended to those of `start`.
 fn digits_from(s: &[u8], at: usize, start: u64) -> Run
-    requires { ⌜ (at ≤ length (now s)) × (start < 42949672960) ⌝ }
-    ensures { λ r. ⌜ (at ≤ r .next) × (r .next ≤ length (now (s .entry))) × (r .value < 42949672960) ⌝ }
+    requires { ⌜ (at ≤ length (now s)) × (start ≤ 42949672960) ⌝ }
+    ensures { λ r. ⌜ (at ≤ r .next) × (r .next ≤ length (now (s .entry))) × (r .value ≤ 42949672960) × (r ≡ digitsFrom (drop at (now (s .entry))) start at) ⌝ }
 {
     let mut value = start;
     let mut i = at;
@@ -102,7 +103,7 @@ fn digits_from(s: &[u8], at: usize, start: u64) -> Run
 
 // A whole number up to `most`.
 pub fn whole_of(word: &[u8], most: u64) -> Whole
-    ensures { λ r. ⌜ r .value ≤ most ⌝ }
+    ensures { λ r. ⌜ (r .value ≤ most) × (r ≡ wholeOf (now (word .entry)) most) ⌝ }
 {
     let run = digits_from(word, 0, 0);
     let bad = Whole {
@@ -157,7 +158,7 @@ fn digits_of(word: &[u8], at: usize) -> Digits
 // The power of ten from `at` on: none, or `e` and a whole number, perhaps with a minus.
 fn power_of(word: &[u8], at: usize) -> Power
     requires { ⌜ at ≤ length (now word) ⌝ }
-    ensures { λ r. ⌜ (r .up < 42949672960) × (r .down < 42949672960) ⌝ }
+    ensures { λ r. ⌜ (r .up ≤ 42949672960) × (r .down ≤ 42949672960) ⌝ }
 {
     if at == word.len() {
         return Power::new(0, 0, true);
