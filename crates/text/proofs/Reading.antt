@@ -2,17 +2,19 @@
 use mathlib.Core.Path.{_≡_, refl, sym, ap, _∙_}
 use mathlib.Core.Bool.{Bool, true, false, cond}
 use mathlib.Core.List.{List, [], _∷_}
-use Prim.Native.Nat.{ℕ, zero, suc, _+_, _-_, _<_, _≤_}
+use Prim.Native.Nat.{ℕ, zero, suc, _+_, _-_, _*_, _^_, _<_, _≤_}
 use native.Mathlib.Decide.{decLt}
+use native.Mathlib.Nat.{pow-suc, pow-le-pow-right}
 use native.Mathlib.Numerals.{add-one}
 use native.Mathlib.Omega.{arith}
-use borrow.Author.Tests.{lt-ltb, le-ltb, le-leb, lt-leb}
+use borrow.Author.Tests.{lt-ltb, le-ltb, le-leb, lt-leb, eq-eqb, ne-eqb}
 use lib.Dec.{ltb}
 use lib.ListN.{length, drop, getD, drop-of-length-le}
 use lib.Seq.{drop-cons}
+use Rattle.text.specs.declared.number.Float.the-variants.{Is, Bad}
 use Rattle.text.specs.declared.number.Run.{Run}
 use Rattle.text.specs.declared.number.Whole.{Whole}
-use Rattle.text.specs.Number.{digitOf, more, digitsFrom, is, none, readFrom, upto, wholeOf}
+use Rattle.text.specs.Number.{digitOf, more, digitsFrom, is, none, readFrom, upto, wholeOf, hexFrom, bitsOf}
 
 -- ---- a digit, by its range
 
@@ -131,3 +133,38 @@ module _ (s : List ℕ) (most : ℕ) (r : Run) (is-run : r ≡ digitsFrom s 0 0)
 
   pub whole-fits : 0 < length s → r .next ≡ length s → r .value ≤ most → is (r .value) ≡ wholeOf s most
   whole-fits p e h = whole-judged p e false (le-ltb most (r .value) h)
+
+-- ---- digits of base 16
+
+module _ (s : List ℕ) (i v : ℕ) where
+  pub hex-more : i < length s → ltb (digitOf (getD s i 0)) 16 ≡ true → hexFrom (drop i s) v ≡ hexFrom (drop (i + 1) s) (v * 16 + digitOf (getD s i 0))
+  unfolding hexFrom
+  hex-more h t =
+      ap (λ (l : List ℕ). hexFrom l v) (drop-cons s i 0 h)
+      ∙ ap (λ (b : Bool). cond b (hexFrom (drop (suc i) s) (v * 16 + digitOf (getD s i 0))) Bad) t
+      ∙ ap (λ (n : ℕ). hexFrom (drop n s) (v * 16 + digitOf (getD s i 0))) (sym (add-one i))
+
+  pub hex-stop : i < length s → ltb (digitOf (getD s i 0)) 16 ≡ false → hexFrom (drop i s) v ≡ Bad
+  unfolding hexFrom
+  hex-stop h t =
+      ap (λ (l : List ℕ). hexFrom l v) (drop-cons s i 0 h)
+      ∙ ap (λ (b : Bool). cond b (hexFrom (drop (suc i) s) (v * 16 + digitOf (getD s i 0))) Bad) t
+
+  pub hex-end : length s ≤ i → hexFrom (drop i s) v ≡ Is v
+  unfolding hexFrom
+  hex-end h = ap (λ (l : List ℕ). hexFrom l v) (drop-of-length-le s h)
+
+pub bits-long : (s : List ℕ) → length s ≡ 9 → hexFrom (drop 1 s) 0 ≡ bitsOf s
+unfolding bitsOf
+bits-long s e = sym (ap (λ (b : Bool). cond b (hexFrom (drop 1 s) 0) Bad) (eq-eqb (length s) 9 e))
+
+pub bits-short : (s : List ℕ) → (length s ≡ 9 → ⊥) → Bad ≡ bitsOf s
+unfolding bitsOf
+bits-short s n = sym (ap (λ (b : Bool). cond b (hexFrom (drop 1 s) 0) Bad) (ne-eqb (length s) 9 n))
+
+-- 8 digits have 32 bits
+pub hex-room : (k : ℕ) → k ≤ 8 → 16 ^ k ≤ 4294967296
+hex-room k h = pow-le-pow-right {n = 16} (omega arith) {i = k} {j = 8} h
+
+pub hex-grow : (k : ℕ) → 16 ^ (k + 1) ≡ 16 ^ k * 16
+hex-grow k = ap (λ (n : ℕ). 16 ^ n) (add-one k) ∙ pow-suc 16 k

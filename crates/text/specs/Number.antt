@@ -1,8 +1,11 @@
 -- Numbers of a text: what a word of digits says. Definitions only.
-use mathlib.Core.Bool.{Bool, true, false, cond}
+use mathlib.Core.Bool.{true, false, cond}
 use mathlib.Core.List.{List, [], _∷_}
-use Prim.Native.Nat.{ℕ, _+_, _-_, _*_, _%_, min}
-use lib.Dec.{ltb, leb}
+use Prim.Native.Nat.{ℕ, _+_, _-_, _*_, min}
+use lib.Dec.{ltb, leb, eqb}
+use lib.ListN.{length, drop}
+use Rattle.text.specs.declared.number.Float.{Float}
+use Rattle.text.specs.declared.number.Float.the-variants.{Is, Bad}
 use Rattle.text.specs.declared.number.Run.{Run}
 use Rattle.text.specs.declared.number.Whole.{Whole}
 
@@ -37,3 +40,12 @@ upto most w = cond (ltb most (w .value)) none w
 unfoldable pub wholeOf : List ℕ → ℕ → Whole
 wholeOf [] most = none
 wholeOf (c ∷ s) most = upto most (readFrom (c ∷ s) 0)
+
+-- digits of base 16 and nothing else, read after the number v
+unfoldable pub hexFrom : List ℕ → ℕ → Float
+hexFrom [] v = Is v
+hexFrom (c ∷ s) v = cond (ltb (digitOf c) 16) (hexFrom s (v * 16 + digitOf c)) Bad
+
+-- a float's bits: 8 digits of base 16 after an `x`
+unfoldable pub bitsOf : List ℕ → Float
+bitsOf word = cond (eqb (length word) 9) (hexFrom (drop 1 word) 0) Bad

@@ -1,8 +1,8 @@
 // Numbers of a text: whole numbers, and floats as decimals or as bits.
 ghost use mathlib.Core.Path.{_≡_};
 ghost use Prim.Native.Nat.{_<_, _≤_};
-ghost use lib.ListN.{length, drop};
-ghost use Rattle.text.specs.Number.{digitOf, more, digitsFrom, wholeOf};
+ghost use lib.ListN.{length, drop, getD};
+ghost use Rattle.text.specs.Number.{digitOf, more, digitsFrom, wholeOf, bitsOf};
 use crate::decimal::product;
 use crate::decimal::quotient;
 use leaves::float::to_bits;
@@ -226,25 +226,29 @@ fn decimal_at(word: &[u8], at: usize, minus: bool) -> Float
 }
 
 // The bits that 8 digits of base 16 after an `x` give.
-fn bits_of(word: &[u8]) -> Float {
+fn bits_of(word: &[u8]) -> Float
+    ensures { λ r. ⌜ r ≡ bitsOf (now (word .entry)) ⌝ }
+{
     if word.len() != 9 {
         return Float::Bad;
     }
     let mut bits: u64 = 0;
-    let mut i = 1;
-    while i < 9 {
-        let digit = digit_of(word[i]);
+    let mut i = 0;
+    while i < 8 {
+        let digit = digit_of(word[i + 1]);
         if 16 <= digit {
             return Float::Bad;
         }
-        bits = bits % 0x1000_0000 * 16 + digit;
+        bits = bits * 16 + digit;
         i += 1;
     }
     Float::Is(bits as u32)
 }
 
 // The float that a word says: a decimal, or `x` and its bits.
-pub fn float_of(word: &[u8]) -> Float {
+pub fn float_of(word: &[u8]) -> Float
+    ensures { λ r. ⌜ (getD (now (word .entry)) 0 0 ≡ 120 → r ≡ bitsOf (now (word .entry))) ⌝ }
+{
     if word.len() == 0 {
         return Float::Bad;
     }
