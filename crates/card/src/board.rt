@@ -10,9 +10,9 @@ use crate::records::put_end;
 use crate::records::put_head;
 use crate::records::put_node;
 use crate::records::put_wire;
-use crate::words::Stop;
-use crate::words::find;
 use graph::judge::judge;
+use text::words::Stop;
+use text::words::find;
 
 // How far a board is written: its bytes, its nodes and its wires.
 pub struct Written {
@@ -91,13 +91,19 @@ fn add_wire(out: &mut [u8], done: Written, source: u16, target: u16) -> Step
     })
 }
 
+// What a line says, its comment aside.
+fn said(line: &[u8]) -> Line {
+    let start = 0;
+    let end = find(line, start, Stop::Byte(b'#'));
+    line_of(&line[start..end])
+}
+
 // The record of a line, after those that are written.
-fn add_line(line: &[u8], out: &mut [u8], done: Written) -> Step
+fn add_line(out: &mut [u8], done: Written, line: Line) -> Step
     requires { ⌜ (1932 ≤ length (now out)) × Room done ⌝ }
     ensures { λ r. ⌜ Stepped r ⌝ }
 {
-    let end = find(line, 0, Stop::Byte(b'#'));
-    match line_of(&line[..end]) {
+    match line {
         Line::Blank => Step::On(done),
         Line::Head(size, input) => add_head(out, done, size, input),
         Line::Node(t, n, f) => add_node(out, done, t, n, f),
@@ -143,7 +149,7 @@ pub fn board_of(text: &[u8], out: &mut [u8]) -> Made
     while start < text.len() {
         let end = find(text, start, Stop::Byte(b'\n'));
         line += 1;
-        match add_line(&text[start..end], out, done) {
+        match add_line(out, done, said(&text[start..end])) {
             Step::On(next) => done = next,
             Step::Bad(reason) => return Made::Bad(line, reason),
         }

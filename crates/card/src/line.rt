@@ -1,11 +1,17 @@
 // One line of a card: the record that it says, or what is wrong with it.
 ghost use Prim.Native.Nat.{_≤_};
 ghost use lib.ListN.{length};
-use crate::number::Float;
-use crate::number::float_of;
-use crate::number::whole_of;
-use crate::words::next_word;
+use crate::names::HEAD;
+use crate::names::NOTHING;
+use crate::names::WIRE;
+use crate::names::has_float;
+use crate::names::has_whole;
+use crate::names::named;
 use check::same;
+use text::number::Float;
+use text::number::float_of;
+use text::number::whole_of;
+use text::words::next_word;
 
 // What is wrong with a line.
 pub enum Reason {
@@ -102,10 +108,13 @@ fn wire_line(line: &[u8], at: usize) -> Line
     Line::Wire(source.value as u16, target.value as u16)
 }
 
-// A node of type t with the whole number n, and the next word as its float.
+// A node of type t with the whole number n, and the next word as its float if it has one.
 fn float_line(line: &[u8], at: usize, t: u16, n: u32) -> Line
     requires { ⌜ at ≤ length (now line) ⌝ }
 {
+    if !has_float(t as usize) {
+        return Line::Node(t, n, 0);
+    }
     let word = next_word(line, at);
     let from = word.from;
     let to = word.to;
@@ -116,58 +125,22 @@ fn float_line(line: &[u8], at: usize, t: u16, n: u32) -> Line
     }
 }
 
-// delay N, allpass N F
-fn long_line(line: &[u8], at: usize, t: u16) -> Line
+// A node of type t: its whole number if it has one, then its float if it has one.
+fn node_line(line: &[u8], at: usize, t: u16) -> Line
     requires { ⌜ at ≤ length (now line) ⌝ }
 {
+    if !has_whole(t as usize) {
+        return float_line(line, at, t, 0);
+    }
     let samples = whole_field(line, at, 4294967295);
     if !samples.good {
         return Line::Bad(Reason::Whole);
     }
-    let n = samples.value as u32;
-    if t == 7 {
-        return Line::Node(t, n, 0);
-    }
-    float_line(line, samples.next, t, n)
-}
-
-// What a line's first word names: a type by its number, the head, a wire; 0 if it names nothing.
-const HEAD: u16 = 11;
-
-const WIRE: u16 = 12;
-
-fn named(name: &[u8]) -> u16 {
-    if same(name, b"pass") {
-        1
-    } else if same(name, b"sum") {
-        2
-    } else if same(name, b"destination") {
-        3
-    } else if same(name, b"balance") {
-        4
-    } else if same(name, b"mul") {
-        5
-    } else if same(name, b"add") {
-        6
-    } else if same(name, b"delay") {
-        7
-    } else if same(name, b"allpass") {
-        8
-    } else if same(name, b"onepole") {
-        9
-    } else if same(name, b"sine") {
-        10
-    } else if same(name, b"block") {
-        HEAD
-    } else if same(name, b"wire") {
-        WIRE
-    } else {
-        0
-    }
+    float_line(line, samples.next, t, samples.value as u32)
 }
 
 // How many words a line has that begins so.
-fn words_of(named: u16) -> usize {
+fn words_of(named: usize) -> usize {
     match named {
         1 | 2 | 3 | 4 => 1,
         8 => 3,
@@ -178,15 +151,13 @@ fn words_of(named: u16) -> usize {
 }
 
 // What a line says whose first word ends at `at`.
-fn fields_of(line: &[u8], at: usize, named: u16) -> Line
-    requires { ⌜ at ≤ length (now line) ⌝ }
+fn fields_of(line: &[u8], at: usize, named: usize) -> Line
+    requires { ⌜ (at ≤ length (now line)) × (named ≤ 12) ⌝ }
 {
     match named {
-        1 | 2 | 3 | 4 => Line::Node(named, 0, 0),
-        7 | 8 => long_line(line, at, named),
         HEAD => head_line(line, at),
         WIRE => wire_line(line, at),
-        _ => float_line(line, at, named, 0),
+        _ => node_line(line, at, named as u16),
     }
 }
 
@@ -199,7 +170,7 @@ pub fn line_of(line: &[u8]) -> Line {
         return Line::Blank;
     }
     let named = named(&line[from..to]);
-    if named == 0 {
+    if named == NOTHING {
         return Line::Bad(Reason::Name);
     }
     if count_words(line) != words_of(named) {

@@ -21,31 +21,23 @@
 // `card check` reads cards with a `%` between them, and writes of each the board's bytes in base 16, its
 // card and its graph.
 mod board;
-mod decimal;
-mod dot;
 mod line;
-mod number;
+mod names;
 mod records;
-mod text;
-mod words;
+mod write;
 
-ghost use Prim.Native.Nat.{_≤_};
-ghost use lib.ListN.{length};
-ghost use Rattle.io.specs.Counts.{Counts};
-ghost use Rattle.card.specs.Board.{Accepted};
 use board::Made;
 use board::board_of;
 use check::same;
-use dot::dot_of;
-use graph::board::Board;
 use graph::judge::read_board;
 use leaves::bytes::wide;
 use libc::STDIN_FILENO;
 use libc::STDOUT_FILENO;
 use line::Reason;
-use text::text_of;
-use words::Stop;
-use words::find;
+use text::words::Stop;
+use text::words::find;
+use write::Form;
+use write::text_of;
 
 // `refused`, number and place.
 fn show_refusal(number: u32, place: u32) {
@@ -84,23 +76,6 @@ fn show_bad(line: usize, reason: Reason) {
     show_reason(reason);
 }
 
-// What a board is shown as.
-enum Form {
-    Text,
-    Graph,
-}
-
-// The text of a board in a form.
-fn form_of(board: Board, form: Form, out: &mut [u8]) -> usize
-    requires { ⌜ (16384 ≤ length (now out)) × Accepted board ⌝ }
-    ensures { λ r. ⌜ Counts r (now (out .exit)) ⌝ }
-{
-    match form {
-        Form::Text => text_of(board, out),
-        Form::Graph => dot_of(board, out),
-    }
-}
-
 // Board to card, or to graph.
 fn show_form(s: &[u8], form: Form) {
     let board = read_board(s);
@@ -110,7 +85,7 @@ fn show_form(s: &[u8], form: Form) {
         return;
     }
     let mut out = [0u8; 16384];
-    let n = form_of(board, form, &mut out);
+    let n = text_of(board, form, &mut out);
     io::write_all(STDOUT_FILENO, &out[..n]);
 }
 
@@ -131,7 +106,7 @@ fn show_hex(s: &[u8]) {
 fn show_board(s: &[u8], check: bool) {
     if check {
         show_hex(s);
-        show_form(s, Form::Text);
+        show_form(s, Form::Card);
         show_form(s, Form::Graph);
     } else {
         io::write_all(STDOUT_FILENO, s);
@@ -173,7 +148,7 @@ fn run(mode: &[u8], input: &[u8]) {
         }
         show_card(input, false);
     } else if same(mode, b"text") {
-        show_form(input, Form::Text);
+        show_form(input, Form::Card);
     } else if same(mode, b"dot") {
         show_form(input, Form::Graph);
     } else if same(mode, b"check") {

@@ -8,15 +8,6 @@ use borrow.Author.Needs.{needs}
 use Rattle.card.proofs.show_card.Statement.{statement}
 use Rattle.card.proofs.show_card.Tie as tie
 
-slice-aggregate-board-of : tie.Need-slice-aggregate-board-of
-slice-aggregate-board-of c = search needs
-
-board-of-requires : tie.Need-board-of-requires
-board-of-requires c κs = search needs
-
-enum-known-n : tie.Need-enum-known-n
-enum-known-n c = search needs
-
 -- the board's bytes lie within the buffer
 within : (c : tie.After-known-told) → c .before .n .given .0 .0 ≤ length (c .before .before .before .before .board-of .last .1 .0)
 within c =
@@ -29,44 +20,9 @@ array-share-prefix-out c = within c
 slice-aggregate-show-board : tie.Need-slice-aggregate-show-board
 slice-aggregate-show-board c = sym (length-take-le _ _ (within (c .before)))
 
-show-board-requires : tie.Need-show-board-requires
-show-board-requires c κs = search needs
-
-enum-known-number : tie.Need-enum-known-number
-enum-known-number c = search needs
-
-show-refusal-requires : tie.Need-show-refusal-requires
-show-refusal-requires c κs = search needs
-
-enum-known-line : tie.Need-enum-known-line
-enum-known-line c = search needs
-
-show-bad-requires : tie.Need-show-bad-requires
-show-bad-requires c κs = search needs
-
-returns : tie.Need-returns
-returns c = search needs
-
-returns-2 : tie.Need-returns-2
-returns-2 c = search needs
-
-returns-3 : tie.Need-returns-3
-returns-3 c = search needs
-
 pub show-card-spec : {M : Type 1} → statement M
 show-card-spec =
     tie.close
-    (tie.spec
-    slice-aggregate-board-of
-    board-of-requires
-    enum-known-n
-    array-share-prefix-out
-    slice-aggregate-show-board
-    show-board-requires
-    enum-known-number
-    show-refusal-requires
-    enum-known-line
-    show-bad-requires
-    returns
-    returns-2
-    returns-3)
+    (tie.spec (λ c. search needs) (λ c κs. search needs) (λ c. search needs) array-share-prefix-out
+    slice-aggregate-show-board (λ c κs. search needs) (λ c. search needs) (λ c κs. search needs)
+    (λ c. search needs) (λ c κs. search needs) (λ c. search needs) (λ c. search needs) (λ c. search needs))

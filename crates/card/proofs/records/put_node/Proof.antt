@@ -1,44 +1,19 @@
 -- `card::records::put_node` meets its contract: its parts, one after the other. Assumes nothing.
 use borrow.Author.Needs.{needs}
-use Rattle.card.proofs.Writing.{wrote-both}
+use Rattle.text.proofs.Writing.{wrote-both}
 use Rattle.card.proofs.records.put_node.Statement.{statement}
 use Rattle.card.proofs.records.put_node.Tie as tie
 
-put-u16-requires : tie.Need-put-u16-requires
-put-u16-requires c κs = search needs
-
-put-u16-requires-2 : tie.Need-put-u16-requires-2
-put-u16-requires-2 c κs = search needs
-
-put-u16-requires-3 : tie.Need-put-u16-requires-3
-put-u16-requires-3 c κs = search needs
-
-put-u32-requires : tie.Need-put-u32-requires
-put-u32-requires c κs = search needs
-
-put-u32-requires-2 : tie.Need-put-u32-requires-2
-put-u32-requires-2 c κs = search needs
-
-same-length : tie.Need-same-length
-same-length c = search needs
-
 returns : tie.Need-returns
 returns c =
-    let fifth = c .before .before in
-    let fourth = fifth .before .before .before .before in
+    let fourth = c .before .before in
     let third = fourth .before .before .before .before in
     let second = third .before .before .before .before in
     let first = second .before .before .before .before in
-    wrote-both (wrote-both (wrote-both (wrote-both (first .put-u16 .ensures) (second .put-u162 .ensures)) (third .put-u163 .ensures)) (fourth .put-u32 .ensures)) (fifth .put-u322 .ensures)
+    wrote-both (wrote-both (wrote-both (first .put-two .ensures) (second .put-u16 .ensures)) (third .put-u32 .ensures)) (fourth .put-u322 .ensures)
 
 pub put-node-spec : {M : Type 1} → statement M
 put-node-spec =
     tie.close
-    (tie.spec
-    put-u16-requires
-    put-u16-requires-2
-    put-u16-requires-3
-    put-u32-requires
-    put-u32-requires-2
-    same-length
-    returns)
+    (tie.spec (λ c κs. search needs) (λ c κs. search needs) (λ c κs. search needs) (λ c κs. search needs)
+    (λ c. search needs) returns)

@@ -1,0 +1,6 @@
+-- Laws that the proofs of `text` and of its users cite.
+pub mod Writing
+pub mod Digits
+pub mod Scaling
+pub mod Tens
+pub mod Reading

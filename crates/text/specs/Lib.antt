@@ -1,0 +1,4 @@
+-- What the contracts of `text` cite.
+pub mod Written
+pub mod Decimal
+pub mod Number

@@ -1,0 +1,6 @@
+// Text in lent bytes: the words of a line, numbers read and written.
+pub mod decimal;
+pub mod float;
+pub mod number;
+pub mod words;
+pub mod written;
