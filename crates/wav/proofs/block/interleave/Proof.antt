@@ -1,67 +1,79 @@
+-- `wav::block::interleave` meets its contract: after i turns the first i frames are written. Assumes nothing.
+use mathlib.Core.Path.{_≡_, refl, sym, ap, subst, _∙_}
+use native.Mathlib.Omega.{arith}
+use Prim.Native.Nat.{ℕ, _+_, _*_, _≤_, _<_, _-_}
+use denote.Ref.{now}
+use lib.ListN.{length, take, set}
+use Rattle.leaves.specs.Words.{words, length-words}
+use Rattle.wav.specs.Frames.{interleaved}
+use Rattle.wav.proofs.Lists.{pair-next, interleaved-end}
 use Rattle.wav.proofs.block.interleave.Statement.{statement}
 use Rattle.wav.proofs.block.interleave.Tie as tie
-use Rattle.wav.proofs.block.interleave.Reads as reads
-use Rattle.wav.proofs.block.interleave.Lts as lts
-use Rattle.leaves.proofs.bytes.put_word.Reads as put-word-reads
-use Rattle.leaves.proofs.bytes.word_at.Reads as word-at-reads
 
 abbrev Inv-loop : tie.InvT-loop
-Inv-loop left right size frames₀ i₀ frames i = ?
+Inv-loop left right size frames₀ i₀ frames i = (i ≤ size) × (length frames ≡ length frames₀) × (take (2 * i) (words frames) ≡ interleaved (take i (words left)) (take i (words right)))
 
 abbrev μ-loop : tie.MeasureT-loop
-μ-loop left right size frames₀ i₀ frames i = ?
+μ-loop left right size frames₀ i₀ frames i = size - i
 
--- src/block.rt:44:5
 loop-holds : tie.Need-loop-holds Inv-loop μ-loop
-loop-holds c = ?
+unfolding interleaved
+loop-holds c = (omega arith, refl, refl)
 
--- src/block.rt:45:26
 mul-put-word : tie.Need-mul-put-word Inv-loop μ-loop
-mul-put-word c = ?
+mul-put-word c = omega arith
 
--- src/block.rt:45:33
 word-at-requires : tie.Need-word-at-requires Inv-loop μ-loop
-word-at-requires c κs = ?
+word-at-requires c κs = omega arith
 
--- src/block.rt:45:9
 put-word-requires : tie.Need-put-word-requires Inv-loop μ-loop
-put-word-requires c κs = ?
+put-word-requires c κs = omega arith
 
--- src/block.rt:46:26
 mul-put-word-2 : tie.Need-mul-put-word-2 Inv-loop μ-loop
-mul-put-word-2 c = ?
+mul-put-word-2 c = omega arith
 
--- src/block.rt:46:26
 add-put-word : tie.Need-add-put-word Inv-loop μ-loop
-add-put-word c = ?
+add-put-word c = omega arith
 
--- src/block.rt:46:37
 word-at-requires-2 : tie.Need-word-at-requires-2 Inv-loop μ-loop
-word-at-requires-2 c κs = ?
+word-at-requires-2 c κs = omega arith
 
--- src/block.rt:46:9
 put-word-requires-2 : tie.Need-put-word-requires-2 Inv-loop μ-loop
-put-word-requires-2 c κs = ?
+put-word-requires-2 c κs = omega arith
 
--- src/block.rt:47:9
 add-i : tie.Need-add-i Inv-loop μ-loop
-add-i c = ?
+add-i c = omega arith
 
--- src/block.rt:44:5
 loop-less : tie.Need-loop-less Inv-loop μ-loop
-loop-less c = ?
+loop-less c = omega arith
 
--- src/block.rt:44:5
 loop-again : tie.Need-loop-again Inv-loop μ-loop
-loop-again c = ?
+loop-again c =
+    let second = c .before .before in
+    let first = second .before .before .before .before .before in
+    let l = first .before .before .before .before .loop in
+    let args = first .before .before .before .before .before .before .before .before .args in
+    let room : 2 * l .i + 1 < length (words (l .frames)) = omega (arith, length-words (l .frames)) in
+    let in-left : l .i < length (words (now (args .left))) = omega (arith, length-words (now (args .left))) in
+    let in-right : l .i < length (words (now (args .right))) = omega (arith, length-words (now (args .right))) in (
+      omega arith,
+      omega arith,
+      pair-next _ _ _ _ _ _ in-left in-right room (l .inv .2) (first .put-word .ensures ∙ ap (set (words (l .frames)) (2 * l .i)) (first .before .word-at .ensures))
+          (second .put-word2 .ensures ∙ ap (set (words (first .put-word .last .0)) (2 * l .i + 1)) (second .before .word-at2 .ensures)),
+    )
 
--- src/block.rt:39:1
 same-length : tie.Need-same-length Inv-loop μ-loop
-same-length c = ?
+same-length c = omega arith
 
--- src/block.rt:39:1
 returns : tie.Need-returns Inv-loop μ-loop
-returns c = ?
+returns c =
+    let args = c .before .before .before .before .before .args in
+    let l = c .before .loop in
+    let all : l .i ≡ args .size = omega arith in
+    let left = words (now (args .left)) in
+    let right = words (now (args .right)) in
+    interleaved-end _ _ _ (args .size) (omega (arith, length-words (now (args .left)))) (omega (arith, length-words (now (args .right)))) (omega (arith, length-words (l .frames)))
+    (subst (λ (n : ℕ). take (2 * n) (words (l .frames)) ≡ interleaved (take n left) (take n right)) all (l .inv .2))
 
 pub interleave-spec : {M : Type 1} → statement M
 interleave-spec =

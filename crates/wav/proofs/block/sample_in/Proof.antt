@@ -21,7 +21,7 @@ frame-at-requires : tie.Need-frame-at-requires
 frame-at-requires c κs = omega (arith, frame-fits _ _ _ (c .if1 .taken))
 
 returns : tie.Need-returns
-returns c = 
+returns c =
     let size = c .before .before in
     c .frame-at .ensures ∙ simp (sym (size .frame-size .ensures .0), lt-ltb _ _ (c .before .if1 .taken))
 

@@ -18,13 +18,13 @@ judged-as-requires c κs = search needs
 
 returns-2 : tie.Need-returns-2
 unfolding formatOf
-returns-2 c = 
+returns-2 c =
     let tag = c .before .before in
     c .judged-as .ensures ∙ simp (le-ltb _ _ (tag .before .if1 .left), sym (tag .u16-at .ensures), ne-eqb _ _ (c .before .if2 .taken))
 
 returns-3 : tie.Need-returns-3
 unfolding formatOf
-returns-3 c = 
+returns-3 c =
     let tag = c .before .before in
     simp (le-ltb _ _ (tag .before .if1 .left), sym (tag .u16-at .ensures), c .before .if2 .left, lt-ltb _ _ (c .if3 .taken))
 
@@ -36,7 +36,7 @@ judged-as-requires-2 c κs = search needs
 
 returns-4 : tie.Need-returns-4
 unfolding formatOf
-returns-4 c = 
+returns-4 c =
     let long = c .before .before in
     let tag = long .before .before in
     c .judged-as2 .ensures

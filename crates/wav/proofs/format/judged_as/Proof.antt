@@ -21,7 +21,7 @@ judged-coding-requires c κs = search needs
 
 returns-2 : tie.Need-returns-2
 unfolding judgedAs
-returns-2 c = 
+returns-2 c =
     let two = c .before .before in
     let one = two .before in
     c .judged-coding .ensures ∙ simp (sym (one .before .u32-at .ensures), one .if1 .left, sym (two .u16-at .ensures), c .before .if2 .taken)
@@ -31,14 +31,14 @@ judged-coding-requires-2 c κs = search needs
 
 returns-3 : tie.Need-returns-3
 unfolding judgedAs
-returns-3 c = 
+returns-3 c =
     let two = c .before .before .before in
     let one = two .before in
     c .judged-coding2 .ensures ∙ simp (sym (one .before .u32-at .ensures), one .if1 .left, sym (two .u16-at .ensures), c .before .if3 .taken)
 
 returns-4 : tie.Need-returns-4
 unfolding judgedAs
-returns-4 c = 
+returns-4 c =
     let two = c .before .before in
     let one = two .before in
     simp (sym (one .before .u32-at .ensures), one .if1 .left, sym (two .u16-at .ensures), ne-eqb _ _ (c .before .if2 .left), ne-eqb _ _ (c .if3 .left))

@@ -28,19 +28,19 @@ enum-told-2 c = search needs
 
 returns : tie.Need-returns
 unfolding judgedCoding
-returns c = 
+returns c =
     let found = c .before .before .before in
     let read = found .before .before in
     c .judged-frame .ensures ∙ simp (sym (read .before .u16-at .ensures), sym (read .coding-of .ensures), found .coding .given .1, c .before .u16-at2 .ensures)
 
 returns-2 : tie.Need-returns-2
 unfolding judgedCoding
-returns-2 c = 
+returns-2 c =
     let read = c .before .before in simp (sym (read .before .u16-at .ensures), sym (read .coding-of .ensures), c .enum-told .given .1)
 
 returns-3 : tie.Need-returns-3
 unfolding judgedCoding
-returns-3 c = 
+returns-3 c =
     let read = c .before .before in simp (sym (read .before .u16-at .ensures), sym (read .coding-of .ensures), c .enum-told2 .given .1)
 
 pub judged-coding-spec : {M : Type 1} → statement M

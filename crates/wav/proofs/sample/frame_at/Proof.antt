@@ -24,7 +24,7 @@ halved-requires c κs = search needs
 
 returns : tie.Need-returns
 unfolding frameAt
-returns c = 
+returns c =
     let second = c .before in
     let first = second .before .before .before in
     c .halved .ensures ∙ simp (second .before .before .if1 .taken, first .sample-at .ensures, second .before .width .ensures .0, second .sample-at2 .ensures)
