@@ -1,4 +1,2 @@
 -- Laws that the proofs of `card` cite.
-pub mod Writing
-pub mod Scaling
 pub mod Ends

@@ -10,9 +10,9 @@ use crate::records::put_end;
 use crate::records::put_head;
 use crate::records::put_node;
 use crate::records::put_wire;
-use crate::words::Stop;
-use crate::words::find;
 use graph::judge::judge;
+use text::words::Stop;
+use text::words::find;
 
 // How far a board is written: its bytes, its nodes and its wires.
 pub struct Written {

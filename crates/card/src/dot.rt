@@ -4,16 +4,16 @@ ghost use lib.ListN.{length};
 ghost use Rattle.io.specs.Counts.{Counts};
 ghost use Rattle.graph.specs.Read.{Sound};
 ghost use Rattle.card.specs.Board.{Accepted};
-use crate::records::put;
-use crate::text::put_kind;
-use crate::text::put_number;
-use crate::text::put_word;
+use crate::write::put_kind;
 use graph::board::Board;
 use graph::graph::is_late;
 use graph::graph::places;
 use graph::graph::visiting_list;
 use graph::sources::wide;
 use nodes::kind::NodeKind;
+use text::written::put;
+use text::written::put_number;
+use text::written::put_word;
 
 // Node i, labelled with its number and its type.
 fn put_vertex(out: &mut [u8], at: usize, kind: NodeKind, i: u32) -> usize

@@ -1,11 +1,11 @@
 // One line of a card: the record that it says, or what is wrong with it.
 ghost use Prim.Native.Nat.{_≤_};
 ghost use lib.ListN.{length};
-use crate::number::Float;
-use crate::number::float_of;
-use crate::number::whole_of;
-use crate::words::next_word;
 use check::same;
+use text::number::Float;
+use text::number::float_of;
+use text::number::whole_of;
+use text::words::next_word;
 
 // What is wrong with a line.
 pub enum Reason {

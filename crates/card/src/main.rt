@@ -21,13 +21,10 @@
 // `card check` reads cards with a `%` between them, and writes of each the board's bytes in base 16, its
 // card and its graph.
 mod board;
-mod decimal;
 mod dot;
 mod line;
-mod number;
 mod records;
-mod text;
-mod words;
+mod write;
 
 ghost use Prim.Native.Nat.{_≤_};
 ghost use lib.ListN.{length};
@@ -43,9 +40,9 @@ use graph::sources::wide;
 use libc::STDIN_FILENO;
 use libc::STDOUT_FILENO;
 use line::Reason;
-use text::text_of;
-use words::Stop;
-use words::find;
+use text::words::Stop;
+use text::words::find;
+use write::text_of;
 
 // `refused`, number and place.
 fn show_refusal(number: u32, place: u32) {

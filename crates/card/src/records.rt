@@ -1,19 +1,11 @@
 // The records of a board, written: each function puts its bytes at the place `at` and returns the
 // place after them.
-ghost use mathlib.Core.List.{[], _∷_};
-ghost use Prim.Native.Nat.{_+_, _≤_, _<_};
+ghost use Prim.Native.Nat.{_+_, _≤_};
 ghost use lib.ListN.{length};
 ghost use Rattle.graph.specs.Write.{u16Bytes, u32Bytes, headBytes, nodeBytes, wireBytes, endBytes};
 ghost use Rattle.graph.specs.Board.{wire};
-ghost use Rattle.card.specs.Written.{Wrote, node};
-
-pub fn put(out: &mut [u8], at: usize, byte: u8) -> usize
-    requires { ⌜ at < length (now out) ⌝ }
-    ensures { λ r. ⌜ Wrote (now (out .entry)) at (byte ∷ []) (now (out .exit)) r ⌝ }
-{
-    out[at] = byte;
-    at + 1
-}
+ghost use Rattle.text.specs.Written.{Wrote};
+use text::written::put;
 
 fn put_u16(out: &mut [u8], at: usize, v: u16) -> usize
     requires { ⌜ at + 2 ≤ length (now out) ⌝ }
@@ -45,7 +37,7 @@ pub fn put_head(out: &mut [u8], at: usize, size: u16, input: u16) -> usize
 
 pub fn put_node(out: &mut [u8], at: usize, t: u16, n: u32, f: u32) -> usize
     requires { ⌜ at + 14 ≤ length (now out) ⌝ }
-    ensures { λ r. ⌜ Wrote (now (out .entry)) at (nodeBytes (node t n f)) (now (out .exit)) r ⌝ }
+    ensures { λ r. ⌜ Wrote (now (out .entry)) at (nodeBytes (record { type = t; n = n; f = f })) (now (out .exit)) r ⌝ }
 {
     let a = put_u16(out, at, 14);
     let b = put_u16(out, a, 2);

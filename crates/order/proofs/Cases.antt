@@ -4,7 +4,8 @@ use mathlib.Core.List.{[], _∷_}
 use Rattle.graph.specs.Board.{refused}
 use Rattle.graph.specs.Late.{lateWires, isLate}
 use Rattle.graph.specs.Walks.{printed, printedList}
-use Rattle.order.specs.Text.{orderText, textOf, spacedAll, spaced, number, line, lateLines}
+use Rattle.text.specs.Written.{number, spaced, line}
+use Rattle.order.specs.Text.{orderText, textOf, spacedAll, lateLines}
 
 -- "order 1 4 2 3 0" and "late 3 4", each with its line's end
 pub printed-text : orderText printedList printed ≡

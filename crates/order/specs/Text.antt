@@ -1,28 +1,13 @@
--- What `order` writes of a board (document 01, "Visiting list"), in bytes; and what it is to write a text. Definitions only.
-use mathlib.Core.Path.{_≡_}
-use Prim.Native.Nat.{ℕ, zero, suc, _+_, _/_, _%_, _≤_}
-use mathlib.Core.Bool.{cond}
+-- What `order` writes of a board (document 01, "Visiting list"), in bytes. Definitions only.
+use Prim.Native.Nat.{ℕ}
 use mathlib.Core.List.{List, [], _∷_, _++_}
-use lib.ListN.{length, take}
-use lib.Dec.{ltb}
 use Rattle.reading.specs.Order.{Wire}
 use Rattle.graph.specs.Board.{Reading, going, refused, whole}
 use Rattle.graph.specs.Visit.{visitingList}
 use Rattle.graph.specs.Late.{lateWires}
+use Rattle.text.specs.Written.{spaced, line}
 
--- a number in decimal, in at most d digits
-abbrev pub decimal : ℕ → ℕ → List ℕ
-decimal zero n = []
-decimal (suc d) n = cond (ltb n 10) ((48 + n) ∷ []) (decimal d (n / 10) ++ ((48 + n % 10) ∷ []))
-
--- a 32-bit number
-unfoldable pub number : ℕ → List ℕ
-number n = decimal 10 n
-
--- a space, and a number
-unfoldable pub spaced : ℕ → List ℕ
-spaced n = 32 ∷ number n
-
+-- each number with a space before it
 unfoldable pub spacedAll : List ℕ → List ℕ
 spacedAll [] = []
 spacedAll (n ∷ ns) = spaced n ++ spacedAll ns
@@ -36,10 +21,6 @@ lateWord = 108 ∷ 97 ∷ 116 ∷ 101 ∷ []
 
 abbrev pub refusedWord : List ℕ
 refusedWord = 114 ∷ 101 ∷ 102 ∷ 117 ∷ 115 ∷ 101 ∷ 100 ∷ []
-
--- a line: a word and two numbers, one space between
-unfoldable pub line : List ℕ → ℕ → ℕ → List ℕ
-line word a b = ((word ++ spaced a) ++ spaced b) ++ (10 ∷ [])
 
 -- source and target of each late wire
 unfoldable pub lateLines : List Wire → List ℕ
@@ -55,10 +36,3 @@ unfoldable pub textOf : Reading → List ℕ
 textOf (going at last p) = line refusedWord 1 at
 textOf (refused n w) = line refusedWord n w
 textOf (whole p) = orderText (visitingList (p .wires)) (p .wires)
-
--- `text` has been written into the bytes o, from the place at on
-pub record Wrote (o : List ℕ) (at : ℕ) (text o′ : List ℕ) (at′ : ℕ) : Type 0 where
-  pub size : length o′ ≡ length o
-  pub next : at′ ≡ at + length text
-  pub fits : at′ ≤ length o′
-  pub same : take at′ o′ ≡ take at o ++ text

@@ -1,6 +1,6 @@
 -- `card::records::put_head` meets its contract: its parts, one after the other. Assumes nothing.
 use borrow.Author.Needs.{needs}
-use Rattle.card.proofs.Writing.{wrote-both}
+use Rattle.text.proofs.Writing.{wrote-both}
 use Rattle.card.proofs.records.put_head.Statement.{statement}
 use Rattle.card.proofs.records.put_head.Tie as tie
 

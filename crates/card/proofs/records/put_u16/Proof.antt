@@ -1,6 +1,6 @@
 -- `card::records::put_u16` meets its contract: its parts, one after the other. Assumes nothing.
 use borrow.Author.Needs.{needs}
-use Rattle.card.proofs.Writing.{wrote-both}
+use Rattle.text.proofs.Writing.{wrote-both}
 use Rattle.card.proofs.records.put_u16.Statement.{statement}
 use Rattle.card.proofs.records.put_u16.Tie as tie
 

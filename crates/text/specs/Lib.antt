@@ -1,0 +1,3 @@
+-- What the contracts of `text` cite.
+pub mod Written
+pub mod Decimal
