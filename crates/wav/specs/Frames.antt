@@ -1,15 +1,14 @@
 -- Samples, frames and blocks: the float of a sample's bytes, the one that a frame becomes, the block of 4-byte values that a board takes, and the frames
 -- that are made of the two blocks that it gives. Definitions only.
 use Prim.Native.Nat.{ℕ, zero, suc, _+_, _-_, _*_, _/_, _^_}
-use mathlib.Core.Bool.{cond}
+use mathlib.Core.Bool.{false, cond}
 use mathlib.Core.List.{List, [], _∷_, _++_}
 use lib.ListN.{length, getD}
 use lib.Dec.{ltb}
 use lib.IntN.{pos, negsuc}
 use lib.Ieee.{Float, fin, binary32, ofBits, toBits, add, mul, neg}
-use mathlib.Core.Bool.{false}
 use Rattle.leaves.specs.Bytes.{u16At, u32At}
-use Rattle.leaves.specs.Floors.{zeroF}
+use Rattle.leaves.specs.Floors.{zeroF, finiteF}
 use Rattle.leaves.specs.Sine.{over23}
 use Rattle.wav.specs.Format.{widthOf, frameOf}
 use Rattle.wav.specs.declared.format.Format.{Format}
@@ -46,6 +45,11 @@ frameAt f s at =
 -- sample i of the frames in s, and zero after the last whole one
 abbrev pub sampleIn : Format → List ℕ → ℕ → Float
 sampleIn f s i = cond (ltb i (length s / frameOf f)) (frameAt f s (i * frameOf f)) zeroF
+
+-- of n samples from i on, the first that is infinite or NaN; the place after them if none is
+unfoldable pub firstBad : Format → List ℕ → ℕ → ℕ → ℕ
+firstBad f s i zero = i
+firstBad f s i (suc n) = cond (finiteF (sampleIn f s i)) (firstBad f s (suc i) n) i
 
 -- the values f 0, f 1, .. f (n - 1)
 unfoldable pub listed : (ℕ → ℕ) → ℕ → List ℕ
