@@ -1,13 +1,16 @@
 -- What the loops over samples have written: the first so many values, and one or two more. Assumes nothing.
 use mathlib.Core.Path.{_≡_, refl, sym, ap, _∙_}
 use mathlib.Core.List.{List, [], _∷_, _++_, append-assoc}
-use Prim.Native.Nat.{ℕ, zero, suc, _+_, _*_, _≤_, _<_}
+use Prim.Native.Nat.{ℕ, zero, suc, _+_, _-_, _*_, _≤_, _<_}
+use mathlib.Core.Bool.{true, false}
 use native.Mathlib.Nat.{le-of-eq}
 use native.Mathlib.Numerals.{add-one}
 use native.Mathlib.Omega.{arith}
 use lib.ListN.{length, getD, set, take, length-set}
 use lib.Seq.{take-suc-set, take-all}
-use Rattle.wav.specs.Frames.{listed, interleaved}
+use Rattle.leaves.specs.Floors.{finiteF}
+use Rattle.wav.specs.Frames.{sampleIn, firstBad, listed, interleaved}
+use Rattle.wav.specs.declared.format.Format.{Format}
 
 -- ---- a block that is filled
 
@@ -48,3 +51,21 @@ module _ (l r ws ws′ ws″ : List ℕ) (i : ℕ) where
 pub interleaved-end : (l r ws : List ℕ) (n : ℕ) → length l ≡ n → length r ≡ n → length ws ≡ 2 * n → take (2 * n) ws ≡ interleaved (take n l) (take n r) → ws ≡ interleaved l r
 interleaved-end l r ws n hl hr hw e =
     sym (take-all (2 * n) ws (le-of-eq hw)) ∙ e ∙ ap (λ (q : List ℕ). interleaved q (take n r)) (take-all n l (le-of-eq hl)) ∙ ap (interleaved l) (take-all n r (le-of-eq hr))
+
+-- ---- the first sample that is infinite or NaN, of n
+
+module _ (f : Format) (s : List ℕ) (i n : ℕ) (h : i < n) where
+  left-over : n - i ≡ suc (n - (i + 1))
+  left-over = omega arith
+
+  pub bad-later : finiteF (sampleIn f s i) ≡ true → firstBad f s (i + 1) (n - (i + 1)) ≡ firstBad f s i (n - i)
+  unfolding firstBad
+  bad-later fine = rw (left-over, fine, add-one i) refl
+
+  pub bad-here : finiteF (sampleIn f s i) ≡ false → i ≡ firstBad f s i (n - i)
+  unfolding firstBad
+  bad-here bad = rw (left-over, bad) refl
+
+pub bad-none : (f : Format) (s : List ℕ) (i n : ℕ) → i ≡ n → n ≡ firstBad f s i (n - i)
+unfolding firstBad
+bad-none f s i n e = let none : n - i ≡ 0 = omega arith in rw none (sym e)
