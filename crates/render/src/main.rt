@@ -7,6 +7,7 @@
 //
 // A line of a list has the words of one render; `#` starts a comment, and an empty line is nothing.
 mod board;
+mod file;
 mod play;
 mod render;
 mod say;

@@ -1,88 +1,122 @@
 // The second pass: block by block from the input file to the output file.
-use crate::say;
+ghost use mathlib.Core.Path.{_≡_};
+ghost use Prim.Native.Nat.{_*_, _-_, _≤_, min};
+ghost use lib.ListN.{length};
+ghost use Rattle.render.specs.Run.{Ready, Room};
+use crate::file::least;
+use crate::file::read_some;
 use crate::turn::turn;
 use wav::format::Format;
 use wav::format::frame_size;
 
-// A rendering: the open files, the format of the input, the board's block size, and how many frames
-// are still to be read and to be written.
+// A rendering: the open files, the format of the input, the board's block size and the bytes of its
+// memory, and how many frames are still to be read and to be written.
 pub struct Run {
     pub input: i32,
     pub output: i32,
     pub format: Format,
     pub size: usize,
-    pub reads: u64,
-    pub writes: u64,
+    pub room: usize,
+    pub reads: usize,
+    pub writes: usize,
 }
 
-// How a block went.
-pub enum Turned {
+// How it went.
+pub enum Went {
     Well,
     NotRead,
     NotWritten,
     Refused(u32, u32),
 }
 
-fn least(size: usize, left: u64) -> usize {
-    if left < size as u64 {
-        left as usize
+// The bytes of some frames of a block.
+fn bytes_of(frames: usize, format: Format) -> usize
+    requires { ⌜ frames ≤ 128 ⌝ }
+    ensures { λ r. ⌜ r ≤ 1024 ⌝ }
+{
+    frames * frame_size(format)
+}
+
+// Writes the first of a block's frames, those that are still to be written.
+fn write_frames(run: Run, frames: &[u8]) -> Went
+    requires { ⌜ (run .size ≤ 128) × (length (now frames) ≡ 8 * run .size) ⌝ }
+{
+    let put = 8 * least(run.size, run.writes);
+    if io::write_all(run.output, &frames[..put]) {
+        Went::Well
     } else {
-        size
+        Went::NotWritten
     }
 }
 
-// One block.
-fn one(run: Run, board: &[u8], memory: &mut [u8]) -> Turned {
-    let size = run.size;
-    let format = run.format;
-    let mut bytes = [0u8; 1024];
-    let want = least(size, run.reads) * frame_size(format);
-    let got = io::read_full(run.input, &mut bytes[..want]);
+// One block: the slices after the memory are room to work in.
+fn one(
+    run: Run,
+    board: &[u8],
+    memory: &mut [u8],
+    bytes: &mut [u8],
+    input: &mut [u8],
+    left: &mut [u8],
+    right: &mut [u8],
+    frames: &mut [u8],
+) -> Went
+    requires { ⌜ Ready run ⌝ }
+    requires { ⌜ Room (run .size) (length (now bytes)) (length (now input)) (length (now left)) (length (now right)) (length (now frames)) ⌝ }
+{
+    let want = bytes_of(least(run.size, run.reads), run.format);
+    let got = read_some(run.input, bytes, want);
     if got < want {
-        return Turned::NotRead;
+        return Went::NotRead;
     }
-    let mut frames = [0u8; 1024];
-    let room = 8 * size;
     let answer = turn(
         board,
         memory,
         &bytes[..got],
-        format,
-        size,
-        &mut frames[..room],
+        run.format,
+        run.size,
+        input,
+        left,
+        right,
+        frames,
     );
     if answer.number != 0 {
-        return Turned::Refused(answer.number, answer.place);
+        return Went::Refused(answer.number, answer.place);
     }
-    let put = 8 * least(size, run.writes);
-    if io::write_all(run.output, &frames[..put]) {
-        Turned::Well
-    } else {
-        Turned::NotWritten
-    }
+    write_frames(run, frames)
 }
 
-// All blocks. The files' names are for what may go wrong.
-pub fn play(start: Run, board: &[u8], memory: &mut [u8], input: &[u8], output: &[u8]) -> bool {
+// What is left after a block.
+fn after(run: Run) -> Run
+    requires { ⌜ Ready run ⌝ }
+    ensures { λ r. ⌜ Ready r × (r .size ≡ run .size) × (r .writes ≡ run .writes - min (run .size) (run .writes)) ⌝ }
+{
+    let mut next = run;
+    next.reads = run.reads - least(run.size, run.reads);
+    next.writes = run.writes - least(run.size, run.writes);
+    next
+}
+
+// All blocks.
+pub fn play(
+    start: Run,
+    board: &[u8],
+    memory: &mut [u8],
+    bytes: &mut [u8],
+    input: &mut [u8],
+    left: &mut [u8],
+    right: &mut [u8],
+    frames: &mut [u8],
+) -> Went
+    requires { ⌜ Ready start ⌝ }
+    requires { ⌜ Room (start .size) (length (now bytes)) (length (now input)) (length (now left)) (length (now right)) (length (now frames)) ⌝ }
+{
     let mut run = start;
     while 0 < run.writes {
-        match one(run, board, memory) {
-            Turned::Well => (),
-            Turned::NotRead => {
-                say::problem(input, b"has changed while it was read");
-                return false;
-            }
-            Turned::NotWritten => {
-                say::failed(output, b"cannot be written");
-                return false;
-            }
-            Turned::Refused(number, place) => {
-                say::refused(input, number, place);
-                return false;
-            }
+        let went = one(run, board, memory, bytes, input, left, right, frames);
+        match went {
+            Went::Well => run = after(run),
+            _ => return went,
         }
-        run.reads -= least(run.size, run.reads) as u64;
-        run.writes -= least(run.size, run.writes) as u64;
     }
-    true
+    Went::Well
 }

@@ -1,6 +1,9 @@
 // The sound that is read: a first pass over the file finds its format and its length, and sees that
 // every sample is there and finite. Whatever is wrong is told here.
 ghost use Prim.Native.Nat.{_≤_};
+ghost use Rattle.render.specs.Source.{PartOf, Short};
+use crate::file::least;
+use crate::file::read_some;
 use crate::say;
 use wav::block::first_bad;
 use wav::chunk::Chunk;
@@ -28,7 +31,7 @@ pub enum Step {
 
 // A sound: its format, its frames, and where in the file they start; or something is wrong.
 pub enum Sound {
-    Frames(Format, u64, i64),
+    Frames(Format, usize, i64),
     Bad,
 }
 
@@ -57,25 +60,19 @@ fn pass_over(fd: i32, bytes: u64)
 }
 
 // The longest fmt chunk has 40 bytes; what follows them is passed over.
-const LONGEST: u32 = 40;
+const LONGEST: usize = 40;
 
 // The format of a fmt chunk of so many bytes.
 fn read_format(fd: i32, file: &[u8], length: u32) -> Step {
-    let mut body = [0u8; 40];
-    let want = if length < LONGEST {
-        length as usize
-    } else {
-        40
-    };
-    let n = io::read_full(fd, &mut body[..want]);
+    let mut body = io::buffer();
+    let want = least(length as usize, LONGEST);
+    let n = read_some(fd, &mut body, want);
     let reading = format_of(&body[..n]);
     let Reading::Is(format) = reading else {
         say::format(file, reading);
         return Step::Bad;
     };
-    if want as u64 <= passed(length) {
-        pass_over(fd, passed(length) - want as u64);
-    }
+    pass_over(fd, passed(length) - want as u64);
     Step::On(Known::As(format))
 }
 
@@ -127,12 +124,14 @@ fn find_data(fd: i32, file: &[u8]) -> Step {
 }
 
 // The next 512 frames, or the `left` bytes that are left.
-fn read_part(fd: i32, format: Format, left: usize) -> Part {
-    let mut bytes = [0u8; 4096];
+fn read_part(fd: i32, format: Format, left: usize) -> Part
+    requires { ⌜ 1 ≤ left ⌝ }
+    ensures { λ r. ⌜ PartOf left r ⌝ }
+{
+    let mut bytes = io::buffer();
     let size = frame_size(format);
-    let most = 512 * size;
-    let want = if left < most { left } else { most };
-    let n = io::read_full(fd, &mut bytes[..want]);
+    let want = least(left, 512 * size);
+    let n = read_some(fd, &mut bytes, want);
     if n < want {
         return Part::Cut(n);
     }
@@ -165,7 +164,9 @@ fn data_fine(fd: i32, file: &[u8], format: Format, length: u32) -> bool {
 }
 
 // The data of a file that is open at its data chunk's body.
-fn sound_at(fd: i32, file: &[u8], format: Format, length: u32) -> Sound {
+fn sound_at(fd: i32, file: &[u8], format: Format, length: u32) -> Sound
+    ensures { λ r. ⌜ Short r ⌝ }
+{
     let start = libc::lseek(fd, 0, libc::SEEK_CUR);
     if start < 0 {
         say::failed(file, b"cannot be read twice");
@@ -173,14 +174,16 @@ fn sound_at(fd: i32, file: &[u8], format: Format, length: u32) -> Sound {
     }
     if data_fine(fd, file, format, length) {
         let frames = length as usize / frame_size(format);
-        Sound::Frames(format, frames as u64, start)
+        Sound::Frames(format, frames, start)
     } else {
         Sound::Bad
     }
 }
 
 // The sound of an open file.
-pub fn survey(fd: i32, file: &[u8]) -> Sound {
+pub fn survey(fd: i32, file: &[u8]) -> Sound
+    ensures { λ r. ⌜ Short r ⌝ }
+{
     if !begins(fd) {
         say::problem(file, b"not a WAV file");
         return Sound::Bad;

@@ -1,9 +1,6 @@
 -- A whole number of 24 bits over 2^23, and one of 16 over 2^15, is a float with nothing lost. Assumes nothing.
-use mathlib.Core.Path.{_≡_, sym, ap, _∙_}
-use mathlib.Core.Bool.{Bool, true, false, cond, not}
-use Prim.Native.Nat.{ℕ, zero, suc, _+_, _*_, _-_, _^_, _≤_, _<_}
-use native.Mathlib.Omega.{arith}
-use lib.Dec.{T, ltb, le→leb}
+use Prim.Native.Nat.{ℕ, _^_, _≤_}
+use lib.Dec.{T, le→leb}
 use lib.IntN.{pos}
 use lib.Ieee.{binary32, inFloat}
 

@@ -2,7 +2,7 @@
 ghost use mathlib.Core.Path.{_≡_};
 ghost use Prim.Native.Nat.{_≤_};
 ghost use lib.ListN.{length};
-ghost use Rattle.wav.specs.Format.{widthOf, frameOf, codedOf, judgedFrame, judgedCoding, judgedChannels, judgedAs, formatOf};
+ghost use Rattle.wav.specs.Format.{widthOf, frameOf, codedOf, judgedFrame, judgedCoding, judgedAs, formatOf};
 use leaves::bytes::u16_at;
 use leaves::bytes::u32_at;
 

@@ -29,7 +29,7 @@ fn byte3(v: u32) -> u8
 }
 
 // The most frames that a file can have: its length after the first 8 bytes is a number of 32 bits.
-pub const MOST: u64 = 536870905;
+pub const MOST: usize = 536870905;
 
 // The 58 bytes before so many frames.
 pub fn header(frames: u32) -> [u8; 58]

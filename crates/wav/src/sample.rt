@@ -2,7 +2,6 @@
 ghost use mathlib.Core.Path.{_≡_};
 ghost use Prim.Native.Nat.{_+_, _<_, _≤_, _^_};
 ghost use lib.ListN.{length};
-ghost use Rattle.leaves.specs.Bytes.{u16At};
 ghost use Rattle.wav.specs.Format.{widthOf, frameOf};
 ghost use Rattle.wav.specs.Frames.{u24At, wholeOf, sampleOf, halved, frameAt};
 use crate::format::Coding;

@@ -4,7 +4,7 @@ use denote.Ref.{now}
 use lib.ListN.{length}
 use native.Mathlib.Nat.{sub-zero, div-le-self, le-antisymm}
 use Rattle.leaves.specs.Floors.{finiteF}
-use mathlib.Core.Path.{_≡_, refl, sym, ap, _∙_}
+use mathlib.Core.Path.{_≡_, sym, ap, _∙_}
 use native.Mathlib.Omega.{arith}
 use borrow.Author.Needs.{needs}
 use Rattle.wav.specs.Frames.{firstBad}

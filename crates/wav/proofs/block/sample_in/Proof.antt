@@ -1,5 +1,5 @@
 -- `wav::block::sample_in` meets its contract: a frame that is counted lies within the bytes. Assumes nothing.
-use mathlib.Core.Path.{_≡_, sym, ap, _∙_}
+use mathlib.Core.Path.{sym, _∙_}
 use native.Mathlib.Omega.{arith}
 use borrow.Author.Tests.{lt-ltb, le-ltb}
 use lib.Ieee.{ofBits}

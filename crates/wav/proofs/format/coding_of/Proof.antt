@@ -1,5 +1,5 @@
 -- `wav::format::coding_of` meets its contract: each way knows the tests on it. Assumes nothing.
-use borrow.Author.Tests.{eq-eqb, ne-eqb}
+use borrow.Author.Tests.{ne-eqb}
 use Rattle.wav.proofs.format.coding_of.Statement.{statement}
 use Rattle.wav.proofs.format.coding_of.Tie as tie
 

@@ -1,5 +1,5 @@
 -- `wav::format::format_of` meets its contract: each way knows the tests on it. Assumes nothing.
-use mathlib.Core.Path.{_≡_, sym, ap, _∙_}
+use mathlib.Core.Path.{sym, _∙_}
 use borrow.Author.Tests.{ne-eqb, lt-ltb, le-ltb}
 use Rattle.wav.specs.Format.{formatOf}
 use borrow.Author.Needs.{needs}

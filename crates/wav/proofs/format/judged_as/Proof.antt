@@ -1,5 +1,5 @@
 -- `wav::format::judged_as` meets its contract: each way knows the tests on it. Assumes nothing.
-use mathlib.Core.Path.{_≡_, sym, ap, _∙_}
+use mathlib.Core.Path.{sym, _∙_}
 use borrow.Author.Tests.{ne-eqb}
 use Rattle.wav.specs.Format.{judgedAs}
 use borrow.Author.Needs.{needs}

@@ -1,5 +1,5 @@
 -- `wav::format::judged_coding` meets its contract: each arm knows the coding. Assumes nothing.
-use mathlib.Core.Path.{_≡_, sym, ap, _∙_}
+use mathlib.Core.Path.{sym, _∙_}
 use Rattle.wav.specs.Format.{judgedCoding}
 use borrow.Author.Needs.{needs}
 use Rattle.wav.proofs.format.judged_coding.Statement.{statement}

@@ -1,5 +1,5 @@
 -- `wav::format::judged_frame` meets its contract. Assumes nothing.
-use mathlib.Core.Path.{_≡_, sym, ap, _∙_}
+use mathlib.Core.Path.{sym, _∙_}
 use borrow.Author.Tests.{eq-eqb, ne-eqb}
 use borrow.Author.Needs.{needs}
 use Rattle.wav.proofs.format.judged_frame.Statement.{statement}

@@ -1,5 +1,5 @@
 -- `wav::sample::frame_at` meets its contract. Assumes nothing.
-use mathlib.Core.Path.{_≡_, sym, ap, _∙_}
+use mathlib.Core.Path.{_∙_}
 use native.Mathlib.Omega.{arith}
 use Rattle.wav.specs.Frames.{frameAt}
 use Rattle.wav.proofs.Widths.{within-frame, two-samples}

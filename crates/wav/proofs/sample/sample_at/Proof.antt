@@ -1,5 +1,5 @@
 -- `wav::sample::sample_at` meets its contract: each arm knows the coding. Assumes nothing.
-use mathlib.Core.Path.{_≡_, sym, ap, _∙_}
+use mathlib.Core.Path.{ap, _∙_}
 use native.Mathlib.Omega.{arith}
 use Rattle.wav.specs.Format.{widthOf}
 use borrow.Author.Needs.{needs}

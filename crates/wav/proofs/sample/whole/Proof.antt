@@ -1,5 +1,5 @@
 -- `wav::sample::whole` meets its contract: the number is a float exactly, and one over 2^23 loses nothing. Assumes nothing.
-use mathlib.Core.Path.{_≡_, sym, ap, _∙_}
+use mathlib.Core.Path.{ap, _∙_}
 use native.Mathlib.Omega.{arith}
 use borrow.Author.Tests.{lt-ltb, le-ltb}
 use lib.Ieee.{ofBits, neg}
