@@ -1,0 +1,2 @@
+-- Laws that the proofs of `render` share.
+pub mod Turns

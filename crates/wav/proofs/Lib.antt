@@ -1,0 +1,4 @@
+-- Laws that the proofs of `wav` share.
+pub mod Widths
+pub mod Exact
+pub mod Lists
