@@ -10,7 +10,7 @@ use Rattle.graph.specs.Answer.{answer}
 use Rattle.graph.specs.Judge.{judgeOf}
 use Rattle.graph.specs.Late.{lateWires}
 use Rattle.graph.specs.Visit.{visitingList}
-use Rattle.graph.specs.Walks.{printedWires as printed, printedList, printedLate}
+use Rattle.graph.specs.Walks.{printedWires, printedList, printedLate}
 use Rattle.graph.specs.Write.{writeBoard}
 use Rattle.graph.proofs.RoundWorked.{feedback, feedback-judged}
 use Rattle.graph.specs.JudgeCases as judged
@@ -24,9 +24,9 @@ pub record Trials : Type 0 where
   -- P: the sine at five phases, the lengths of five times
   pub leaves : Worked
   -- P: the printed board, its list and its late wire
-  pub board : feedback .wires ≡ printed
-  pub list : visitingList printed ≡ printedList
-  pub late : lateWires printedList printed ≡ printedLate
+  pub board : feedback .wires ≡ printedWires
+  pub list : visitingList printedWires ≡ printedList
+  pub late : lateWires printedList printedWires ≡ printedLate
   -- P: its three blocks, (1, 0), (0, 0), (0, 0) in and (0, 1), (0, 0), (0.5, 0) out on both channels
   pub blocks : replies (callIn listed (writeBoard feedback)) three (unwords (freshValues p)) ≡ said ahead ∷ said quiet ∷ said half ∷ []
   -- it is accepted; with N 129, or a wire from a node to itself, it is not
