@@ -1,2 +1,3 @@
 -- Laws that the proofs of `render` share.
+pub mod Parts
 pub mod Turns

@@ -5,7 +5,7 @@
 //     render IN.wav OUT.wav board FILE [SECONDS]
 //     render list FILE
 //
-// A line of a list has the words of one render; `#` starts a comment, and an empty line is nothing.
+// A line of a list has the words of one render; `#` starts a comment, and an empty line says nothing.
 mod board;
 mod file;
 mod play;

@@ -2,7 +2,7 @@
 ghost use mathlib.Core.Path.{_≡_};
 ghost use Prim.Native.Nat.{_*_, _-_, _≤_, min};
 ghost use lib.ListN.{length};
-ghost use Rattle.render.specs.Run.{Ready, Room};
+ghost use Rattle.render.specs.Run.{Ready};
 use crate::file::least;
 use crate::file::read_some;
 use crate::turn::turn;
@@ -49,40 +49,57 @@ fn write_frames(run: Run, frames: &[u8]) -> Went
     }
 }
 
-// One block: the slices after the memory are room to work in.
-fn one(
-    run: Run,
-    board: &[u8],
-    memory: &mut [u8],
-    bytes: &mut [u8],
-    input: &mut [u8],
-    left: &mut [u8],
-    right: &mut [u8],
-    frames: &mut [u8],
-) -> Went
-    requires { ⌜ Ready run ⌝ }
-    requires { ⌜ Room (run .size) (length (now bytes)) (length (now input)) (length (now left)) (length (now right)) (length (now frames)) ⌝ }
+// Room for a block's samples, and for its frames.
+fn short_room() -> [u8; 512]
+    ensures { λ r. ⌜ 512 ≡ length r ⌝ }
 {
-    let want = bytes_of(least(run.size, run.reads), run.format);
-    let got = read_some(run.input, bytes, want);
-    if got < want {
-        return Went::NotRead;
-    }
+    [0; 512]
+}
+
+fn long_room() -> [u8; 1024]
+    ensures { λ r. ⌜ 1024 ≡ length r ⌝ }
+{
+    [0; 1024]
+}
+
+// Runs the board on the frames that were read, and writes those that come of it.
+fn run_block(run: Run, board: &[u8], memory: &mut [u8], bytes: &[u8]) -> Went
+    requires { ⌜ Ready run ⌝ }
+{
+    let short = 4 * run.size;
+    let long = 8 * run.size;
+    let mut input = short_room();
+    let mut left = short_room();
+    let mut right = short_room();
+    let mut frames = long_room();
     let answer = turn(
         board,
         memory,
-        &bytes[..got],
+        bytes,
         run.format,
         run.size,
-        input,
-        left,
-        right,
-        frames,
+        &mut input[..short],
+        &mut left[..short],
+        &mut right[..short],
+        &mut frames[..long],
     );
     if answer.number != 0 {
         return Went::Refused(answer.number, answer.place);
     }
-    write_frames(run, frames)
+    write_frames(run, &frames[..long])
+}
+
+// One block.
+fn one(run: Run, board: &[u8], memory: &mut [u8]) -> Went
+    requires { ⌜ Ready run ⌝ }
+{
+    let mut bytes = long_room();
+    let want = bytes_of(least(run.size, run.reads), run.format);
+    let got = read_some(run.input, &mut bytes, want);
+    if got < want {
+        return Went::NotRead;
+    }
+    run_block(run, board, memory, &bytes[..got])
 }
 
 // What is left after a block.
@@ -97,22 +114,12 @@ fn after(run: Run) -> Run
 }
 
 // All blocks.
-pub fn play(
-    start: Run,
-    board: &[u8],
-    memory: &mut [u8],
-    bytes: &mut [u8],
-    input: &mut [u8],
-    left: &mut [u8],
-    right: &mut [u8],
-    frames: &mut [u8],
-) -> Went
+pub fn play(start: Run, board: &[u8], memory: &mut [u8]) -> Went
     requires { ⌜ Ready start ⌝ }
-    requires { ⌜ Room (start .size) (length (now bytes)) (length (now input)) (length (now left)) (length (now right)) (length (now frames)) ⌝ }
 {
     let mut run = start;
     while 0 < run.writes {
-        let went = one(run, board, memory, bytes, input, left, right, frames);
+        let went = one(run, board, memory);
         match went {
             Went::Well => run = after(run),
             _ => return went,

@@ -70,25 +70,9 @@ fn blocks(run: Run, board: &[u8]) -> Went
     requires { ⌜ Ready run ⌝ }
 {
     let room = run.room;
-    let short = 4 * run.size;
-    let long = 8 * run.size;
     let mut memory = lent();
-    let mut bytes = io::buffer();
-    let mut input = io::buffer();
-    let mut left = io::buffer();
-    let mut right = io::buffer();
-    let mut frames = io::buffer();
     context::calls::fresh(board, &mut memory[..room]);
-    play(
-        run,
-        board,
-        &mut memory[..room],
-        &mut bytes,
-        &mut input[..short],
-        &mut left[..short],
-        &mut right[..short],
-        &mut frames[..long],
-    )
+    play(run, board, &mut memory[..room])
 }
 
 // The header and then all blocks, into an open file.

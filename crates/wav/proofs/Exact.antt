@@ -2,13 +2,13 @@
 use mathlib.Core.Path.{_≡_, refl, sym, ap, _∙_}
 use mathlib.Core.Bool.{Bool, true, false, cond, not}
 use Prim.Native.Nat.{ℕ, _*_, _-_, _^_, _≤_, _<_}
-use native.Mathlib.Nat.{mul-assoc, mul-comm, mul-right-comm, lt-of-lt-of-le, eq-of-mul-eq-mul-right}
+use native.Mathlib.Nat.{mul-assoc, mul-right-comm, lt-of-lt-of-le, eq-of-mul-eq-mul-right}
 use native.Mathlib.Omega.{arith}
 use borrow.Author.Tests.{ltb-true, ltb-false, lt-ltb, le-ltb}
 use lib.Dec.{T, ltb, le→leb, lit<, lit≤}
 use lib.IntN.{pos}
 use lib.Pow.{shl-lt}
-use lib.Ieee.{Float, nan, inf, fin, binary32, up, down, round, neg, inFloat}
+use lib.Ieee.{Float, nan, inf, fin, binary32, up, down, neg, inFloat}
 use lib.Ieee.Exact.{HasValue, round-exact}
 use Rattle.leaves.specs.Sine.{over23}
 use Rattle.wav.specs.Frames.{wholeOf}
