@@ -4,7 +4,7 @@ use mathlib.Core.List.{List}
 use Prim.Native.Nat.{ℕ, _*_}
 use lib.ListN.{length}
 use Rattle.leaves.specs.Words.{words, unwords, Bytes, unwords-words}
-use Rattle.context.specs.Calls.{Left, asFound}
+use Rattle.context.specs.Calls.{Outcome, asLeft}
 use Rattle.context.specs.Calls as calls
 use Rattle.graph.specs.declared.answer.Answer.{Answer}
 use Rattle.wav.specs.Frames.{blockOf, interleaved}
@@ -12,13 +12,13 @@ use Rattle.wav.specs.declared.format.Format.{Format}
 use Rattle.render.specs.Turn.{runOn, Turned}
 
 module _ (board memory bytes input l r : List ℕ) (f : Format) (n : ℕ) (a : Answer) (memory′ l′ r′ frames : List ℕ) where
-  pub turned : length input ≡ 4 * n → Bytes input → words input ≡ blockOf f bytes n → asFound a memory′ l′ r′ ≡ calls.blockOf board memory input l r
+  pub turned : length input ≡ 4 * n → Bytes input → words input ≡ blockOf f bytes n → asLeft a memory′ l′ r′ ≡ calls.blockOf board memory input l r
       → words frames ≡ interleaved (words l′) (words r′) → Turned (runOn board memory f bytes n l r) a memory′ frames
   turned long small filled ran made =
       let same : input ≡ unwords (blockOf f bytes n) = unwords-words input n long small ∙ ap unwords filled in
-      let run : asFound a memory′ l′ r′ ≡ runOn board memory f bytes n l r = ran ∙ ap (λ (x : List ℕ). calls.blockOf board memory x l r) same in
+      let run : asLeft a memory′ l′ r′ ≡ runOn board memory f bytes n l r = ran ∙ ap (λ (x : List ℕ). calls.blockOf board memory x l r) same in
       record {
-        answered = ap (λ (x : Left). x .answer) run;
-        kept = ap (λ (x : Left). x .memory) run;
-        made = made ∙ ap (λ (x : Left). interleaved (words (x .left)) (words (x .right))) run;
+        answered = ap (λ (x : Outcome). x .answer) run;
+        kept = ap (λ (x : Outcome). x .memory) run;
+        made = made ∙ ap (λ (x : Outcome). interleaved (words (x .left)) (words (x .right))) run;
       }
