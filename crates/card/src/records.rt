@@ -7,14 +7,24 @@ ghost use Rattle.leaves.specs.Bytes.{u16Bytes, u32Bytes};
 ghost use Rattle.graph.specs.Write.{headBytes, nodeBytes, wireBytes, endBytes};
 ghost use Rattle.graph.specs.Board.{wire};
 ghost use Rattle.text.specs.Written.{Wrote};
-use text::written::put;
+use leaves::bytes;
 
+// A number in 2 bytes.
 fn put_u16(out: &mut [u8], at: usize, v: u16) -> usize
     requires { ⌜ at + 2 ≤ length (now out) ⌝ }
     ensures { λ r. ⌜ Wrote (now (out .entry)) at (u16Bytes v) (now (out .exit)) r ⌝ }
 {
-    let n = put(out, at, (v % 256) as u8);
-    put(out, n, (v / 256 % 256) as u8)
+    bytes::put_u16(out, at, v);
+    at + 2
+}
+
+// A number in 4 bytes.
+fn put_u32(out: &mut [u8], at: usize, v: u32) -> usize
+    requires { ⌜ at + 4 ≤ length (now out) ⌝ }
+    ensures { λ r. ⌜ Wrote (now (out .entry)) at (u32Bytes v) (now (out .exit)) r ⌝ }
+{
+    bytes::put_u32(out, at, v);
+    at + 4
 }
 
 // Two numbers, as a record's length and kind.
@@ -24,14 +34,6 @@ fn put_two(out: &mut [u8], at: usize, a: u16, b: u16) -> usize
 {
     let n = put_u16(out, at, a);
     put_u16(out, n, b)
-}
-
-// A number in 4 bytes.
-fn put_u32(out: &mut [u8], at: usize, v: u32) -> usize
-    requires { ⌜ at + 4 ≤ length (now out) ⌝ }
-    ensures { λ r. ⌜ Wrote (now (out .entry)) at (u32Bytes v) (now (out .exit)) r ⌝ }
-{
-    put_two(out, at, (v % 65536) as u16, (v / 65536) as u16)
 }
 
 // A record of two numbers.
