@@ -5,9 +5,6 @@ use borrow.Author.Needs.{needs}
 use Rattle.render.proofs.play.bytes_of.Statement.{statement}
 use Rattle.render.proofs.play.bytes_of.Tie as tie
 
-frame-size-requires : tie.Need-frame-size-requires
-frame-size-requires c κs = search needs
-
 mul-result : tie.Need-mul-result
 mul-result c = omega (arith, mul-le-mul (c .before .pre) (c .frame-size .ensures .2))
 
@@ -15,4 +12,4 @@ returns : tie.Need-returns
 returns c = mul-le-mul (c .before .pre) (c .frame-size .ensures .2)
 
 pub bytes-of-spec : {M : Type 1} → statement M
-bytes-of-spec = tie.close (tie.spec frame-size-requires mul-result returns)
+bytes-of-spec = tie.close (tie.spec (λ c κs. search needs) mul-result returns)

@@ -9,17 +9,8 @@ use borrow.Author.Needs.{needs}
 use Rattle.render.proofs.render.blocks.Statement.{statement}
 use Rattle.render.proofs.render.blocks.Tie as tie
 
-lent-requires : tie.Need-lent-requires
-lent-requires c κs = search needs
-
-array-borrow-prefix-memory : tie.Need-array-borrow-prefix-memory
-array-borrow-prefix-memory c = search needs
-
 slice-aggregate-fresh : tie.Need-slice-aggregate-fresh
 slice-aggregate-fresh c = let start = c .before .before .before in part (start .args .run .room) _ _ (c .before .lent .ensures) (start .pre .room)
-
-fresh-requires : tie.Need-fresh-requires
-fresh-requires c κs = search needs
 
 -- the memory is as long as it was
 within : (c : tie.After-memory2) → c .before .before .before .before .before .args .run .room ≤ length (c .before .fresh .last .1 .0 ++ drop (c .before .before .before .before .before .args .run .room) (c .before .before .before .lent .result))
@@ -33,21 +24,8 @@ array-borrow-prefix-memory-2 c = within c
 slice-aggregate-play : tie.Need-slice-aggregate-play
 slice-aggregate-play c = sym (length-take-le _ _ (within (c .before)))
 
-play-requires : tie.Need-play-requires
-play-requires c κs = search needs
-
-returns : tie.Need-returns
-returns c = search needs
-
 pub blocks-spec : {M : Type 1} → statement M
 blocks-spec =
     tie.close
-    (tie.spec
-    lent-requires
-    array-borrow-prefix-memory
-    slice-aggregate-fresh
-    fresh-requires
-    array-borrow-prefix-memory-2
-    slice-aggregate-play
-    play-requires
-    returns)
+    (tie.spec (λ c κs. search needs) (λ c. search needs) slice-aggregate-fresh (λ c κs. search needs)
+    array-borrow-prefix-memory-2 slice-aggregate-play (λ c κs. search needs) (λ c. search needs))

@@ -8,18 +8,6 @@ use borrow.Author.Needs.{needs}
 use Rattle.render.proofs.render.judged.Statement.{statement}
 use Rattle.render.proofs.render.judged.Tie as tie
 
-read-board-requires : tie.Need-read-board-requires
-read-board-requires c κs = search needs
-
-refused-requires : tie.Need-refused-requires
-refused-requires c κs = search needs
-
-returns : tie.Need-returns
-returns c = search needs
-
-mul-t11 : tie.Need-mul-t11
-mul-t11 c = search needs
-
 through-requires : tie.Need-through-requires
 through-requires c κs =
     let start = c .before .before .before .before .before .before .before .before .before .before in
@@ -29,10 +17,7 @@ through-requires c κs =
     (accepted-board (start .args .board .now) (read .result) (read .ensures) (c .before .if1 .left)) in
     (fine .least-size, fine .most-size, omega (arith, read .ensures .sound .few-values))
 
-returns-2 : tie.Need-returns-2
-returns-2 c = search needs
-
 pub judged-spec : {M : Type 1} → statement M
 judged-spec =
     tie.close
-    (tie.spec read-board-requires refused-requires returns mul-t11 through-requires returns-2)
+    (tie.spec (λ c κs. search needs) (λ c κs. search needs) (λ c. search needs) (λ c. search needs) through-requires (λ c. search needs))

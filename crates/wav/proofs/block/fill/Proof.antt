@@ -21,27 +21,12 @@ loop-holds : tie.Need-loop-holds Inv-loop μ-loop
 unfolding listed
 loop-holds c = (omega arith, refl, refl)
 
-sample-in-requires : tie.Need-sample-in-requires Inv-loop μ-loop
-sample-in-requires c κs = tt
-
-store-requires : tie.Need-store-requires Inv-loop μ-loop
-store-requires c κs = omega arith
-
-add-i : tie.Need-add-i Inv-loop μ-loop
-add-i c = omega arith
-
-loop-less : tie.Need-loop-less Inv-loop μ-loop
-loop-less c = omega arith
-
 loop-again : tie.Need-loop-again Inv-loop μ-loop
 loop-again c =
     let stored = c .before .before in
     let l = stored .before .before .before .before .loop in
     let room : l .i < length (words (l .block)) = omega (arith, length-words (l .block)) in
     (omega arith, omega arith, listed-next _ _ _ _ room (l .inv .2) (stored .store .ensures ∙ ap (setFloat (words (l .block)) (l .i)) (stored .before .sample-in .ensures)))
-
-same-length : tie.Need-same-length Inv-loop μ-loop
-same-length c = omega arith
 
 returns : tie.Need-returns Inv-loop μ-loop
 returns c =
@@ -54,14 +39,5 @@ returns c =
 pub fill-spec : {M : Type 1} → statement M
 fill-spec =
     tie.close
-    (tie.spec
-    Inv-loop
-    μ-loop
-    loop-holds
-    sample-in-requires
-    store-requires
-    add-i
-    loop-less
-    loop-again
-    same-length
-    returns)
+    (tie.spec Inv-loop μ-loop loop-holds (λ c κs. tt) (λ c κs. omega arith) (λ c. omega arith)
+    (λ c. omega arith) loop-again (λ c. omega arith) returns)

@@ -18,26 +18,11 @@ Inv-loop frames format count i₀ i = (i ≤ count) × (firstBad format frames i
 abbrev μ-loop : tie.MeasureT-loop
 μ-loop frames format count i₀ i = count - i
 
-frame-size-requires : tie.Need-frame-size-requires Inv-loop μ-loop
-frame-size-requires c κs = search needs
-
-div-count : tie.Need-div-count Inv-loop μ-loop
-div-count c = omega arith
-
 loop-holds : tie.Need-loop-holds Inv-loop μ-loop
 loop-holds c = (omega arith, ap (firstBad _ _ 0) (sub-zero _))
 
-sample-in-requires : tie.Need-sample-in-requires Inv-loop μ-loop
-sample-in-requires c κs = search needs
-
-finite-requires : tie.Need-finite-requires Inv-loop μ-loop
-finite-requires c κs = search needs
-
 add-i : tie.Need-add-i Inv-loop μ-loop
 add-i c = omega (arith, div-le-self (length (c .before .before .before .before .before .before .before .args .frames .now)) (c .before .before .before .before .before .frame-size .result))
-
-loop-less : tie.Need-loop-less Inv-loop μ-loop
-loop-less c = omega arith
 
 loop-again : tie.Need-loop-again Inv-loop μ-loop
 loop-again c =
@@ -65,16 +50,5 @@ returns-2 c =
 pub first-bad-spec : {M : Type 1} → statement M
 first-bad-spec =
     tie.close
-    (tie.spec
-    Inv-loop
-    μ-loop
-    frame-size-requires
-    div-count
-    loop-holds
-    sample-in-requires
-    finite-requires
-    add-i
-    loop-less
-    loop-again
-    returns
-    returns-2)
+    (tie.spec Inv-loop μ-loop (λ c κs. search needs) (λ c. omega arith) loop-holds (λ c κs. search needs)
+    (λ c κs. search needs) add-i (λ c. omega arith) loop-again returns returns-2)

@@ -20,33 +20,6 @@ loop-holds : tie.Need-loop-holds Inv-loop μ-loop
 unfolding interleaved
 loop-holds c = (omega arith, refl, refl)
 
-mul-put-word : tie.Need-mul-put-word Inv-loop μ-loop
-mul-put-word c = omega arith
-
-word-at-requires : tie.Need-word-at-requires Inv-loop μ-loop
-word-at-requires c κs = omega arith
-
-put-word-requires : tie.Need-put-word-requires Inv-loop μ-loop
-put-word-requires c κs = omega arith
-
-mul-put-word-2 : tie.Need-mul-put-word-2 Inv-loop μ-loop
-mul-put-word-2 c = omega arith
-
-add-put-word : tie.Need-add-put-word Inv-loop μ-loop
-add-put-word c = omega arith
-
-word-at-requires-2 : tie.Need-word-at-requires-2 Inv-loop μ-loop
-word-at-requires-2 c κs = omega arith
-
-put-word-requires-2 : tie.Need-put-word-requires-2 Inv-loop μ-loop
-put-word-requires-2 c κs = omega arith
-
-add-i : tie.Need-add-i Inv-loop μ-loop
-add-i c = omega arith
-
-loop-less : tie.Need-loop-less Inv-loop μ-loop
-loop-less c = omega arith
-
 loop-again : tie.Need-loop-again Inv-loop μ-loop
 loop-again c =
     let second = c .before .before in
@@ -62,9 +35,6 @@ loop-again c =
           (second .put-word2 .ensures ∙ ap (set (words (first .put-word .last .0)) (2 * l .i + 1)) (second .before .word-at2 .ensures)),
     )
 
-same-length : tie.Need-same-length Inv-loop μ-loop
-same-length c = omega arith
-
 returns : tie.Need-returns Inv-loop μ-loop
 returns c =
     let args = c .before .before .before .before .before .args in
@@ -78,19 +48,6 @@ returns c =
 pub interleave-spec : {M : Type 1} → statement M
 interleave-spec =
     tie.close
-    (tie.spec
-    Inv-loop
-    μ-loop
-    loop-holds
-    mul-put-word
-    word-at-requires
-    put-word-requires
-    mul-put-word-2
-    add-put-word
-    word-at-requires-2
-    put-word-requires-2
-    add-i
-    loop-less
-    loop-again
-    same-length
-    returns)
+    (tie.spec Inv-loop μ-loop loop-holds (λ c. omega arith) (λ c κs. omega arith) (λ c κs. omega arith)
+    (λ c. omega arith) (λ c. omega arith) (λ c κs. omega arith) (λ c κs. omega arith) (λ c. omega arith)
+    (λ c. omega arith) loop-again (λ c. omega arith) returns)

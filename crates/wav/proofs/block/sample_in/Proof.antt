@@ -8,12 +8,6 @@ use borrow.Author.Needs.{needs}
 use Rattle.wav.proofs.block.sample_in.Statement.{statement}
 use Rattle.wav.proofs.block.sample_in.Tie as tie
 
-frame-size-requires : tie.Need-frame-size-requires
-frame-size-requires c κs = search needs
-
-div-if1 : tie.Need-div-if1
-div-if1 c = omega arith
-
 mul-frame-at : tie.Need-mul-frame-at
 mul-frame-at c = omega (arith, frame-fits _ _ _ (c .if1 .taken))
 
@@ -32,4 +26,4 @@ returns-2 c = simp (sym (c .before .frame-size .ensures .0), le-ltb _ _ (c .if1 
 pub sample-in-spec : {M : Type 1} → statement M
 sample-in-spec =
     tie.close
-    (tie.spec frame-size-requires div-if1 mul-frame-at frame-at-requires returns returns-2)
+    (tie.spec (λ c κs. search needs) (λ c. omega arith) mul-frame-at frame-at-requires returns returns-2)

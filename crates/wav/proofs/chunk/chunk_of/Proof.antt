@@ -5,12 +5,6 @@ use borrow.Author.Needs.{needs}
 use Rattle.wav.proofs.chunk.chunk_of.Statement.{statement}
 use Rattle.wav.proofs.chunk.chunk_of.Tie as tie
 
-u32-at-requires : tie.Need-u32-at-requires
-u32-at-requires c κs = search needs
-
-u32-at-requires-2 : tie.Need-u32-at-requires-2
-u32-at-requires-2 c κs = search needs
-
 returns : tie.Need-returns
 returns c = let r = c .before in simp (sym (r .before .before .u32-at .ensures), sym (r .u32-at2 .ensures), c .match .keys1)
 
@@ -21,4 +15,4 @@ returns-3 : tie.Need-returns-3
 returns-3 c = let r = c .before in simp (sym (r .before .before .u32-at .ensures), sym (r .u32-at2 .ensures), ne-eqb _ _ (c .match .rest .0 .1), ne-eqb _ _ (c .match .rest .1))
 
 pub chunk-of-spec : {M : Type 1} → statement M
-chunk-of-spec = tie.close (tie.spec u32-at-requires u32-at-requires-2 returns returns-2 returns-3)
+chunk-of-spec = tie.close (tie.spec (λ c κs. search needs) (λ c κs. search needs) returns returns-2 returns-3)

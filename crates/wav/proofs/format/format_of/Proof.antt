@@ -10,12 +10,6 @@ returns : tie.Need-returns
 unfolding formatOf
 returns c = simp (lt-ltb _ _ (c .if1 .taken))
 
-u16-at-requires : tie.Need-u16-at-requires
-u16-at-requires c κs = search needs
-
-judged-as-requires : tie.Need-judged-as-requires
-judged-as-requires c κs = search needs
-
 returns-2 : tie.Need-returns-2
 unfolding formatOf
 returns-2 c =
@@ -28,12 +22,6 @@ returns-3 c =
     let tag = c .before .before in
     simp (le-ltb _ _ (tag .before .if1 .left), sym (tag .u16-at .ensures), c .before .if2 .left, lt-ltb _ _ (c .if3 .taken))
 
-u16-at-requires-2 : tie.Need-u16-at-requires-2
-u16-at-requires-2 c κs = search needs
-
-judged-as-requires-2 : tie.Need-judged-as-requires-2
-judged-as-requires-2 c κs = search needs
-
 returns-4 : tie.Need-returns-4
 unfolding formatOf
 returns-4 c =
@@ -45,12 +33,5 @@ returns-4 c =
 pub format-of-spec : {M : Type 1} → statement M
 format-of-spec =
     tie.close
-    (tie.spec
-    returns
-    u16-at-requires
-    judged-as-requires
-    returns-2
-    returns-3
-    u16-at-requires-2
-    judged-as-requires-2
-    returns-4)
+    (tie.spec returns (λ c κs. search needs) (λ c κs. search needs) returns-2 returns-3 (λ c κs. search needs)
+    (λ c κs. search needs) returns-4)

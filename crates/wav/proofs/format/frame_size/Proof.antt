@@ -4,12 +4,6 @@ use borrow.Author.Needs.{needs}
 use Rattle.wav.proofs.format.frame_size.Statement.{statement}
 use Rattle.wav.proofs.format.frame_size.Tie as tie
 
-width-requires : tie.Need-width-requires
-width-requires c κs = search needs
-
-mul-result : tie.Need-mul-result
-mul-result c = search needs
-
 returns : tie.Need-returns
 returns c = (simp (c .if1 .taken, c .before .width .ensures .0), omega arith, omega arith)
 
@@ -17,4 +11,4 @@ returns-2 : tie.Need-returns-2
 returns-2 c = (simp (c .if1 .left, c .before .width .ensures .0), omega arith, omega arith)
 
 pub frame-size-spec : {M : Type 1} → statement M
-frame-size-spec = tie.close (tie.spec width-requires mul-result returns returns-2)
+frame-size-spec = tie.close (tie.spec (λ c κs. search needs) (λ c. search needs) returns returns-2)

@@ -5,26 +5,8 @@ use borrow.Author.Needs.{needs}
 use Rattle.wav.proofs.format.judged_coding.Statement.{statement}
 use Rattle.wav.proofs.format.judged_coding.Tie as tie
 
-u16-at-requires : tie.Need-u16-at-requires
-u16-at-requires c κs = search needs
-
-coding-of-requires : tie.Need-coding-of-requires
-coding-of-requires c κs = search needs
-
-enum-known-coding : tie.Need-enum-known-coding
-enum-known-coding c = search needs
-
-u16-at-requires-2 : tie.Need-u16-at-requires-2
-u16-at-requires-2 c κs = search needs
-
-judged-frame-requires : tie.Need-judged-frame-requires
-judged-frame-requires c κs = search needs
-
 enum-told : tie.Need-enum-told
 enum-told c = search needs
-
-enum-told-2 : tie.Need-enum-told-2
-enum-told-2 c = search needs
 
 returns : tie.Need-returns
 unfolding judgedCoding
@@ -46,14 +28,5 @@ returns-3 c =
 pub judged-coding-spec : {M : Type 1} → statement M
 judged-coding-spec =
     tie.close
-    (tie.spec
-    u16-at-requires
-    coding-of-requires
-    enum-known-coding
-    u16-at-requires-2
-    judged-frame-requires
-    enum-told
-    enum-told-2
-    returns
-    returns-2
-    returns-3)
+    (tie.spec (λ c κs. search needs) (λ c κs. search needs) (λ c. search needs) (λ c κs. search needs)
+    (λ c κs. search needs) enum-told (λ c. search needs) returns returns-2 returns-3)

@@ -10,17 +10,11 @@ use Rattle.wav.proofs.sample.frame_at.Tie as tie
 sample-at-requires : tie.Need-sample-at-requires
 sample-at-requires c κs = omega (arith, within-frame (c .before .args .format))
 
-width-requires : tie.Need-width-requires
-width-requires c κs = search needs
-
 add-sample-at : tie.Need-add-sample-at
 add-sample-at c = omega (arith, two-samples (c .before .before .before .before .args .format) (c .before .if1 .taken))
 
 sample-at-requires-2 : tie.Need-sample-at-requires-2
 sample-at-requires-2 c κs = omega (arith, two-samples (c .before .before .before .before .args .format) (c .before .if1 .taken))
-
-halved-requires : tie.Need-halved-requires
-halved-requires c κs = search needs
 
 returns : tie.Need-returns
 unfolding frameAt
@@ -36,11 +30,5 @@ returns-2 c = c .before .sample-at .ensures ∙ simp (c .if1 .left)
 pub frame-at-spec : {M : Type 1} → statement M
 frame-at-spec =
     tie.close
-    (tie.spec
-    sample-at-requires
-    width-requires
-    add-sample-at
-    sample-at-requires-2
-    halved-requires
-    returns
-    returns-2)
+    (tie.spec sample-at-requires (λ c κs. search needs) add-sample-at sample-at-requires-2
+    (λ c κs. search needs) returns returns-2)

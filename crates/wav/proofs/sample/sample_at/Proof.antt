@@ -12,32 +12,11 @@ enum-told c = search needs
 u16-at-requires : tie.Need-u16-at-requires
 u16-at-requires c κs = omega (arith, ap widthOf (c .enum-told .given .1))
 
-cast-whole : tie.Need-cast-whole
-cast-whole c = search needs
-
-mul-whole : tie.Need-mul-whole
-mul-whole c = search needs
-
-whole-requires : tie.Need-whole-requires
-whole-requires c κs = search needs
-
-enum-told-2 : tie.Need-enum-told-2
-enum-told-2 c = search needs
-
 u24-at-requires : tie.Need-u24-at-requires
 u24-at-requires c κs = omega (arith, ap widthOf (c .enum-told2 .given .1))
 
-whole-requires-2 : tie.Need-whole-requires-2
-whole-requires-2 c κs = search needs
-
-enum-told-3 : tie.Need-enum-told-3
-enum-told-3 c = search needs
-
 u32-at-requires : tie.Need-u32-at-requires
 u32-at-requires c κs = omega (arith, ap widthOf (c .enum-told3 .given .1))
-
-of-bits-requires : tie.Need-of-bits-requires
-of-bits-requires c κs = search needs
 
 returns : tie.Need-returns
 returns c = c .whole .ensures ∙ simp (c .before .u16-at .ensures, c .before .before .enum-told .given .1)
@@ -51,18 +30,6 @@ returns-3 c = c .of-bits .ensures ∙ simp (c .before .u32-at .ensures, c .befor
 pub sample-at-spec : {M : Type 1} → statement M
 sample-at-spec =
     tie.close
-    (tie.spec
-    enum-told
-    u16-at-requires
-    cast-whole
-    mul-whole
-    whole-requires
-    enum-told-2
-    u24-at-requires
-    whole-requires-2
-    enum-told-3
-    u32-at-requires
-    of-bits-requires
-    returns
-    returns-2
-    returns-3)
+    (tie.spec enum-told u16-at-requires (λ c. search needs) (λ c. search needs) (λ c κs. search needs)
+    (λ c. search needs) u24-at-requires (λ c κs. search needs) (λ c. search needs) u32-at-requires
+    (λ c κs. search needs) returns returns-2 returns-3)

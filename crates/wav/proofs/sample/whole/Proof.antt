@@ -13,9 +13,6 @@ use Rattle.wav.proofs.sample.whole.Tie as tie
 int-to-float-result : tie.Need-int-to-float-result
 int-to-float-result c = small _ (omega arith)
 
-sub-result : tie.Need-sub-result
-sub-result c = search needs
-
 int-to-float-result-2 : tie.Need-int-to-float-result-2
 int-to-float-result-2 c = small _ (omega arith)
 
@@ -29,4 +26,4 @@ returns-2 c = ap neg (over-is _ (small _ (omega arith))) ∙ simp (le-ltb _ _ (c
 
 pub whole-spec : {M : Type 1} → statement M
 whole-spec =
-    tie.close (tie.spec int-to-float-result sub-result int-to-float-result-2 returns returns-2)
+    tie.close (tie.spec int-to-float-result (λ c. search needs) int-to-float-result-2 returns returns-2)
