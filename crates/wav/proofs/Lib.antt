@@ -2,3 +2,4 @@
 pub mod Widths
 pub mod Exact
 pub mod Lists
+pub mod Worked
