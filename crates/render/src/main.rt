@@ -26,38 +26,33 @@ fn usage() {
     );
 }
 
-// The words of a line.
+// Word k of a line, from 0; an empty one where there are fewer.
+fn word(line: &[u8], k: usize) -> &[u8] {
+    let mut at = 0;
+    let mut i = 0;
+    while i < k {
+        let passed = next_word(line, at);
+        at = passed.to;
+        i += 1;
+    }
+    let found = next_word(line, at);
+    let from = found.from;
+    let to = found.to;
+    &line[from..to]
+}
+
+// The render that a line asks for; an empty line asks for none.
 fn line(words: &[u8]) {
-    let a = next_word(words, 0);
-    let b = next_word(words, a.to);
-    let c = next_word(words, b.to);
-    let d = next_word(words, c.to);
-    let e = next_word(words, d.to);
-    let f = next_word(words, e.to);
-    if a.from == a.to {
+    let input = word(words, 0);
+    if input.len() == 0 {
         return;
     }
-    if d.from == d.to || f.from != f.to {
+    let what = word(words, 3);
+    if what.len() == 0 || word(words, 5).len() != 0 {
         usage();
         return;
     }
-    let a0 = a.from;
-    let a1 = a.to;
-    let b0 = b.from;
-    let b1 = b.to;
-    let c0 = c.from;
-    let c1 = c.to;
-    let d0 = d.from;
-    let d1 = d.to;
-    let e0 = e.from;
-    let e1 = e.to;
-    render(
-        &words[a0..a1],
-        &words[b0..b1],
-        &words[c0..c1],
-        &words[d0..d1],
-        &words[e0..e1],
-    );
+    render(input, word(words, 1), word(words, 2), what, word(words, 4));
 }
 
 // Each line of a list, without its comment.

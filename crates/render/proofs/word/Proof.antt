@@ -1,0 +1,19 @@
+-- `render::word` is safe and ends: each turn passes a word. Assumes nothing.
+use Prim.Native.Nat.{_≤_, _-_}
+use lib.ListN.{length}
+use borrow.Author.Needs.{needs}
+use Rattle.render.proofs.word.Statement.{statement}
+use Rattle.render.proofs.word.Tie as tie
+
+abbrev Inv-loop : tie.InvT-loop
+Inv-loop line k at₀ i₀ at i = (at ≤ length line) × (i ≤ k)
+
+abbrev μ-loop : tie.MeasureT-loop
+μ-loop line k at₀ i₀ at i = k - i
+
+pub word-spec : {M : Type 1} → statement M
+word-spec =
+    tie.close
+    (tie.spec Inv-loop μ-loop (λ c. search needs) (λ c κs. search needs) (λ c. search needs) (λ c. search needs)
+    (λ c. search needs) (λ c κs. search needs) (λ c. search needs) (λ c. search needs) (λ c. search needs)
+    (λ c. search needs))
