@@ -423,6 +423,7 @@ mono16.wav - spring 0.5
 mono16.wav - plate 0.5 601
 mono16.wav - plate 0.5 -1
 mono16.wav mono16.wav plate 0.5
+mono16.wav ./mono16.wav plate 0.5
 mono16.wav missing/out.wav plate 0.5
 mono16.wav - plate
 mono16.wav - plate 0.5 1 1
@@ -481,14 +482,13 @@ def rendered(files, words):
             more = 44100 * int(at)
         else:
             more = 176400 if b.tail() is None else b.tail()
-        at = out
-        if name == out:
-            raise Problem("is the input too")
         at = name
         if name not in files:
             raise Problem("cannot be opened")
         sounds = sounds_of(files[name])
         at = out
+        if files.get(os.path.normpath(out)) == files[name]:
+            raise Problem("is the input, or a copy of it")
         if "/" in out:
             raise Problem("cannot be opened for writing")
         frames = len(sounds) + more

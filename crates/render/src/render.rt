@@ -6,6 +6,7 @@ ghost use Rattle.render.specs.Run.{Ready};
 ghost use Rattle.render.specs.Extra.{Few};
 use crate::board::Made;
 use crate::board::make;
+use crate::file::is_input;
 use crate::play::Run;
 use crate::play::Went;
 use crate::play::play;
@@ -154,6 +155,10 @@ fn from_file(fd: i32, needs: Needs, board: &[u8], input: &[u8], output: &[u8], m
         say::problem(input, b"too long: more than 4 GiB would be written");
         return;
     }
+    if is_input(fd, output) {
+        say::problem(output, b"is the input, or a copy of it");
+        return;
+    }
     libc::lseek(fd, start, libc::SEEK_SET);
     let run = Run {
         input: fd,
@@ -174,10 +179,6 @@ fn through(needs: Needs, board: &[u8], input: &[u8], output: &[u8], seconds: &[u
     let Extra::Frames(more) = frames_after(seconds, board) else {
         return;
     };
-    if same(input, output) {
-        say::problem(output, b"is the input too");
-        return;
-    }
     let fd = os::open_read(input);
     if fd < 0 {
         say::failed(input, b"cannot be opened");
