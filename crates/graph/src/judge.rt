@@ -76,7 +76,7 @@ pub fn read_board(s: &[u8]) -> Board
 }
 
 // The board judge: a refusal, or 0 and the memory's length.
-// Ruled out: a memory length that is not the sum of the cells (memory_invented, one_channel), a count of
+// Ruled out: a memory length that is not the sum of the cells (memory_invented), a count of
 // wires and not of distinct sources (repeat_counts).
 pub fn judge(s: &[u8]) -> Answer
     ensures { λ r. ⌜ r ≡ judgeOf (now (s .entry)) ⌝ }

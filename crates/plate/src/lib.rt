@@ -47,7 +47,7 @@ pub extern "C" fn plate_fresh(board: &[u8], memory: &mut [u8]) -> Answer
 
 // A block run.
 // Ruled out: memory left untouched (context, block_runs_nothing), a fixed output (context,
-// block_fixed_output), outputs swapped (context, block_outputs_swapped).
+// block_fixed_output), an infinite sample taken (context, block_takes_infinity).
 #[no_mangle]
 pub extern "C" fn plate_block(
     board: &[u8],
