@@ -380,8 +380,7 @@ fn read_last(s: &[u8], head: Head, read: Nodes, wired: Wires) -> Board
 }
 
 // The board that the records make, or the first refusal: checks 1 to 5.
-// Ruled out, and tried by must-fail edits: a 65th node (node_65), lines of 262,145 (lines_one_more), a
-// wire from a node to itself (self_wire).
+// Ruled out, and tried by a must-fail edit: lines of 262,145 values together (lines_one_more).
 pub fn read_records(s: &[u8]) -> Board
     ensures { λ r. ⌜ Read (readRecords (now (s .entry))) r ⌝ }
 {

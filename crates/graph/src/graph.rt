@@ -75,8 +75,8 @@ pub fn places(nodes: &[u8; 64], count: usize) -> [u8; 64]
 }
 
 // Whether a wire is late in the list of `count` nodes whose places are given.
-// Ruled out, and tried by must-fail edits: late for on time (late_inverted), the plate's loop broken at
-// fb2 to wet7 (plate_loop_elsewhere).
+// Ruled out, and tried by a must-fail edit: the plate's loop broken at fb2 to wet7
+// (plate_loop_elsewhere).
 pub fn is_late(places: &[u8; 64], count: usize, source: usize, target: usize) -> bool
     requires { ⌜ (source < 64) × (target < 64) ⌝ }
     ensures { λ r. ⌜ ((l : List ℕ) → length l ≡ count → Placed l (now (places .entry)) → r ≡ isLate l (wire source target)) ⌝ }

@@ -60,8 +60,8 @@ fn judged(board: Board) -> Answer
 }
 
 // The board that the bytes hold, or the first refusal: checks 1 to 6.
-// Ruled out, and tried by must-fail edits: one that refuses every board (refuses_all), one that takes an
-// input node with wires in (input_with_wires).
+// Ruled out, and tried by must-fail edits: one that refuses every board (refuses_all), one that takes
+// the second distinct source for the second wire's (second_distinct).
 pub fn read_board(s: &[u8]) -> Board
     ensures { λ r. ⌜ Read (readBoard (now (s .entry))) r ⌝ }
 {

@@ -41,8 +41,7 @@ fn found_of(k: u16, z: u16) -> Found
 }
 
 // What stands at an offset, which may lie past the end, after a record of kind `last` (0: none).
-// Ruled out, and tried by must-fail edits: a kind judged before the cut (cut_after_kind) and a length judged
-// before the kind (length_before_kind).
+// Ruled out, and tried by a must-fail edit: a length judged before the kind (length_before_kind).
 pub fn found_at(s: &[u8], at: usize, last: u16) -> Found
     ensures { λ r. ⌜ r ≡ foundAt (now (s .entry)) at last ⌝ }
 {

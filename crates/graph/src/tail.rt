@@ -81,7 +81,7 @@ fn tail<'a>(
 
 // The tail call: a refusal, or 0 and the tail.
 // Ruled out, and tried by must-fail edits: each tail endless (tail_endless_on_time), lines of nodes that
-// are not listed (tail_unlisted_lines), an add taken for a delay (tail_adds_quiet).
+// are not listed (tail_unlisted_lines).
 pub fn tail_of(s: &[u8]) -> Answer
     ensures { λ r. ⌜ r ≡ tailAnswer (now (s .entry)) ⌝ }
 {

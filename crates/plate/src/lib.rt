@@ -15,7 +15,7 @@ pub mod mix;
 pub mod plate;
 
 // The board judge: 0 and the memory's length.
-// Ruled out, and tried by must-fail edits: one that takes a 65th node (graph, node_65), one that counts
+// Ruled out, and tried by must-fail edits: lines of 262,145 together (graph, lines_one_more), one that counts
 // a repeated wire twice (graph, repeat_counts).
 #[no_mangle]
 pub extern "C" fn plate_judge(board: &[u8]) -> Answer
