@@ -6,31 +6,11 @@ use borrow.Author.Needs.{needs}
 use Rattle.replay.proofs.record.fresh.Statement.{statement}
 use Rattle.replay.proofs.record.fresh.Tie as tie
 
-returns : tie.Need-returns
-returns c = search needs
-
-slice-relend-prefix-fresh : tie.Need-slice-relend-prefix-fresh
-slice-relend-prefix-fresh c = search needs
-
 slice-aggregate-fresh : tie.Need-slice-aggregate-fresh
 slice-aggregate-fresh c = sym (length-take-le _ _ (omega arith))
-
-fresh-requires : tie.Need-fresh-requires
-fresh-requires c κs = search needs
-
-same-length : tie.Need-same-length
-same-length c = search needs
-
-returns-2 : tie.Need-returns-2
-returns-2 c = search needs
 
 pub fresh-spec : {M : Type 1} → statement M
 fresh-spec =
     tie.close
-    (tie.spec
-    returns
-    slice-relend-prefix-fresh
-    slice-aggregate-fresh
-    fresh-requires
-    same-length
-    returns-2)
+    (tie.spec (λ c. search needs) (λ c. search needs) slice-aggregate-fresh (λ c κs. search needs) (λ c. search needs)
+    (λ c. search needs))
