@@ -7,24 +7,6 @@ use borrow.Author.Needs.{needs}
 use Rattle.graph.proofs.board.head_body.Statement.{statement}
 use Rattle.graph.proofs.board.head_body.Tie as tie
 
-u16-at-requires : tie.Need-u16-at-requires
-u16-at-requires c κs = search needs
-
-u16-at-requires-2 : tie.Need-u16-at-requires-2
-u16-at-requires-2 c κs = search needs
-
-new-requires : tie.Need-new-requires
-new-requires c κs = search needs
-
-cast-t9 : tie.Need-cast-t9
-cast-t9 c = search needs
-
-cast-t10 : tie.Need-cast-t10
-cast-t10 c = search needs
-
-no-head-requires : tie.Need-no-head-requires
-no-head-requires c κs = search needs
-
 returns : tie.Need-returns
 returns c =
     record {
@@ -39,12 +21,5 @@ returns-2 c = head-as (simp (← c .before .before .before .u16-at .ensures, c .
 pub head-body-spec : {M : Type 1} → statement M
 head-body-spec =
     tie.close
-    (tie.spec
-    u16-at-requires
-    u16-at-requires-2
-    new-requires
-    cast-t9
-    cast-t10
-    no-head-requires
-    returns
-    returns-2)
+    (tie.spec (λ c κs. search needs) (λ c κs. search needs) (λ c κs. search needs) (λ c. search needs) (λ c. search needs)
+    (λ c κs. search needs) returns returns-2)

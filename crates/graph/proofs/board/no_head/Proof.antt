@@ -6,11 +6,8 @@ use borrow.Author.Needs.{needs}
 use Rattle.graph.proofs.board.no_head.Statement.{statement}
 use Rattle.graph.proofs.board.no_head.Tie as tie
 
-new-requires : tie.Need-new-requires
-new-requires c κs = search needs
-
 returns : tie.Need-returns
 returns c = record { reads = refused-as (going 8 1 (headed 0 0)) (c .new .ensures) (c .before .pre); small = omega arith; input-small = omega arith }
 
 pub no-head-spec : {M : Type 1} → statement M
-no-head-spec = tie.close (tie.spec new-requires returns)
+no-head-spec = tie.close (tie.spec (λ c κs. search needs) returns)

@@ -13,26 +13,8 @@ use Rattle.graph.proofs.board.node_at.Tie as tie
 found : (c : tie.After-read-record) (f : Found) → c .read-record .result ≡ f → foundAt (now (c .before .before .args .s)) (c .before .before .args .at) 2 ≡ f
 found c f is = sym (c .read-record .ensures) ∙ is
 
-read-record-requires : tie.Need-read-record-requires
-read-record-requires c κs = search needs
-
-enum-told : tie.Need-enum-told
-enum-told c = search needs
-
-enum-told-2 : tie.Need-enum-told-2
-enum-told-2 c = search needs
-
 node-body-requires : tie.Need-node-body-requires
 node-body-requires c κs = (room-of _ _ _ (c .before .before .read-record .ensures) (c .enum-told2 .given .1) .0, c .before .before .before .before .pre)
-
-enum-told-3 : tie.Need-enum-told-3
-enum-told-3 c = search needs
-
-enum-told-4 : tie.Need-enum-told-4
-enum-told-4 c = search needs
-
-enum-known-number : tie.Need-enum-known-number
-enum-known-number c = search needs
 
 returns : tie.Need-returns
 unfolding nodeRead
@@ -57,16 +39,5 @@ returns-5 c = simp (found (c .before .before .before) (Refused _) (c .before .nu
 pub node-at-spec : {M : Type 1} → statement M
 node-at-spec =
     tie.close
-    (tie.spec
-    read-record-requires
-    enum-told
-    enum-told-2
-    node-body-requires
-    enum-told-3
-    enum-told-4
-    enum-known-number
-    returns
-    returns-2
-    returns-3
-    returns-4
-    returns-5)
+    (tie.spec (λ c κs. search needs) (λ c. search needs) (λ c. search needs) node-body-requires (λ c. search needs)
+    (λ c. search needs) (λ c. search needs) returns returns-2 returns-3 returns-4 returns-5)

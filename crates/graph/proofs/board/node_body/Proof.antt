@@ -14,36 +14,6 @@ fields : (c : tie.After-rule-of) →
     c .rule-of .result ≡ ruleOf (u16At (now (a .s)) (a .at + 4)) (u32At (now (a .s)) (a .at + 6)) (u32At (now (a .s)) (a .at + 10))
 fields c = c .rule-of .ensures ∙ rw (c .before .before .before .u16-at .ensures, c .before .before .u32-at .ensures, c .before .u32-at2 .ensures)
 
-add-u16-at : tie.Need-add-u16-at
-add-u16-at c = search needs
-
-u16-at-requires : tie.Need-u16-at-requires
-u16-at-requires c κs = search needs
-
-add-u32-at : tie.Need-add-u32-at
-add-u32-at c = search needs
-
-u32-at-requires : tie.Need-u32-at-requires
-u32-at-requires c κs = search needs
-
-add-u32-at-2 : tie.Need-add-u32-at-2
-add-u32-at-2 c = search needs
-
-u32-at-requires-2 : tie.Need-u32-at-requires-2
-u32-at-requires-2 c κs = search needs
-
-rule-of-requires : tie.Need-rule-of-requires
-rule-of-requires c κs = search needs
-
-enum-known-k : tie.Need-enum-known-k
-enum-known-k c = search needs
-
-node-fits-requires : tie.Need-node-fits-requires
-node-fits-requires c κs = search needs
-
-enum-told : tie.Need-enum-told
-enum-told c = search needs
-
 returns : tie.Need-returns
 unfolding nodeRead
 returns c = simp (← fields (c .before .before .before .before .before), c .before .before .before .k .given .1, ← c .before .node-fits .ensures, c .if1 .taken)
@@ -59,17 +29,6 @@ returns-3 c = simp (← fields (c .before .before), c .enum-told .given .1)
 pub node-body-spec : {M : Type 1} → statement M
 node-body-spec =
     tie.close
-    (tie.spec
-    add-u16-at
-    u16-at-requires
-    add-u32-at
-    u32-at-requires
-    add-u32-at-2
-    u32-at-requires-2
-    rule-of-requires
-    enum-known-k
-    node-fits-requires
-    enum-told
-    returns
-    returns-2
+    (tie.spec (λ c. search needs) (λ c κs. search needs) (λ c. search needs) (λ c κs. search needs) (λ c. search needs)
+    (λ c κs. search needs) (λ c κs. search needs) (λ c. search needs) (λ c κs. search needs) (λ c. search needs) returns returns-2
     returns-3)

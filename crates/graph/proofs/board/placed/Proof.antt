@@ -4,12 +4,6 @@ use borrow.Author.Needs.{needs}
 use Rattle.graph.proofs.board.placed.Statement.{statement}
 use Rattle.graph.proofs.board.placed.Tie as tie
 
-is-destination-requires : tie.Need-is-destination-requires
-is-destination-requires c κs = search needs
-
-is-destination-requires-2 : tie.Need-is-destination-requires-2
-is-destination-requires-2 c κs = search needs
-
 returns : tie.Need-returns
 returns c = simp (eq-eqb _ _ (c .before .if1 .taken), c .is-destination .ensures)
 
@@ -18,4 +12,4 @@ returns-2 c = simp (ne-eqb _ _ (c .before .if1 .left), c .is-destination2 .ensur
 
 pub placed-spec : {M : Type 1} → statement M
 placed-spec =
-    tie.close (tie.spec is-destination-requires is-destination-requires-2 returns returns-2)
+    tie.close (tie.spec (λ c κs. search needs) (λ c κs. search needs) returns returns-2)

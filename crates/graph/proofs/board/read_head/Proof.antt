@@ -15,35 +15,8 @@ use Rattle.graph.proofs.board.read_head.Tie as tie
 taken : (c : tie.After-read-record) (f : Found) → c .read-record .result ≡ f → takeFound (now (c .before .before .args .s)) 0 (headed 0 0) f ≡ stepOf (now (c .before .before .args .s)) (going 0 0 (headed 0 0))
 taken c f is = step-takes (now (c .before .before .args .s)) 0 0 (headed 0 0) f (sym (c .read-record .ensures) ∙ is)
 
-read-record-requires : tie.Need-read-record-requires
-read-record-requires c κs = search needs
-
-enum-told : tie.Need-enum-told
-enum-told c = search needs
-
 head-body-requires : tie.Need-head-body-requires
 head-body-requires c κs = omega (arith, room-of _ _ _ (c .before .before .read-record .ensures) (c .enum-told .given .1) .0)
-
-enum-told-2 : tie.Need-enum-told-2
-enum-told-2 c = search needs
-
-no-head-requires : tie.Need-no-head-requires
-no-head-requires c κs = search needs
-
-enum-told-3 : tie.Need-enum-told-3
-enum-told-3 c = search needs
-
-no-head-requires-2 : tie.Need-no-head-requires-2
-no-head-requires-2 c κs = search needs
-
-enum-told-4 : tie.Need-enum-told-4
-enum-told-4 c = search needs
-
-no-head-requires-3 : tie.Need-no-head-requires-3
-no-head-requires-3 c κs = search needs
-
-enum-known-number : tie.Need-enum-known-number
-enum-known-number c = search needs
 
 no-head-requires-4 : tie.Need-no-head-requires-4
 no-head-requires-4 c κs = room-of _ _ _ (c .before .before .before .read-record .ensures) (c .before .number .given .1)
@@ -68,20 +41,6 @@ returns-5 c = head-as (taken (c .before .before .before .before) (Refused _) (c 
 pub read-head-spec : {M : Type 1} → statement M
 read-head-spec =
     tie.close
-    (tie.spec
-    read-record-requires
-    enum-told
-    head-body-requires
-    enum-told-2
-    no-head-requires
-    enum-told-3
-    no-head-requires-2
-    enum-told-4
-    no-head-requires-3
-    enum-known-number
-    no-head-requires-4
-    returns
-    returns-2
-    returns-3
-    returns-4
-    returns-5)
+    (tie.spec (λ c κs. search needs) (λ c. search needs) head-body-requires (λ c. search needs) (λ c κs. search needs)
+    (λ c. search needs) (λ c κs. search needs) (λ c. search needs) (λ c κs. search needs) (λ c. search needs) no-head-requires-4
+    returns returns-2 returns-3 returns-4 returns-5)

@@ -12,9 +12,6 @@ table-of-requires c κs =
     let wires = start .pre .1 .1 in
     (wires .few, λ j b. omega (arith, wires .targets-in j b, start .pre .1 .0 .few))
 
-read-end-requires : tie.Need-read-end-requires
-read-end-requires c κs = search needs
-
 returns : tie.Need-returns
 returns c =
     let start = c .before .before .before .before .before .before .before .before .before .before .before in
@@ -22,4 +19,4 @@ returns c =
     made-read _ (a .head) (a .read) (a .wired) _ _ _ _ (start .pre .0) (start .pre .1 .0) (start .pre .1 .1) (c .before .before .before .before .table-of .ensures) (c .read-end .ensures (madeOf (a .head) (a .read) (a .wired)))
 
 pub read-last-spec : {M : Type 1} → statement M
-read-last-spec = tie.close (tie.spec table-of-requires read-end-requires returns)
+read-last-spec = tie.close (tie.spec table-of-requires (λ c κs. search needs) returns)

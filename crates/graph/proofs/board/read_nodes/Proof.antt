@@ -19,23 +19,11 @@ Inv-loop s size nodes₀ count₀ lines₀ values₀ next₀ nodes count lines v
 abbrev μ-loop : tie.MeasureT-loop
 μ-loop s size nodes₀ count₀ lines₀ values₀ next₀ nodes count lines values next = length s - next
 
-blank-requires : tie.Need-blank-requires Inv-loop μ-loop
-blank-requires c κs = search needs
-
 loop-holds : tie.Need-loop-holds Inv-loop μ-loop
 loop-holds c = nodes-start _ _ _ refl (c .before .before .pre .1)
 
 node-at-requires : tie.Need-node-at-requires Inv-loop μ-loop
 node-at-requires c κs = c .loop .inv .few-lines
-
-enum-known-kind : tie.Need-enum-known-kind Inv-loop μ-loop
-enum-known-kind c = search needs
-
-channels-of-requires : tie.Need-channels-of-requires Inv-loop μ-loop
-channels-of-requires c κs = search needs
-
-line-of-requires : tie.Need-line-of-requires Inv-loop μ-loop
-line-of-requires c κs = search needs
 
 -- what the node's record says
 here : (c : tie.After-kind Inv-loop μ-loop) →
@@ -86,14 +74,8 @@ loop-again : tie.Need-loop-again Inv-loop μ-loop
 loop-again c = let start = c .before .before .before .before .before .before .before .before .before in
     rw (c .before .channels-of .ensures, c .line-of .ensures .0) (nodes-more _ _ _ _ _ _ _ (c .before .before .before .before .before .before .loop .inv) (c .before .before .before .kind .given .0 .0) (here (c .before .before .before)) (start .pre .0))
 
-enum-known-number : tie.Need-enum-known-number Inv-loop μ-loop
-enum-known-number c = search needs
-
 new-requires : tie.Need-new-requires Inv-loop μ-loop
 new-requires c κs = let h = c .before .before .before .before .loop .inv in omega (arith, h .next-is, h .few)
-
-new-requires-2 : tie.Need-new-requires-2 Inv-loop μ-loop
-new-requires-2 c κs = search needs
 
 returns : tie.Need-returns Inv-loop μ-loop
 returns c =
@@ -104,27 +86,6 @@ returns c =
 pub read-nodes-spec : {M : Type 1} → statement M
 read-nodes-spec =
     tie.close
-    (tie.spec
-    Inv-loop
-    μ-loop
-    blank-requires
-    loop-holds
-    node-at-requires
-    enum-known-kind
-    channels-of-requires
-    line-of-requires
-    mul-nodes
-    array-set-from-nodes
-    add-count
-    add-lines
-    mul-values
-    add-values
-    add-values-2
-    add-values-3
-    add-next
-    loop-less
-    loop-again
-    enum-known-number
-    new-requires
-    new-requires-2
-    returns)
+    (tie.spec Inv-loop μ-loop (λ c κs. search needs) loop-holds node-at-requires (λ c. search needs) (λ c κs. search needs)
+    (λ c κs. search needs) mul-nodes array-set-from-nodes add-count add-lines mul-values add-values add-values-2 add-values-3
+    add-next loop-less loop-again (λ c. search needs) new-requires (λ c κs. search needs) returns)

@@ -4,12 +4,6 @@ use borrow.Author.Needs.{needs}
 use Rattle.graph.proofs.board.read_records.Statement.{statement}
 use Rattle.graph.proofs.board.read_records.Tie as tie
 
-read-head-requires : tie.Need-read-head-requires
-read-head-requires c κs = search needs
-
-refusal-requires : tie.Need-refusal-requires
-refusal-requires c κs = search needs
-
 returns : tie.Need-returns
 returns c =
     let head = c .before .before .before .before in
@@ -20,20 +14,11 @@ read-nodes-requires c κs =
     let head = c .before .before .before .read-head .ensures in
     (head .small, head-inside _ _ head (c .if1 .left))
 
-refusal-requires-2 : tie.Need-refusal-requires-2
-refusal-requires-2 c κs = search needs
-
 returns-2 : tie.Need-returns-2
 returns-2 c =
     let nodes = c .before .before .before .before in
     let head = nodes .before .before .before .before in
     read-as (nodes-refuse _ _ (head .read-head .ensures) (nodes .before .if1 .left) _ (nodes .read-nodes .ensures) (c .before .if2 .taken)) (c .refusal2 .ensures)
-
-read-wires-requires : tie.Need-read-wires-requires
-read-wires-requires c κs = search needs
-
-refusal-requires-3 : tie.Need-refusal-requires-3
-refusal-requires-3 c κs = search needs
 
 returns-3 : tie.Need-returns-3
 returns-3 c =
@@ -41,9 +26,6 @@ returns-3 c =
     let nodes = wires .before .before .before .before in
     let head = nodes .before .before .before .before in
     read-as (wires-refuse _ _ (head .read-head .ensures) (nodes .before .if1 .left) _ (nodes .read-nodes .ensures) (wires .before .if2 .left) _ (wires .read-wires .ensures) (c .before .if3 .taken)) (c .refusal3 .ensures)
-
-read-last-requires : tie.Need-read-last-requires
-read-last-requires c κs = search needs
 
 returns-4 : tie.Need-returns-4
 returns-4 c =
@@ -55,15 +37,5 @@ returns-4 c =
 pub read-records-spec : {M : Type 1} → statement M
 read-records-spec =
     tie.close
-    (tie.spec
-    read-head-requires
-    refusal-requires
-    returns
-    read-nodes-requires
-    refusal-requires-2
-    returns-2
-    read-wires-requires
-    refusal-requires-3
-    returns-3
-    read-last-requires
-    returns-4)
+    (tie.spec (λ c κs. search needs) (λ c κs. search needs) returns read-nodes-requires (λ c κs. search needs) returns-2
+    (λ c κs. search needs) (λ c κs. search needs) returns-3 (λ c κs. search needs) returns-4)

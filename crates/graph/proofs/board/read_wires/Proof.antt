@@ -24,9 +24,6 @@ loop-holds c = wires-start _ _ _ _ _ refl refl (c .before .pre .2)
 wire-at-requires : tie.Need-wire-at-requires Inv-loop μ-loop
 wire-at-requires c κs = c .before .before .pre .0
 
-enum-known-source : tie.Need-enum-known-source Inv-loop μ-loop
-enum-known-source c = search needs
-
 -- what the wire's record says
 here : (c : tie.After-source Inv-loop μ-loop) →
     let at = c .before .before .before in
@@ -51,14 +48,8 @@ loop-less c = omega (arith, here (c .before) .2)
 loop-again : tie.Need-loop-again Inv-loop μ-loop
 loop-again c = wires-more _ _ _ _ _ _ _ (c .before .before .before .before .loop .inv) (c .before .source .given .0 .0) (c .before .source .given .0 .1 .0) (here (c .before))
 
-enum-known-number : tie.Need-enum-known-number Inv-loop μ-loop
-enum-known-number c = search needs
-
 new-requires : tie.Need-new-requires Inv-loop μ-loop
 new-requires c κs = let h = c .before .before .before .before .loop .inv in omega (arith, h .next-is, h .few)
-
-new-requires-2 : tie.Need-new-requires-2 Inv-loop μ-loop
-new-requires-2 c κs = search needs
 
 returns : tie.Need-returns Inv-loop μ-loop
 returns c =
@@ -69,19 +60,5 @@ returns c =
 pub read-wires-spec : {M : Type 1} → statement M
 read-wires-spec =
     tie.close
-    (tie.spec
-    Inv-loop
-    μ-loop
-    loop-holds
-    wire-at-requires
-    enum-known-source
-    array-write-sources
-    array-write-targets
-    add-count
-    add-next
-    loop-less
-    loop-again
-    enum-known-number
-    new-requires
-    new-requires-2
-    returns)
+    (tie.spec Inv-loop μ-loop loop-holds wire-at-requires (λ c. search needs) array-write-sources array-write-targets add-count
+    add-next loop-less loop-again (λ c. search needs) new-requires (λ c κs. search needs) returns)

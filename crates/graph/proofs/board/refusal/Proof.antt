@@ -5,11 +5,8 @@ use Rattle.graph.proofs.Joined.{refusal-read}
 use Rattle.graph.proofs.board.refusal.Statement.{statement}
 use Rattle.graph.proofs.board.refusal.Tie as tie
 
-blank-requires : tie.Need-blank-requires
-blank-requires c κs = search needs
-
 returns : tie.Need-returns
 returns c = refusal-read (c .before .args .answer) _ refl (c .before .pre)
 
 pub refusal-spec : {M : Type 1} → statement M
-refusal-spec = tie.close (tie.spec blank-requires returns)
+refusal-spec = tie.close (tie.spec (λ c κs. search needs) returns)

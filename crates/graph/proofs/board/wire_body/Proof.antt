@@ -13,21 +13,6 @@ fits : (c : tie.Then1) →
     WireFits (a .i) (a .w) (c .before .before .before .u16-at .result) (c .before .before .u16-at2 .result)
 fits c = wire-fits _ _ _ _ (sym (c .before .wire-fits .ensures) ∙ c .if1 .taken)
 
-add-u16-at : tie.Need-add-u16-at
-add-u16-at c = search needs
-
-u16-at-requires : tie.Need-u16-at-requires
-u16-at-requires c κs = search needs
-
-add-u16-at-2 : tie.Need-add-u16-at-2
-add-u16-at-2 c = search needs
-
-u16-at-requires-2 : tie.Need-u16-at-requires-2
-u16-at-requires-2 c κs = search needs
-
-wire-fits-requires : tie.Need-wire-fits-requires
-wire-fits-requires c κs = search needs
-
 cast-t10 : tie.Need-cast-t10
 cast-t10 c = omega (arith, fits c .obeys .source-there)
 
@@ -47,13 +32,5 @@ returns-2 c =
 pub wire-body-spec : {M : Type 1} → statement M
 wire-body-spec =
     tie.close
-    (tie.spec
-    add-u16-at
-    u16-at-requires
-    add-u16-at-2
-    u16-at-requires-2
-    wire-fits-requires
-    cast-t10
-    cast-t11
-    returns
-    returns-2)
+    (tie.spec (λ c. search needs) (λ c κs. search needs) (λ c. search needs) (λ c κs. search needs) (λ c κs. search needs)
+    cast-t10 cast-t11 returns returns-2)

@@ -4,18 +4,6 @@ use Rattle.graph.proofs.Late.{late-found}
 use Rattle.graph.proofs.graph.is_late.Statement.{statement}
 use Rattle.graph.proofs.graph.is_late.Tie as tie
 
-element-copy-out-wide : tie.Need-element-copy-out-wide
-element-copy-out-wide c = search needs
-
-wide-requires : tie.Need-wide-requires
-wide-requires c κs = search needs
-
-element-copy-out-wide-2 : tie.Need-element-copy-out-wide-2
-element-copy-out-wide-2 c = search needs
-
-wide-requires-2 : tie.Need-wide-requires-2
-wide-requires-2 c κs = search needs
-
 returns : tie.Need-returns
 returns c l size placed =
     let start = c .before .before .before .before in
@@ -24,4 +12,4 @@ returns c l size placed =
 pub is-late-spec : {M : Type 1} → statement M
 is-late-spec =
     tie.close
-    (tie.spec element-copy-out-wide wide-requires element-copy-out-wide-2 wide-requires-2 returns)
+    (tie.spec (λ c. search needs) (λ c κs. search needs) (λ c. search needs) (λ c κs. search needs) returns)

@@ -27,14 +27,8 @@ loop-holds : tie.Need-loop-holds Inv-loop μ-loop
 unfolding lateWires
 loop-holds c = (omega arith, omega arith, λ l size placed. refl)
 
-element-copy-out-wide : tie.Need-element-copy-out-wide Inv-loop μ-loop
-element-copy-out-wide c = omega arith
-
 wide-requires : tie.Need-wide-requires Inv-loop μ-loop
 wide-requires c κs = tt
-
-element-copy-out-wide-2 : tie.Need-element-copy-out-wide-2 Inv-loop μ-loop
-element-copy-out-wide-2 c = omega arith
 
 wide-requires-2 : tie.Need-wide-requires-2 Inv-loop μ-loop
 wide-requires-2 c κs = tt
@@ -47,15 +41,6 @@ is-late-requires c κs =
       subst (λ (v : ℕ). v < 64) (sym (c .before .before .wide .ensures)) (pre .1 (turn .before .loop .i) (turn .loop-test .taken)),
       subst (λ (v : ℕ). v < 64) (sym (c .wide2 .ensures)) (pre .2 (turn .before .loop .i) (turn .loop-test .taken)),
     )
-
-add-n : tie.Need-add-n Inv-loop μ-loop
-add-n c = omega arith
-
-add-i : tie.Need-add-i Inv-loop μ-loop
-add-i c = omega arith
-
-loop-less : tie.Need-loop-less Inv-loop μ-loop
-loop-less c = omega arith
 
 loop-again : tie.Need-loop-again Inv-loop μ-loop
 loop-again c =
@@ -86,17 +71,5 @@ returns c l size placed =
 pub late-count-spec : {M : Type 1} → statement M
 late-count-spec =
     tie.close
-    (tie.spec
-    Inv-loop
-    μ-loop
-    loop-holds
-    element-copy-out-wide
-    wide-requires
-    element-copy-out-wide-2
-    wide-requires-2
-    is-late-requires
-    add-n
-    add-i
-    loop-less
-    loop-again
-    returns)
+    (tie.spec Inv-loop μ-loop loop-holds (λ c. omega arith) wide-requires (λ c. omega arith) wide-requires-2 is-late-requires
+    (λ c. omega arith) (λ c. omega arith) (λ c. omega arith) loop-again returns)

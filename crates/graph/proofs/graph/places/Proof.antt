@@ -19,23 +19,8 @@ abbrev μ-loop : tie.MeasureT-loop
 list-length : (c : tie.Start Inv-loop μ-loop) → length (take (c .args .count) (c .args .nodes .now)) ≡ c .args .count
 list-length c = length-take-le (c .args .count) (c .args .nodes .now) (omega (arith, c .pre .0, c .pre .1))
 
-cast-r : tie.Need-cast-r Inv-loop μ-loop
-cast-r c = omega arith
-
 loop-holds : tie.Need-loop-holds Inv-loop μ-loop
 loop-holds c = (omega arith, refl, placing-none (take (c .args .count) (c .args .nodes .now)) (c .args .count) (list-length c))
-
-sub-i : tie.Need-sub-i Inv-loop μ-loop
-sub-i c = omega arith
-
-element-copy-out-wide : tie.Need-element-copy-out-wide Inv-loop μ-loop
-element-copy-out-wide c = omega arith
-
-wide-requires : tie.Need-wide-requires Inv-loop μ-loop
-wide-requires c κs = search needs
-
-cast-r-2 : tie.Need-cast-r-2 Inv-loop μ-loop
-cast-r-2 c = omega arith
 
 -- the listed number is a node
 listed-node : (c : tie.After-wide Inv-loop μ-loop) → c .wide .result < 64
@@ -45,9 +30,6 @@ listed-node c =
 
 array-write-r : tie.Need-array-write-r Inv-loop μ-loop
 array-write-r c = listed-node c
-
-loop-less : tie.Need-loop-less Inv-loop μ-loop
-loop-less c = omega arith
 
 loop-again : tie.Need-loop-again Inv-loop μ-loop
 loop-again c =
@@ -69,16 +51,5 @@ returns c =
 pub places-spec : {M : Type 1} → statement M
 places-spec =
     tie.close
-    (tie.spec
-    Inv-loop
-    μ-loop
-    cast-r
-    loop-holds
-    sub-i
-    element-copy-out-wide
-    wide-requires
-    cast-r-2
-    array-write-r
-    loop-less
-    loop-again
-    returns)
+    (tie.spec Inv-loop μ-loop (λ c. omega arith) loop-holds (λ c. omega arith) (λ c. omega arith) (λ c κs. search needs)
+    (λ c. omega arith) array-write-r (λ c. omega arith) loop-again returns)

@@ -16,18 +16,6 @@ returns c =
     let fits : b .count ≤ length (b .nodes) = omega (arith, c .before .pre .nodes-long, c .before .pre .few-nodes) in
     rw (pass-out (b .nodes) (b .count) fits (b .input) (c .if1 .taken))
 
-mul-node : tie.Need-mul-node
-mul-node c = search needs
-
-element-copy-out-node : tie.Need-element-copy-out-node
-element-copy-out-node c = search needs
-
-is-pass-requires : tie.Need-is-pass-requires
-is-pass-requires c κs = search needs
-
-element-copy-out-result : tie.Need-element-copy-out-result
-element-copy-out-result c = search needs
-
 returns-2 : tie.Need-returns-2
 returns-2 c =
     let start = c .before .before .before .before in
@@ -40,10 +28,4 @@ returns-2 c =
 pub input-fits-spec : {M : Type 1} → statement M
 input-fits-spec =
     tie.close
-    (tie.spec
-    returns
-    mul-node
-    element-copy-out-node
-    is-pass-requires
-    element-copy-out-result
-    returns-2)
+    (tie.spec returns (λ c. search needs) (λ c. search needs) (λ c κs. search needs) (λ c. search needs) returns-2)

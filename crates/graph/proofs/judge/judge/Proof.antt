@@ -8,15 +8,6 @@ use borrow.Author.Needs.{needs}
 use Rattle.graph.proofs.judge.judge.Statement.{statement}
 use Rattle.graph.proofs.judge.judge.Tie as tie
 
-read-board-requires : tie.Need-read-board-requires
-read-board-requires c κs = search needs
-
-mul-new : tie.Need-mul-new
-mul-new c = search needs
-
-new-requires : tie.Need-new-requires
-new-requires c κs = search needs
-
 returns : tie.Need-returns
 returns c =
     let b = c .before .before .before .before .before .read-board .result in
@@ -30,4 +21,4 @@ returns-2 c =
     sym (judged-refused _ _ _ (read .reading ∙ or-refuses (b .refused) _ (c .if1 .left)))
 
 pub judge-spec : {M : Type 1} → statement M
-judge-spec = tie.close (tie.spec read-board-requires mul-new new-requires returns returns-2)
+judge-spec = tie.close (tie.spec (λ c κs. search needs) (λ c. search needs) (λ c κs. search needs) returns returns-2)

@@ -13,21 +13,9 @@ use Rattle.graph.proofs.judge.judged.Tie as tie
 total : (c : tie.Start) → length (take (c .args .board .count) (c .args .board .nodes)) ≡ c .args .board .count
 total c = counted (c .args .board .nodes) (c .args .board .count) (omega (arith, c .pre .nodes-long, c .pre .few-nodes))
 
-new-requires : tie.Need-new-requires
-new-requires c κs = search needs
-
 returns : tie.Need-returns
 returns c =
     six-none (parsedOf (c .before .before .before .args .board)) (total (c .before .before .before) ∙ c .before .if1 .taken) ∙ refused-as _ (c .new .ensures) (omega arith)
-
-input-fits-requires : tie.Need-input-fits-requires
-input-fits-requires c κs = search needs
-
-sources-judged-requires : tie.Need-sources-judged-requires
-sources-judged-requires c κs = search needs
-
-new-requires-2 : tie.Need-new-requires-2
-new-requires-2 c κs = search needs
 
 returns-2 : tie.Need-returns-2
 returns-2 c =
@@ -44,11 +32,5 @@ returns-3 c =
 pub judged-spec : {M : Type 1} → statement M
 judged-spec =
     tie.close
-    (tie.spec
-    new-requires
-    returns
-    input-fits-requires
-    sources-judged-requires
-    new-requires-2
-    returns-2
+    (tie.spec (λ c κs. search needs) returns (λ c κs. search needs) (λ c κs. search needs) (λ c κs. search needs) returns-2
     returns-3)

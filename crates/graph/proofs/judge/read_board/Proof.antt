@@ -9,18 +9,12 @@ use borrow.Author.Needs.{needs}
 use Rattle.graph.proofs.judge.read_board.Statement.{statement}
 use Rattle.graph.proofs.judge.read_board.Tie as tie
 
-read-records-requires : tie.Need-read-records-requires
-read-records-requires c κs = search needs
-
 returns : tie.Need-returns
 returns c =
     let b = c .before .before .before .read-records .result in
     let read = c .before .before .before .read-records .ensures in
     let no = or-refuses (b .refused) (whole (parsedOf b)) (c .if1 .taken) in
     record { reading = six-refused _ _ _ (read .reading ∙ no) ∙ sym no; sound = read .sound }
-
-judged-requires : tie.Need-judged-requires
-judged-requires c κs = search needs
 
 returns-2 : tie.Need-returns-2
 returns-2 c =
@@ -32,4 +26,4 @@ returns-2 c =
     }
 
 pub read-board-spec : {M : Type 1} → statement M
-read-board-spec = tie.close (tie.spec read-records-requires returns judged-requires returns-2)
+read-board-spec = tie.close (tie.spec (λ c κs. search needs) returns (λ c κs. search needs) returns-2)

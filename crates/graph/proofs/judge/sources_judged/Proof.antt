@@ -71,17 +71,11 @@ returns c = let start = c .before .before .before .before .before .before .befor
 add-i : tie.Need-add-i Inv-loop μ-loop
 add-i c = omega (arith, c .before .before .before .before .before .before .before .pre .few-nodes)
 
-loop-less : tie.Need-loop-less Inv-loop μ-loop
-loop-less c = omega arith
-
 loop-again : tie.Need-loop-again Inv-loop μ-loop
 loop-again c = let start = c .before .before .before .before .before .before .before in
     let at = c .before .before .before .before .before .before in
     let b = start .args .t1 in
     (omega arith, check-next (b .nodes) (b .count) (within start) (at .loop .i) (c .before .before .before .before .before .loop-test .taken) blank (parsedOf b) (fits (c .before) ∙ not-false _ (c .if1 .left)) ∙ at .loop .inv .1)
-
-new-requires-2 : tie.Need-new-requires-2 Inv-loop μ-loop
-new-requires-2 c κs = omega arith
 
 returns-2 : tie.Need-returns-2 Inv-loop μ-loop
 returns-2 c = let start = c .before .before .before in
@@ -92,19 +86,5 @@ returns-2 c = let start = c .before .before .before in
 pub sources-judged-spec : {M : Type 1} → statement M
 sources-judged-spec =
     tie.close
-    (tie.spec
-    Inv-loop
-    μ-loop
-    loop-holds
-    mul-node
-    element-copy-out-node
-    element-copy-out-wide
-    wide-requires
-    sources-fit-requires
-    new-requires
-    returns
-    add-i
-    loop-less
-    loop-again
-    new-requires-2
-    returns-2)
+    (tie.spec Inv-loop μ-loop loop-holds mul-node element-copy-out-node element-copy-out-wide wide-requires sources-fit-requires
+    new-requires returns add-i (λ c. omega arith) loop-again (λ c κs. omega arith) returns-2)

@@ -18,34 +18,13 @@ returns c =
     let few : length (now (a .s)) - a .at < 4 = omega arith in
     simp (lt-ltb _ _ few)
 
-sub-left : tie.Need-sub-left
-sub-left c = search needs
-
 returns-2 : tie.Need-returns-2
 unfolding foundAt
 returns-2 c = simp (lt-ltb _ _ (c .if2 .taken))
 
-u16-at-requires : tie.Need-u16-at-requires
-u16-at-requires c κs = search needs
-
-cast-if3 : tie.Need-cast-if3
-cast-if3 c = search needs
-
 returns-3 : tie.Need-returns-3
 unfolding foundAt
 returns-3 c = simp (le-ltb _ _ (c .before .before .if2 .left), ← c .before .u16-at .ensures, lt-ltb _ _ (c .if3 .taken))
-
-add-u16-at : tie.Need-add-u16-at
-add-u16-at c = search needs
-
-u16-at-requires-2 : tie.Need-u16-at-requires-2
-u16-at-requires-2 c κs = search needs
-
-in-order-requires : tie.Need-in-order-requires
-in-order-requires c κs = search needs
-
-found-of-requires : tie.Need-found-of-requires
-found-of-requires c κs = search needs
 
 returns-4 : tie.Need-returns-4
 unfolding foundAt
@@ -63,16 +42,5 @@ returns-5 c =
 pub found-at-spec : {M : Type 1} → statement M
 found-at-spec =
     tie.close
-    (tie.spec
-    returns
-    sub-left
-    returns-2
-    u16-at-requires
-    cast-if3
-    returns-3
-    add-u16-at
-    u16-at-requires-2
-    in-order-requires
-    found-of-requires
-    returns-4
-    returns-5)
+    (tie.spec returns (λ c. search needs) returns-2 (λ c κs. search needs) (λ c. search needs) returns-3 (λ c. search needs)
+    (λ c κs. search needs) (λ c κs. search needs) (λ c κs. search needs) returns-4 returns-5)

@@ -6,18 +6,6 @@ use borrow.Author.Needs.{needs}
 use Rattle.graph.proofs.record.found_of.Statement.{statement}
 use Rattle.graph.proofs.record.found_of.Tie as tie
 
-sized-requires : tie.Need-sized-requires
-sized-requires c κs = search needs
-
-sized-requires-2 : tie.Need-sized-requires-2
-sized-requires-2 c κs = search needs
-
-sized-requires-3 : tie.Need-sized-requires-3
-sized-requires-3 c κs = search needs
-
-sized-requires-4 : tie.Need-sized-requires-4
-sized-requires-4 c κs = search needs
-
 returns : tie.Need-returns
 unfolding foundOf
 returns c = c .sized .ensures ∙ simp (c .before .match .keys1)
@@ -37,12 +25,5 @@ returns-4 c = c .sized4 .ensures ∙ simp (ne-eqb _ _ (c .before .match .rest .0
 pub found-of-spec : {M : Type 1} → statement M
 found-of-spec =
     tie.close
-    (tie.spec
-    sized-requires
-    sized-requires-2
-    sized-requires-3
-    sized-requires-4
-    returns
-    returns-2
-    returns-3
-    returns-4)
+    (tie.spec (λ c κs. search needs) (λ c κs. search needs) (λ c κs. search needs) (λ c κs. search needs) returns returns-2
+    returns-3 returns-4)

@@ -16,12 +16,6 @@ tested c = sym (c .among .ensures ∙ rw (c .before .before .wide .ensures))
 returns : tie.Need-returns
 returns c = (simp (lt-ltb _ _ (c .if1 .taken)), simp (lt-ltb _ _ (c .if1 .taken)))
 
-wide-requires : tie.Need-wide-requires
-wide-requires c κs = search needs
-
-among-requires : tie.Need-among-requires
-among-requires c κs = search needs
-
 returns-2 : tie.Need-returns-2
 returns-2 c =
     let few = le-ltb _ _ (c .before .before .before .before .if1 .left) in
@@ -34,15 +28,6 @@ returns-3 c =
     let new = tested (c .before .before) ∙ c .before .if2 .left in
     (simp (few, new) (omega arith), simp (few, new, eq-eqb _ _ (c .if3 .taken)))
 
-add-lists : tie.Need-add-lists
-add-lists c = search needs
-
-element-write-lists : tie.Need-element-write-lists
-element-write-lists c = search needs
-
-add-result : tie.Need-add-result
-add-result c = search needs
-
 returns-4 : tie.Need-returns-4
 returns-4 c =
     let few = le-ltb _ _ (c .before .before .before .before .before .if1 .left) in
@@ -52,13 +37,5 @@ returns-4 c =
 pub add-source-spec : {M : Type 1} → statement M
 add-source-spec =
     tie.close
-    (tie.spec
-    returns
-    wide-requires
-    among-requires
-    returns-2
-    returns-3
-    add-lists
-    element-write-lists
-    add-result
-    returns-4)
+    (tie.spec returns (λ c κs. search needs) (λ c κs. search needs) returns-2 returns-3 (λ c. search needs) (λ c. search needs)
+    (λ c. search needs) returns-4)

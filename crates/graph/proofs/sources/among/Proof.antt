@@ -17,18 +17,6 @@ loop-holds : tie.Need-loop-holds Inv-loop μ-loop
 unfolding among
 loop-holds c = (omega arith, refl)
 
-add-found : tie.Need-add-found Inv-loop μ-loop
-add-found c = omega arith
-
-element-copy-out-found : tie.Need-element-copy-out-found Inv-loop μ-loop
-element-copy-out-found c = omega arith
-
-add-i : tie.Need-add-i Inv-loop μ-loop
-add-i c = omega arith
-
-loop-less : tie.Need-loop-less Inv-loop μ-loop
-loop-less c = omega arith
-
 loop-again : tie.Need-loop-again Inv-loop μ-loop
 unfolding among
 loop-again c = (omega arith, simp (add-one, c .before .before .loop .inv .1))
@@ -40,13 +28,5 @@ returns c = let all : c .before .loop .i ≡ c .before .before .args .n = omega 
 pub among-spec : {M : Type 1} → statement M
 among-spec =
     tie.close
-    (tie.spec
-    Inv-loop
-    μ-loop
-    loop-holds
-    add-found
-    element-copy-out-found
-    add-i
-    loop-less
-    loop-again
+    (tie.spec Inv-loop μ-loop loop-holds (λ c. omega arith) (λ c. omega arith) (λ c. omega arith) (λ c. omega arith) loop-again
     returns)

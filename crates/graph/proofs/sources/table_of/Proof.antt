@@ -17,12 +17,6 @@ abbrev μ-loop : tie.MeasureT-loop
 loop-holds : tie.Need-loop-holds Inv-loop μ-loop
 loop-holds c = (omega arith, tabling-none)
 
-element-copy-out-source : tie.Need-element-copy-out-source Inv-loop μ-loop
-element-copy-out-source c = omega arith
-
-element-copy-out-wide : tie.Need-element-copy-out-wide Inv-loop μ-loop
-element-copy-out-wide c = omega arith
-
 wide-requires : tie.Need-wide-requires Inv-loop μ-loop
 wide-requires c κs = tt
 
@@ -65,12 +59,6 @@ add-source-requires c κs =
 array-write-counts : tie.Need-array-write-counts Inv-loop μ-loop
 array-write-counts c = target (c .before .before .before)
 
-add-w : tie.Need-add-w Inv-loop μ-loop
-add-w c = omega arith
-
-loop-less : tie.Need-loop-less Inv-loop μ-loop
-loop-less c = omega arith
-
 loop-again : tie.Need-loop-again Inv-loop μ-loop
 loop-again c = let at = c .before .before .before .before .before .before .before in
     let ss = at .before .args .sources .now in
@@ -87,24 +75,6 @@ returns c = let all : c .before .loop .w ≡ c .before .before .args .wires = om
 pub table-of-spec : {M : Type 1} → statement M
 table-of-spec =
     tie.close
-    (tie.spec
-    Inv-loop
-    μ-loop
-    loop-holds
-    element-copy-out-source
-    element-copy-out-wide
-    wide-requires
-    array-read-n
-    array-read-count
-    array-read-second
-    second-requires
-    array-write-seconds
-    add-ins
-    array-write-ins
-    mul-add-source
-    add-source-requires
-    array-write-counts
-    add-w
-    loop-less
-    loop-again
-    returns)
+    (tie.spec Inv-loop μ-loop loop-holds (λ c. omega arith) (λ c. omega arith) wide-requires array-read-n array-read-count
+    array-read-second second-requires array-write-seconds add-ins array-write-ins mul-add-source add-source-requires
+    array-write-counts (λ c. omega arith) (λ c. omega arith) loop-again returns)

@@ -25,9 +25,6 @@ list-length c = length-take-le (c .args .count) (c .args .list .now) (omega (ari
 loop-holds : tie.Need-loop-holds Inv-loop μ-loop
 loop-holds c = (omega arith, omega arith, record { only = refl; lines = refl })
 
-element-copy-out-wide : tie.Need-element-copy-out-wide Inv-loop μ-loop
-element-copy-out-wide c = omega arith
-
 wide-requires : tie.Need-wide-requires Inv-loop μ-loop
 wide-requires c κs = tt
 
@@ -72,12 +69,6 @@ line-few c =
 add-sum : tie.Need-add-sum Inv-loop μ-loop
 add-sum c = omega (arith, line-few c)
 
-add-i : tie.Need-add-i Inv-loop μ-loop
-add-i c = omega arith
-
-loop-less : tie.Need-loop-less Inv-loop μ-loop
-loop-less c = omega arith
-
 loop-again : tie.Need-loop-again Inv-loop μ-loop
 loop-again c =
     let here = c .before .before in
@@ -117,19 +108,5 @@ returns-2 c =
 pub listed-lines-spec : {M : Type 1} → statement M
 listed-lines-spec =
     tie.close
-    (tie.spec
-    Inv-loop
-    μ-loop
-    loop-holds
-    element-copy-out-wide
-    wide-requires
-    mul-node
-    array-copy-out-node
-    delays-requires
-    line-of-requires
-    add-sum
-    add-i
-    loop-less
-    loop-again
-    returns
-    returns-2)
+    (tie.spec Inv-loop μ-loop loop-holds (λ c. omega arith) wide-requires mul-node array-copy-out-node delays-requires
+    line-of-requires add-sum (λ c. omega arith) (λ c. omega arith) loop-again returns returns-2)

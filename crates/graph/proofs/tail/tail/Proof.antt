@@ -11,15 +11,6 @@ use borrow.Author.Needs.{needs}
 use Rattle.graph.proofs.tail.tail.Statement.{statement}
 use Rattle.graph.proofs.tail.tail.Tie as tie
 
-places-requires : tie.Need-places-requires
-places-requires c κs = search needs
-
-late-count-requires : tie.Need-late-count-requires
-late-count-requires c κs = search needs
-
-listed-lines-requires : tie.Need-listed-lines-requires
-listed-lines-requires c κs = search needs
-
 -- the late wires that are counted are those of the list
 counted : (c : tie.After-late-count) →
     let a = c .before .before .before .args in
@@ -42,9 +33,4 @@ returns-2 c = (sym (tail-late _ _ _ (ne-eqb _ 0 (λ e. c .if1 .left (counted (c 
 pub tail-spec : {M : Type 1} → statement M
 tail-spec =
     tie.close
-    (tie.spec
-    places-requires
-    late-count-requires
-    listed-lines-requires
-    returns
-    returns-2)
+    (tie.spec (λ c κs. search needs) (λ c κs. search needs) (λ c κs. search needs) returns returns-2)

@@ -12,9 +12,6 @@ use Rattle.graph.proofs.Wired.{sources-within, targets-within, table, g
 use Rattle.graph.proofs.tail.tail_of.Statement.{statement}
 use Rattle.graph.proofs.tail.tail_of.Tie as tie
 
-read-board-requires : tie.Need-read-board-requires
-read-board-requires c κs = search needs
-
 returns : tie.Need-returns
 unfolding tailAnswer
 returns c =
@@ -44,9 +41,6 @@ tail-requires c κs =
       (l .size, l .fits, l .below, lines-listed _ _ read (here .if1 .left) _ _ l),
     )
 
-new-requires : tie.Need-new-requires
-new-requires c κs = search needs
-
 returns-2 : tie.Need-returns-2
 unfolding tailAnswer
 returns-2 c =
@@ -61,10 +55,4 @@ returns-2 c =
 pub tail-of-spec : {M : Type 1} → statement M
 tail-of-spec =
     tie.close
-    (tie.spec
-    read-board-requires
-    returns
-    visiting-list-requires
-    tail-requires
-    new-requires
-    returns-2)
+    (tie.spec (λ c κs. search needs) returns visiting-list-requires tail-requires (λ c κs. search needs) returns-2)

@@ -7,19 +7,10 @@ use Rattle.leaves.specs.Words.{words, words-set, word-split}
 use Rattle.leaves.proofs.bytes.put_word.Statement.{statement}
 use Rattle.leaves.proofs.bytes.put_word.Tie as tie
 
-mul-put-u32 : tie.Need-mul-put-u32
-mul-put-u32 c = search needs
-
-put-u32-requires : tie.Need-put-u32-requires
-put-u32-requires c κs = search needs
-
-same-length : tie.Need-same-length
-same-length c = search needs
-
 returns : tie.Need-returns
 returns c =
     let start = c .before .before .before .before .before in
     ap words (c .before .before .put-u32 .ensures) ∙ words-set _ _ _ _ _ _ (start .pre) ∙ ap (set (words (now (start .args .mem))) (start .args .k)) (word-split (start .args .v) (start .fits .v .fits))
 
 pub put-word-spec : {M : Type 1} → statement M
-put-word-spec = tie.close (tie.spec mul-put-u32 put-u32-requires same-length returns)
+put-word-spec = tie.close (tie.spec (λ c. search needs) (λ c κs. search needs) (λ c. search needs) returns)

@@ -5,14 +5,8 @@ use Rattle.leaves.specs.Words.{words-at}
 use Rattle.leaves.proofs.bytes.word_at.Statement.{statement}
 use Rattle.leaves.proofs.bytes.word_at.Tie as tie
 
-mul-u32-at : tie.Need-mul-u32-at
-mul-u32-at c = search needs
-
-u32-at-requires : tie.Need-u32-at-requires
-u32-at-requires c κs = search needs
-
 returns : tie.Need-returns
 returns c = c .u32-at .ensures ∙ sym (words-at _ _ (c .before .before .pre))
 
 pub word-at-spec : {M : Type 1} → statement M
-word-at-spec = tie.close (tie.spec mul-u32-at u32-at-requires returns)
+word-at-spec = tie.close (tie.spec (λ c. search needs) (λ c κs. search needs) returns)

@@ -8,13 +8,10 @@ use Rattle.leaves.proofs.Patterns.{finite-float}
 use Rattle.leaves.proofs.float.finite.Statement.{statement}
 use Rattle.leaves.proofs.float.finite.Tie as tie
 
-to-bits-requires : tie.Need-to-bits-requires
-to-bits-requires c κs = search needs
-
 returns : tie.Need-returns
 returns c =
     ap (λ (w : ℕ). ltb (w % 0x8000_0000) 0x7f80_0000) (c .to-bits .ensures)
     ∙ sym (finite-float (c .before .args .x) (passes _ (c .before .good .0 .1)))
 
 pub finite-spec : {M : Type 1} → statement M
-finite-spec = tie.close (tie.spec to-bits-requires returns)
+finite-spec = tie.close (tie.spec (λ c κs. search needs) returns)

@@ -16,12 +16,6 @@ digits : (c : tie.Then1) → Digits (toBits binary32 (c .before .args .x)) (floo
 unfolding ofBits
 digits c = from-one (c .before .args .x) (c .before .pre) (c .if1 .taken)
 
-add-digits : tie.Need-add-digits
-add-digits c = search needs
-
-mul-result : tie.Need-mul-result
-mul-result c = search needs
-
 sub-result : tie.Need-sub-result
 sub-result c = digits c .field-high
 
@@ -38,4 +32,4 @@ returns-2 c = below-one (c .before .args .x) (2 ^ 24) (c .before .pre) (c .if1 .
 pub floor-spec : {M : Type 1} → statement M
 floor-spec =
     tie.close
-    (tie.spec float-to-bits-bits add-digits mul-result sub-result shr-result returns returns-2)
+    (tie.spec float-to-bits-bits (λ c. search needs) (λ c. search needs) sub-result shr-result returns returns-2)

@@ -13,8 +13,5 @@ returns : tie.Need-returns
 unfolding div ofBits
 returns c = sym (above-inf (c .before .args .bits) (search needs))
 
-returns-2 : tie.Need-returns-2
-returns-2 c = search needs
-
 pub of-bits-spec : {M : Type 1} → statement M
-of-bits-spec = tie.close (tie.spec float-from-bits-result returns returns-2)
+of-bits-spec = tie.close (tie.spec float-from-bits-result returns (λ c. search needs))

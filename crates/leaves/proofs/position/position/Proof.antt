@@ -13,15 +13,9 @@ int-to-float-top : tie.Need-int-to-float-top
 unfolding inFloat
 int-to-float-top c = le→leb (c .before .args .n) (2 ^ 24) (omega (arith, c .before .pre))
 
-keep-requires : tie.Need-keep-requires
-keep-requires c κs = search needs
-
-turn-requires : tie.Need-turn-requires
-turn-requires c κs = search needs
-
 returns : tie.Need-returns
 unfolding ofBits positionOf
 returns c = c .turn .ensures ∙ ap (λ (w : Float). turned (topOf (c .before .before .before .args .n)) w) (c .before .keep .ensures)
 
 pub position-spec : {M : Type 1} → statement M
-position-spec = tie.close (tie.spec int-to-float-top keep-requires turn-requires returns)
+position-spec = tie.close (tie.spec int-to-float-top (λ c κs. search needs) (λ c κs. search needs) returns)
