@@ -111,8 +111,8 @@ fn length_answer(length: Length) -> Answer
 }
 
 // 0 and the length of a delay of so many milliseconds.
-// Ruled out: a delay of no sample (leaves, no_shortest_delay), a length past the line's (the bound on
-// every answered length: leaves, proofs/Samples).
+// Ruled out: a delay of no sample (leaves, no_shortest_delay), a time past 3000 ms answered with the
+// longest line (leaves, delay_too_long_taken).
 #[no_mangle]
 pub extern "C" fn plate_delay_length(ms: f32) -> Answer
     ensures { λ r. ⌜ r ≡ lengthAnswer (delayOf ms) ⌝ }
@@ -122,7 +122,7 @@ pub extern "C" fn plate_delay_length(ms: f32) -> Answer
 
 // 0 and the length of an all-pass of so many milliseconds.
 // Ruled out: another length for 0 ms (leaves, all_pass_of_zero), a line of no sample (leaves,
-// proofs/Samples).
+// all_pass_of_no_sample).
 #[no_mangle]
 pub extern "C" fn plate_allpass_length(ms: f32) -> Answer
     ensures { λ r. ⌜ r ≡ lengthAnswer (allPassOf ms) ⌝ }
