@@ -71,7 +71,9 @@ plate_answer plate_message(const uint8_t *board, size_t board_len, uint8_t *memo
 plate_answer plate_mix(const uint8_t *board, size_t board_len, uint8_t *memory, size_t memory_len, float mix);
 
 /* Writes a plate of block size n: all PLATE_BYTES bytes of the board. Answers 0 and 0, or 3 (place 0), 12 (place 41),
-   7. The judge accepts what it wrote, with a memory of 236,392 + 212 x n bytes. */
+   7. The judge accepts what it wrote, with a memory of 236,392 + 212 x n bytes. The delay that its one late wire leads
+   into, node 15, has 2,800 samples at every n, so plates of different n differ in sound; docs/SIZES.md says which line
+   makes them the same. */
 plate_answer plate_write(uint32_t n, float mix, uint8_t *board, size_t board_len);
 
 /* Answers 0 and the length in samples of a delay of 0 to 3000 ms, at least 1; or 12. */

@@ -1,5 +1,5 @@
 # Writes what the program `card` is tried on, crates/card/stdin, and what it must write, crates/card/stdout.
-# This is a second reading of docs/CARD.md in exact fractions, with the plate's bytes from tools/plate_bytes.py.
+# This is a second reading of docs/CARD.md in exact fractions, and of docs/SIZES.md, with the plate's bytes from tools/plate_bytes.py.
 # Use: python3 tools/card_vectors.py
 import os
 import random
@@ -177,14 +177,47 @@ def late(wires):
     return lambda a, b: a in order and b in order and order.index(a) >= order.index(b)
 
 
+# an accepted board at blocks of `size`: the words, the head and nodes then, and whether a line was corrected
+def sized(head, nodes, wires, size):
+    is_late = late(wires)
+    lates = [wire for wire in wires if is_late(*wire)]
+    new_head = (size, head[1])
+    if size == head[0]:
+        return 'blocks of %d already: nothing changes' % size, head, nodes, False
+    if not lates:
+        return 'blocks of %d: no wire is late, so nothing else changes' % size, new_head, nodes, False
+    if len(lates) > 1:
+        return 'not carried: %d wires are late, and only one can be made up for' % len(lates), head, nodes, False
+    target = lates[0][1]
+    kind, n, f = nodes[target]
+    words = 'not carried: the late wire leads into node %d, ' % target
+    if kind != 7:
+        return words + 'which is no delay', head, nodes, False
+    words += 'a delay of %d' % n
+    longer = n + head[0] - size
+    new_nodes = nodes[:target] + [(7, longer, 0)] + nodes[target + 1:]
+    if longer < 1:
+        return words + ', which is too short', head, nodes, False
+    if longer > 132300:
+        return words + ': it would pass 132300', head, nodes, False
+    try:
+        judge(new_head, new_nodes, wires)
+    except Bad:
+        return words + ': all lines together would pass 262144', head, nodes, False
+    return 'blocks of %d: node %d, a delay of %d, becomes a delay of %d' % (size, target, n, longer), new_head, new_nodes, True
+
+
+def hexed(made):
+    return [made[i:i + 32].hex() for i in range(0, len(made), 32)] + [''] * (len(made) % 32 == 0)
+
+
 def shown(card):
     try:
         head, nodes, wires = read(card)
         judge(head, nodes, wires)
     except Bad as bad:
         return '%s\n' % bad
-    made = board(head, nodes, wires)
-    out = [made[i:i + 32].hex() for i in range(0, len(made), 32)]
+    out = hexed(board(head, nodes, wires))
     out += ['block %d input %d' % head]
     out += ['%s  # %d' % (kind_text(*node), i) for i, node in enumerate(nodes)]
     out += ['wire %d %d' % wire for wire in wires]
@@ -192,7 +225,11 @@ def shown(card):
     out += ['  %d [label="%d %s"];' % (i, i, kind_text(*node)) for i, node in enumerate(nodes)]
     is_late = late(wires)
     out += ['  %d -> %d%s;' % (a, b, ' [style=dashed]' * is_late(a, b)) for a, b in wires]
-    return '\n'.join(out + ['}']) + '\n'
+    out += ['}']
+    for size in (1, 64, 128):
+        words, head, nodes, corrected = sized(head, nodes, wires, size)
+        out += [words] + (hexed(board(head, nodes, wires)) if corrected else [])
+    return '\n'.join(out) + '\n'
 
 
 # a card with a mul for each number
@@ -202,6 +239,11 @@ def muls(numbers):
 
 
 FRAME = 'block 2 input 1\ndestination\npass\n'
+# the printed board's loop with its late wire into a delay, of n samples, at blocks of 64
+def loop(n, more=''):
+    return 'block 64 input 1\ndestination\npass\nadd 0\nmul 0.5\ndelay %d\n%swire 1 2\nwire 2 3\nwire 3 4\nwire 4 2\nwire 3 0\n' % (n, more)
+
+
 PRINTED = 'block 2 input 1\ndestination\npass\nadd 0\ndelay 1\nmul 0.5\nwire 1 2\nwire 2 3\nwire 3 4\nwire 4 2\nwire 3 0\n'
 
 
@@ -247,6 +289,16 @@ def cards():
     # at the limits
     yield FRAME.replace('2', '128') + 'sum\n' * 62 + 'wire 1 2\n' * 128
     yield FRAME + 'sine 44100\nsine -0\nallpass 131072 -0.5\nwire 2 4'
+    # at other block sizes: a line that is corrected, is too short or too long, just and not; all lines together, just and not; two late
+    # wires, one of them a repeat or into another loop; a loop out of reach
+    for n in (20, 64, 65, 132237, 132238):
+        yield loop(n)
+    for n in (130540, 130541):
+        yield loop(1000, 'allpass %d 0.5\nsum\n' % n).replace('wire 3 0', 'wire 3 0\nwire 1 5')
+    yield loop(20) + 'wire 3 4\n'
+    yield loop(20, 'sum\ndelay 5\n') + 'wire 2 5\nwire 6 5\nwire 5 6\nwire 5 0\n'
+    yield FRAME + 'sum\ndelay 5\nwire 1 2\nwire 3 2\nwire 2 3\nwire 1 0\n'
+    yield loop(20).replace('delay', 'allpass').replace(' 20', ' 20 0.5')
 
 
 plate = subprocess.run([sys.executable, os.path.join(ROOT, 'tools/plate_bytes.py')], capture_output=True, check=True).stdout

@@ -311,6 +311,11 @@ MOVING = board(
     [(1, 5), (2, 3), (3, 4), (4, 5), (5, 6), (6, 7), (7, 8), (1, 8), (8, 0)])
 
 
+# the printed board's loop with its late wire into a delay, of n samples
+def loop(size, n):
+    return board(size, 1, [(3,), (1,), (6,), (5, 0, 0.5), (7, n)], [(1, 2), (2, 3), (3, 4), (4, 2), (3, 0)])
+
+
 def noise(count, seed=1):
     out = []
     for _ in range(count):
@@ -338,6 +343,11 @@ def make_files():
         "damaged.board": PRINTED[:8] + node(3) + node(1) + node(6) + node(7, 0) + PRINTED[64:],
         "tail.board": TAIL,
         "moving.board": MOVING,
+        "loop16.board": loop(16, 5),
+        "loop4.board": loop(4, 17),
+        "loop4_uncorrected.board": loop(4, 5),
+        "plate64.board": plate_bytes(0.3, 64, 2864),
+        "plate64_uncorrected.board": plate_bytes(0.3, 64),
         "mono16.wav": riff(fmt(1, 1, 16), data(words16)),
         "mono24.wav": riff(chunk(b"LIST", b"odd"), fmt(1, 1, 24), chunk(b"odd ", b"?"), data(words24)),
         "mono32.wav": riff(fmt(3, 1, 32), data(floats(sounds + [1e-40, -0.0, 3e38]))),
@@ -386,6 +396,13 @@ stereo32.wav - board moving.board 0
 long.wav - plate 0.3 0
 mono16.wav - plate x3f400000 0
 
+# one preset at two block sizes, with the one line corrected and without (tools/two_sizes.py compares what is written)
+mono16.wav - board loop16.board 0
+mono16.wav - board loop4.board 0                # the same stream as loop16.board
+mono16.wav - board loop4_uncorrected.board 0    # another stream than loop16.board
+long.wav - board plate64.board 0                # the same stream as 0.3
+long.wav - board plate64_uncorrected.board 0    # another stream than 0.3
+
 # good: into a file, and on from there
 mono16.wav out.wav board printed.board 1
 stereo16.wav endless.wav board printed.board
@@ -432,12 +449,16 @@ mono16.wav - plate 0.5 1 1
 USAGE = "render IN.wav OUT.wav plate MIX [SECONDS] | render IN.wav OUT.wav board FILE [SECONDS] | render list FILE\n"
 
 
-def plate_bytes(mix):
-    """The bytes of tools/plate_bytes.py, with another mix in nodes 41, 47 and 1 - mix in 43, 49."""
+def plate_bytes(mix, size=128, line=2800):
+    """The bytes of tools/plate_bytes.py, with another mix in nodes 41, 47 and 1 - mix in 43, 49, and perhaps another block size and another
+    line of node 15."""
+    mix = single(mix)
     here = os.path.dirname(os.path.abspath(__file__))
     out = bytearray(subprocess.run([sys.executable, here + "/plate_bytes.py"], stdout=subprocess.PIPE, check=True).stdout)
     for v, x in ((41, mix), (47, mix), (43, add(1.0, -mix)), (49, add(1.0, -mix))):
         struct.pack_into("<f", out, 8 + 14 * v + 10, x)
+    struct.pack_into("<H", out, 4, size)
+    struct.pack_into("<I", out, 8 + 14 * 15 + 6, line)
     return bytes(out)
 
 

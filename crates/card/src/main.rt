@@ -1,6 +1,7 @@
 // Boards as text: `card bytes` reads a card, a board written as text, and writes the board's bytes;
 // `card text` reads a board and writes its card; `card dot` reads a board and writes it as a graph for
-// Graphviz. All read standard input and write standard output.
+// Graphviz; `card size M` reads a board and writes it at blocks of M samples. All read standard input
+// and write standard output.
 //
 // A card has a line for each record but the end record, in the order of a board. Words stand apart by
 // spaces; `#` starts a comment; an empty line is nothing.
@@ -18,12 +19,17 @@
 // A bad line is answered by `line`, its number and what is wrong, and nothing else; a board that the
 // judge refuses by `refused`, number and place. docs/CARD.md has examples.
 //
+// `card size M` corrects the one line that makes the board sound the same, or writes nothing; what it
+// did, or why it cannot, is told on standard error, so that only a board goes into a file.
+// docs/SIZES.md says what carries over.
+//
 // `card check` reads cards with a `%` between them, and writes of each the board's bytes in base 16, its
-// card and its graph.
+// card and its graph, and what becomes of it at blocks of 1, then 64, then 128.
 mod board;
 mod line;
 mod names;
 mod records;
+mod size;
 mod write;
 
 use board::Made;
@@ -31,9 +37,14 @@ use board::board_of;
 use check::same;
 use graph::judge::read_board;
 use leaves::bytes::wide;
+use libc::STDERR_FILENO;
 use libc::STDIN_FILENO;
 use libc::STDOUT_FILENO;
 use line::Reason;
+use size::show_resized;
+use sizes::resize::Resized;
+use sizes::resize::resize;
+use text::number::whole_of;
 use text::words::Stop;
 use text::words::find;
 use write::Form;
@@ -102,12 +113,24 @@ fn show_hex(s: &[u8]) {
     io::write_all(STDOUT_FILENO, b"\n");
 }
 
-// A board's bytes, or for a check all its forms.
-fn show_board(s: &[u8], check: bool) {
+// For a check: what becomes of a board at another block size, and its bytes where a line is corrected.
+fn show_at(s: &mut [u8], size: u32) {
+    let resized = resize(s, size);
+    show_resized(STDOUT_FILENO, size, resized);
+    if let Resized::Line(_, _, _) = resized {
+        show_hex(s);
+    }
+}
+
+// A board's bytes, or for a check all its forms, and what becomes of it at one block size after another.
+fn show_board(s: &mut [u8], check: bool) {
     if check {
         show_hex(s);
         show_form(s, Form::Card);
         show_form(s, Form::Graph);
+        show_at(s, 1);
+        show_at(s, 64);
+        show_at(s, 128);
     } else {
         io::write_all(STDOUT_FILENO, s);
     }
@@ -117,7 +140,7 @@ fn show_board(s: &[u8], check: bool) {
 fn show_card(card: &[u8], check: bool) {
     let mut out = [0u8; 2048];
     match board_of(card, &mut out) {
-        Made::Board(n) => show_board(&out[..n], check),
+        Made::Board(n) => show_board(&mut out[..n], check),
         Made::Refused(number, place) => show_refusal(number, place),
         Made::Bad(line, reason) => show_bad(line, reason),
     }
@@ -139,6 +162,24 @@ fn show_cards(cards: &[u8]) {
 // The input is cut at this length. No board is so long that the rest could change an answer.
 const MOST: usize = 69632;
 
+// A board at blocks of `size`: its bytes, if it was carried there.
+fn show_size(s: &mut [u8], size: u32) {
+    let resized = resize(s, size);
+    show_resized(STDERR_FILENO, size, resized);
+    match resized {
+        Resized::Kept(_) => {}
+        _ => {
+            io::write_all(STDOUT_FILENO, s);
+        }
+    }
+}
+
+// The block size that a word says; 0, which is none, where it says no number.
+fn size_of(word: &[u8]) -> u32 {
+    let whole = whole_of(word, 128);
+    if whole.good { whole.value as u32 } else { 0 }
+}
+
 // What the first argument asks.
 fn run(mode: &[u8], input: &[u8]) {
     if same(mode, b"bytes") {
@@ -154,7 +195,7 @@ fn run(mode: &[u8], input: &[u8]) {
     } else if same(mode, b"check") {
         show_cards(input);
     } else {
-        io::write_all(STDOUT_FILENO, b"card bytes | text | dot | check\n");
+        io::write_all(STDOUT_FILENO, b"card bytes | text | dot | size M | check\n");
     }
 }
 
@@ -163,5 +204,11 @@ fn main() {
     let n = io::read_full(STDIN_FILENO, &mut input);
     let mut mode = [0u8; 8];
     let m = os::arg(1, &mut mode);
+    let mut word = [0u8; 8];
+    let w = os::arg(2, &mut word);
+    if same(&mode[..m], b"size") {
+        show_size(&mut input[..n], size_of(&word[..w]));
+        return;
+    }
     run(&mode[..m], &input[..n]);
 }

@@ -14,8 +14,8 @@ within c =
     let read = c .before in
     subst (Given _) (read .n .given .1) (read .before .before .before .board-of .ensures) .0
 
-array-share-prefix-out : tie.Need-array-share-prefix-out
-array-share-prefix-out c = within c
+array-borrow-prefix-out : tie.Need-array-borrow-prefix-out
+array-borrow-prefix-out c = within c
 
 slice-aggregate-show-board : tie.Need-slice-aggregate-show-board
 slice-aggregate-show-board c = sym (length-take-le _ _ (within (c .before)))
@@ -23,6 +23,6 @@ slice-aggregate-show-board c = sym (length-take-le _ _ (within (c .before)))
 pub show-card-spec : {M : Type 1} → statement M
 show-card-spec =
     tie.close
-    (tie.spec (λ c. search needs) (λ c κs. search needs) (λ c. search needs) array-share-prefix-out
+    (tie.spec (λ c. search needs) (λ c κs. search needs) (λ c. search needs) array-borrow-prefix-out
     slice-aggregate-show-board (λ c κs. search needs) (λ c. search needs) (λ c κs. search needs)
     (λ c. search needs) (λ c κs. search needs) (λ c. search needs) (λ c. search needs) (λ c. search needs))

@@ -1,0 +1,2 @@
+// One preset at two block sizes.
+pub mod resize;
