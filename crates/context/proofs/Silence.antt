@@ -1,9 +1,10 @@
 -- The tail of document 01, "Leaves": where it is a figure, and not endless, output is zero at most that many samples after input turns zero for
 -- good, whatever calls are made from fresh memory, refused ones and number messages among them.
+--     played-is       the blocks that accepted block runs write are node 0's samples by time
 --     falls-silent    of a board that is read as p
 --     tail-holds      of bytes for which the tail call answers a figure
 -- Assumes nothing.
-use Prim.Native.Nat.{ℕ, zero, suc, _+_, _*_, _/_, _%_, _≤_, _<_}
+use Prim.Native.Nat.{ℕ, suc, _+_, _*_, _/_, _%_, _≤_, _<_}
 use mathlib.Core.Path.{_≡_, refl, sym, ap, subst, _∙_}
 use mathlib.Core.Logic.{_≢_, inl}
 use mathlib.Core.Bool.{Bool, true, false, cond, _&&_, _||_, false≢true}
@@ -24,7 +25,7 @@ use Rattle.reading.specs.Order.{Wire, Each, late}
 use Rattle.reading.specs.Visit.{start}
 use Rattle.reading.specs.Keeps.{All}
 use Rattle.reading.specs.Tail.{sumOf, NoLate}
-use Rattle.reading.proofs.Table.{getD-tab}
+use Rattle.reading.proofs.Table.{tab-agree, getD-tab}
 use Rattle.reading.proofs.Order.{each-source}
 use Rattle.reading.proofs.Tail.{tail}
 use Rattle.graph.specs.Answer.{answer}
@@ -135,11 +136,11 @@ module _ (p : Parsed) (s : Timed Frame) (g : Reply → List ℕ) (w : ℕ → �
   abbrev blockAt : ℕ → List ℕ
   blockAt b = unwords (tab (p .size) (λ i. w (b * p .size + i)))
 
-  -- the block that accepted block run j writes, where b have been accepted before
-  played-at : (cs : List Call) (b j : ℕ) → j < length (inputs (accepted p cs)) → getD (map g (played p cs (repliesTo p s b cs))) j [] ≡ blockAt (b + j)
+  -- the blocks that the accepted block runs write, where b have been accepted before
+  pub played-is : (cs : List Call) (b : ℕ) → map g (played p cs (repliesTo p s b cs)) ≡ tab (length (inputs (accepted p cs))) (λ j. blockAt (b + j))
   unfolding played repliesTo accepted inputs
-  played-at [] b j h = absurd (omega arith)
-  played-at (block x l r ∷ cs) b j h = go (accepts p (block x l r)) j h (played-at cs)
+  played-is [] b = refl
+  played-is (block x l r ∷ cs) b = go (accepts p (block x l r)) (played-is cs)
     where
       a : Answer
       a = answerTo p (block x l r)
@@ -150,15 +151,18 @@ module _ (p : Parsed) (s : Timed Frame) (g : Reply → List ℕ) (w : ℕ → �
       rest : ℕ → List Reply
       rest n = played p cs (repliesTo p s n cs)
 
-      go : (q : Bool) (i : ℕ) → i < length (inputs (cond q (block x l r ∷ accepted p cs) (accepted p cs)))
-          → ((n m : ℕ) → m < length (inputs (accepted p cs)) → getD (map g (rest n)) m [] ≡ blockAt (n + m))
-          → getD (map g (cond q (reply q ∷ rest (cond q (suc b) b)) (rest (cond q (suc b) b)))) i [] ≡ blockAt (b + i)
-      go true zero k ih = let e : b ≡ b + 0 = omega arith in writes b a ∙ ap blockAt e
-      go true (suc i) k ih = let e : suc b + i ≡ b + suc i = omega arith in ih (suc b) i (omega arith) ∙ ap blockAt e
-      go false i k ih = ih b i k
-  played-at (message k w ∷ cs) b j h = played-at cs b j (subst (λ (n : ℕ). j < n) (go (accepts p (message k w))) h)
+      go : (q : Bool) → ((n : ℕ) → map g (rest n) ≡ tab (length (inputs (accepted p cs))) (λ j. blockAt (n + j)))
+          → map g (cond q (reply q ∷ rest (cond q (suc b) b)) (rest (cond q (suc b) b)))
+          ≡ tab (length (inputs (cond q (block x l r ∷ accepted p cs) (accepted p cs)))) (λ j. blockAt (b + j))
+      go true ih =
+          let first : b ≡ b + 0 = omega arith in
+          let others = tab-agree (length (inputs (accepted p cs))) (λ j. blockAt (suc b + j)) (λ j. blockAt (b + suc j))
+          (λ j _. let e : suc b + j ≡ b + suc j = omega arith in ap blockAt e) in
+          λ i. (writes b a ∙ ap blockAt first) i ∷ (ih (suc b) ∙ others) i
+      go false ih = ih b
+  played-is (message k v ∷ cs) b = played-is cs b ∙ ap (λ (n : ℕ). tab n (λ j. blockAt (b + j))) (go (accepts p (message k v)))
     where
-      go : (q : Bool) → length (inputs (cond q (message k w ∷ accepted p cs) (accepted p cs))) ≡ length (inputs (accepted p cs))
+      go : (q : Bool) → length (inputs (accepted p cs)) ≡ length (inputs (cond q (message k v ∷ accepted p cs) (accepted p cs)))
       go true = refl
       go false = refl
 
@@ -167,7 +171,8 @@ module _ (p : Parsed) (s : Timed Frame) (g : Reply → List ℕ) (w : ℕ → �
   output-is pos cs t h =
       let N : ℕ = p .size in
       let b : ℕ = 0 + t / N in
-      ap (λ (l : List ℕ). getD (words l) (t % N) 1) (played-at cs 0 (t / N) (div-lt-iff-lt-mul pos .1 h))
+      ap (λ (bs : List (List ℕ)). getD (words (getD bs (t / N) [])) (t % N) 1) (played-is cs 0)
+      ∙ ap (λ (l : List ℕ). getD (words l) (t % N) 1) (getD-tab (length (inputs (accepted p cs))) (λ j. blockAt (0 + j)) (t / N) [] (div-lt-iff-lt-mul pos .1 h))
       ∙ ap (λ (l : List ℕ). getD l (t % N) 1) (words-unwords (tab N (λ i. w (b * N + i))))
       ∙ getD-tab N (λ i. w (b * N + i)) (t % N) 1 (mod-lt t pos)
       ∙ ap w (rw zero-add (div-add-mod' t N))

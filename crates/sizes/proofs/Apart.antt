@@ -3,11 +3,11 @@
 --     one-line-alike           two boards that differ in block size and one line
 --     size-only-alike          two boards that differ in block size alone, where no wire is late
 -- Assumes nothing.
-use Prim.Native.Nat.{ℕ, suc, _+_, _-_, _≤_}
+use Prim.Native.Nat.{ℕ, suc, _-_, _≤_}
 use mathlib.Core.Path.{_≡_, refl, sym, ap, subst, _∙_}
 use mathlib.Core.Logic.{_≢_}
 use mathlib.Core.Bool.{Bool, true, false, _&&_}
-use mathlib.Core.List.{List, [], _∷_}
+use mathlib.Core.List.{List}
 use native.Mathlib.Decide.{ℕ-discrete}
 use native.Mathlib.Omega.{arith}
 use lib.ListN.{getD}
@@ -24,7 +24,7 @@ use Rattle.context.specs.Calls.{listed}
 use Rattle.context.specs.Fine.{Fine}
 use Rattle.context.specs.Reading.{reached}
 use Rattle.context.proofs.FineBoard.{lists}
-use Rattle.sizes.specs.Sizes.{kinds, OneLine, SizeOnly}
+use Rattle.sizes.specs.Sizes.{OneLine, SizeOnly}
 use Rattle.sizes.proofs.Boards.{kind-in, line-fits, other-kind, new-kind, late-among, late-all}
 use Rattle.sizes.proofs.Carried.{OnTime, Alike, same, corrected}
 

@@ -10,5 +10,6 @@ pub mod Obeying
 pub mod Planning
 pub mod Rewritten
 pub mod Settled
+pub mod Returned
 pub mod PlateSizes
 pub mod Worked

@@ -3,6 +3,8 @@
 --     size-read       so accepted bytes with another size are read as the board of that size, of the same kinds
 --     line-read       and with another line at a delay besides, as that board with that kind replaced
 --     laid-out        a board that is read is determined by its size, input node, wires and kinds
+--     size-back, line-back    the size, and the line, stored again as they were
+--     lines-replaced  the lines together, of boards of which one has another delay in a place
 -- Assumes nothing.
 use Prim.Native.Nat.{ℕ, zero, suc, _+_, _*_, _≤_, _<_}
 use mathlib.Core.Path.{_≡_, refl, sym, ap, subst, _∙_}
@@ -11,14 +13,14 @@ use mathlib.Core.List.{List, [], _∷_, _++_, map}
 use native.Mathlib.Omega.{arith}
 use lib.Dec.{eqb}
 use lib.ListN.{length, getD, set, length-set, List·getD-map}
-use lib.Seq.{sets, map-set-same}
+use lib.Seq.{sets, map-set-same, set-set, set-getD, getD-set-same}
 use borrow.Author.Tests.{eqb-true}
 use Rattle.leaves.specs.Bytes.{u16Bytes, u32Bytes}
 use Rattle.nodes.specs.Kind.{lineOf, channelsOf, cellSize}
 use Rattle.nodes.specs.declared.kind.NodeKind.{NodeKind}
 use Rattle.nodes.specs.declared.kind.NodeKind.the-variants.{Pass, Delay}
 use Rattle.nodes.specs.declared.kind.NodeRecord.{NodeRecord}
-use Rattle.graph.specs.Board.{Parsed, whole, blank, linesOf}
+use Rattle.graph.specs.Board.{Parsed, whole, linesOf}
 use Rattle.graph.specs.Judge.{readBoard}
 use Rattle.graph.specs.Write.{NodeCard, Card, headBytes, nodeBytes, wiresBytes, endBytes, nodesBytes, writeBoard, kindOf, recordsFrom, asRead, noNode, noWire, EachAt, FieldsObey, NodeObeys, WireObeys, SourcesObey, linesOfCards, Obeys}
 use Rattle.graph.proofs.Round.{Accepted, write-read}
@@ -71,6 +73,18 @@ line-bytes c k m h =
     sets-behind head (nodesBytes (c .nodes) ++ wires ++ endBytes) (14 * k + 6) (14 * k + 14) (u32Bytes m) (omega arith)
     ∙ ap (λ (t : List ℕ). head ++ t) (nodes-bytes m wires endBytes (c .nodes) k (14 * k + 6) h refl)
 
+two-stores : (c : Card) (M k m : ℕ) → k < length (c .nodes)
+    → sets (sets (writeBoard c) 4 (u16Bytes M)) (14 * k + 14) (u32Bytes m) ≡ writeBoard (cardOf c M (lined (c .nodes) k m))
+two-stores c M k m h = ap (λ (b : List ℕ). sets b (14 * k + 14) (u32Bytes m)) (size-bytes c M) ∙ line-bytes (cardOf c M (c .nodes)) k m h
+
+-- the line as it was
+lined-back : (ds : List NodeCard) (k m : ℕ) → k < length ds → lined (lined ds k m) k ((getD ds k noNode) .n) ≡ ds
+lined-back ds k m h =
+    let d : NodeCard = getD ds k noNode in
+    ap (λ (x : NodeCard). set (lined ds k m) k (withLine x (d .n))) (getD-set-same ds k (withLine d m) noNode h)
+    ∙ set-set ds k (withLine d m) d
+    ∙ set-getD ds k noNode
+
 -- ---- the description of a delay
 
 delay-kind : (d : NodeCard) → d .type ≡ 7 → kindOf d ≡ Delay (d .n)
@@ -105,11 +119,11 @@ map-set {B = B} f (x ∷ l) (suc i) y = ap (λ (t : List B). f x ∷ t) (map-set
 
 -- past the end there is no delay
 -- the values of the lines of a list of kinds
-abbrev pub linesIn : List NodeKind → ℕ
+abbrev linesIn : List NodeKind → ℕ
 linesIn [] = 0
 linesIn (k ∷ ks) = lineOf k + linesIn ks
 
-pub lines-in : (rs : List NodeRecord) → linesOf rs ≡ linesIn (map (λ r. r .kind) rs)
+lines-in : (rs : List NodeRecord) → linesOf rs ≡ linesIn (map (λ r. r .kind) rs)
 lines-in [] = refl
 lines-in (r ∷ rs) = ap (λ (n : ℕ). lineOf (r .kind) + n) (lines-in rs)
 
@@ -118,7 +132,7 @@ lines-cards [] = refl
 lines-cards (d ∷ ds) = ap (λ (n : ℕ). lineOf (kindOf d) + n) (lines-cards ds)
 
 -- with another line at a delay
-pub lines-set : (ks : List NodeKind) (k n m : ℕ) → getD ks k Pass ≡ Delay n → linesIn (set ks k (Delay m)) + n ≡ linesIn ks + m
+lines-set : (ks : List NodeKind) (k n m : ℕ) → getD ks k Pass ≡ Delay n → linesIn (set ks k (Delay m)) + n ≡ linesIn ks + m
 lines-set [] k n m e = let never : _≡_ {A = ℕ} 0 1 = cc in absurd (omega arith)
 lines-set (j ∷ ks) zero n m e = let l : lineOf j ≡ n = ap lineOf e in omega arith
 lines-set (j ∷ ks) (suc k) n m e = omega (arith, lines-set ks k n m e)
@@ -256,6 +270,16 @@ module _ (s : List ℕ) (p : Parsed) (a : Accepted s p) where
   pub laid-out : p ≡ boardOf p (p .size) (kinds p)
   laid-out = sym (a .parsed) ∙ read-as c (c .size) (c .nodes) (kinds (asRead c)) (sym (kinds-of c)) ∙ ap (λ (q : Parsed). boardOf q (q .size) (kinds q)) (a .parsed)
 
+  same-size : c .size ≡ p .size
+  same-size = ap (λ (q : Parsed). q .size) (a .parsed)
+
+  same-kinds : map kindOf (c .nodes) ≡ kinds p
+  same-kinds = sym (kinds-of c) ∙ ap kinds (a .parsed)
+
+  -- node k of the card, where the board has a delay
+  card-kind : (k n : ℕ) → kindAt p k ≡ Delay n → getD (map kindOf (c .nodes)) k Pass ≡ Delay n
+  card-kind k n is-delay = ap (λ (l : List NodeKind). getD l k Pass) same-kinds ∙ kind-in p k ∙ is-delay
+
   module _ (M : ℕ) (least-size : 1 ≤ M) (most-size : M ≤ 128) where
     pub size-read : readBoard (sets s 4 (u16Bytes M)) ≡ whole (boardOf p M (kinds p))
     size-read = changed (λ b. sets b 4 (u16Bytes M)) kinds M (c .nodes) (size-bytes c M) (size-obeys c M (a .obeys) least-size most-size) (sym (kinds-of c))
@@ -263,11 +287,40 @@ module _ (s : List ℕ) (p : Parsed) (a : Accepted s p) where
     pub line-read : (k n m : ℕ) → kindAt p k ≡ Delay n → 1 ≤ n → 1 ≤ m → m ≤ 132300 → linesOf (p .nodes) + m ≤ 262144 + n
         → readBoard (sets (sets s 4 (u16Bytes M)) (14 * k + 14) (u32Bytes m)) ≡ whole (boardOf p M (set (kinds p) k (Delay m)))
     line-read k n m is-delay some least most few =
-        let same : map kindOf (c .nodes) ≡ kinds p = sym (kinds-of c) ∙ ap kinds (a .parsed) in
-        let lines : linesIn (map kindOf (c .nodes)) ≡ linesOf (p .nodes) = ap linesIn same ∙ sym (lines-in (p .nodes)) in
-        let at = ap (λ (l : List NodeKind). getD l k Pass) same ∙ kind-in p k ∙ is-delay in
+        let lines : linesIn (map kindOf (c .nodes)) ≡ linesOf (p .nodes) = ap linesIn same-kinds ∙ sym (lines-in (p .nodes)) in
+        let at = card-kind k n is-delay in
         let e : Card = cardOf c M (c .nodes) in
         changed (λ b. sets (sets b 4 (u16Bytes M)) (14 * k + 14) (u32Bytes m)) (λ q. set (kinds q) k (Delay m)) M (lined (c .nodes) k m)
-        (ap (λ (b : List ℕ). sets b (14 * k + 14) (u32Bytes m)) (size-bytes c M) ∙ line-bytes e k m (there e k n m at some))
+        (two-stores c M k m (there e k n m at some))
         (line-obeys e k n m at some (size-obeys c M (a .obeys) least-size most-size) least most (omega arith))
         (new-kinds e k n m at some ∙ ap (λ (l : List NodeKind). set l k (Delay m)) (sym (kinds-of c)))
+
+  -- the size and the line stored again as they were
+  pub size-back : (M : ℕ) → sets (sets s 4 (u16Bytes M)) 4 (u16Bytes (p .size)) ≡ s
+  size-back M =
+      (λ i. sets (sets (a .bytes i) 4 (u16Bytes M)) 4 (u16Bytes (sym same-size i)))
+      ∙ ap (λ (b : List ℕ). sets b 4 (u16Bytes (c .size))) (size-bytes c M)
+      ∙ size-bytes (cardOf c M (c .nodes)) (c .size)
+      ∙ sym (a .bytes)
+
+  pub line-back : (M k n m : ℕ) → kindAt p k ≡ Delay n → 1 ≤ n
+      → sets (sets (sets (sets s 4 (u16Bytes M)) (14 * k + 14) (u32Bytes m)) 4 (u16Bytes (p .size))) (14 * k + 14) (u32Bytes n) ≡ s
+  line-back M k n m is-delay some =
+      let at = delay-at kindOf noNode (c .nodes) k n (card-kind k n is-delay) in
+      let d : NodeCard = getD (c .nodes) k noNode in
+      let line : Delay n ≡ Delay (d .n) = sym (at .1) ∙ delay-kind d (type-seven d n (at .1) some) in
+      let same : n ≡ d .n = cc in
+      let e : Card = cardOf c M (lined (c .nodes) k m) in
+      let long = length-set (c .nodes) k (withLine d m) in
+      (λ i. sets (sets (sets (sets (a .bytes i) 4 (u16Bytes M)) (14 * k + 14) (u32Bytes m)) 4 (u16Bytes (sym same-size i))) (14 * k + 14) (u32Bytes (same i)))
+      ∙ ap (λ (b : List ℕ). sets (sets b 4 (u16Bytes (c .size))) (14 * k + 14) (u32Bytes (d .n))) (two-stores c M k m (at .0))
+      ∙ two-stores e (c .size) k (d .n) (omega (arith, at .0))
+      ∙ ap (λ (ds : List NodeCard). writeBoard (cardOf c (c .size) ds)) (lined-back (c .nodes) k m (at .0))
+      ∙ sym (a .bytes)
+
+-- boards of which one has another delay in a place
+pub lines-replaced : (p q : Parsed) (k n m : ℕ) → kindAt p k ≡ Delay n → kinds q ≡ set (kinds p) k (Delay m) → linesOf (q .nodes) + n ≡ linesOf (p .nodes) + m
+lines-replaced p q k n m is-delay replaced =
+    (λ i. (lines-in (q .nodes) ∙ ap linesIn replaced) i + n)
+    ∙ lines-set (kinds p) k n m (kind-in p k ∙ is-delay)
+    ∙ (λ i. sym (lines-in (p .nodes)) i + m)

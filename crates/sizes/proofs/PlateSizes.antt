@@ -2,8 +2,7 @@
 -- mix; `studio-and-stage`, at 128 and 64; `mix-stage`, for a mix. Assumes nothing.
 use Prim.Native.Nat.{ℕ, _+_, _-_, _*_, _≤_, _<_}
 use mathlib.Core.Path.{_≡_, refl, sym, ap, subst, _∙_}
-use mathlib.Core.Bool.{true, false}
-use mathlib.Core.List.{[], _∷_}
+use mathlib.Core.Bool.{true}
 use native.Mathlib.Omega.{arith}
 use borrow.Author.Tests.{le-leb, lt-leb, ne-eqb}
 use lib.Dec.{T, leb}
@@ -15,9 +14,8 @@ use Rattle.leaves.proofs.Patterns.{pattern-lt, finite-float}
 use Rattle.nodes.specs.Kind.{finite}
 use Rattle.nodes.specs.declared.kind.NodeKind.the-variants.{Delay}
 use Rattle.graph.specs.Answer.{answer}
-use Rattle.graph.specs.Board.{Parsed, whole, wire, linesOf, memoryLength}
+use Rattle.graph.specs.Board.{Parsed, whole, linesOf, memoryLength}
 use Rattle.graph.specs.Judge.{readBoard, answerBy, judgeOf}
-use Rattle.graph.specs.Late.{lateWires}
 use Rattle.graph.specs.Write.{kindOf, writeBoard, asRead}
 use Rattle.graph.proofs.Round.{write-read, read-write}
 use Rattle.graph.proofs.RoundBytes.{board-bytes}
@@ -26,8 +24,6 @@ use Rattle.plate.specs.Facts.{PlateFacts}
 use Rattle.plate.proofs.PlateFacts.{plate-facts}
 use Rattle.plate.proofs.Dry.{dry-finite}
 use Rattle.context.specs.Memory.{kindAt}
-use Rattle.context.specs.Calls.{listed}
-use Rattle.sizes.specs.declared.resize.Resized.{Resized}
 use Rattle.sizes.specs.declared.resize.Resized.the-variants.{Line}
 use Rattle.sizes.specs.Sizes.{kinds}
 use Rattle.sizes.specs.Resize.{planOf, planBy, resizedOf, bytesAfter, Carried, Settled}

@@ -1,6 +1,6 @@
 -- A board carried to another block size is accepted, and sounds the same: `settled`, of every answer of `resize`. Assumes nothing.
-use Prim.Native.Nat.{ℕ, zero, suc, _+_, _*_, _<_}
-use mathlib.Core.Path.{_≡_, refl, ap, subst, _∙_}
+use Prim.Native.Nat.{ℕ, zero, suc, _+_, _-_, _*_, _<_}
+use mathlib.Core.Path.{_≡_, refl, sym, ap, _∙_}
 use mathlib.Core.List.{List, [], _∷_}
 use native.Mathlib.Omega.{arith}
 use lib.ListN.{set}
@@ -10,12 +10,14 @@ use Rattle.leaves.specs.Words.{Bytes}
 use Rattle.reading.specs.Keeps.{All}
 use Rattle.graph.specs.Board.{Parsed, Reading, going, refused, whole}
 use Rattle.graph.specs.Judge.{readBoard}
+use Rattle.context.specs.Memory.{kindAt}
 use Rattle.sizes.specs.declared.resize.Resized.{Resized}
 use Rattle.sizes.specs.declared.resize.Resized.the-variants.{Same, Size, Line, Kept}
-use Rattle.sizes.specs.Sizes.{SameSound, CarriesOver}
-use Rattle.sizes.specs.Resize.{planOf, planBy, resizedOf, bytesAfter, Apart, line-longer, line-shorter, size-alone, Carried, Settled}
-use Rattle.sizes.proofs.Sizes.{one-line-sounds, one-line-carries, size-only-sounds, size-only-carries, sounds-back, carries-back}
-use Rattle.sizes.proofs.Rewritten.{Rewrites, size-rewrites, line-rewrites, plan-same}
+use Rattle.sizes.specs.Sizes.{SoundsAs}
+use Rattle.sizes.specs.Resize.{delayOf, planBy, resizedOf, bytesAfter, Apart, line-longer, line-shorter, size-alone, Carried, Settled}
+use Rattle.sizes.proofs.Sizes.{one-line-sounds, size-only-sounds, sounds-back}
+use Rattle.sizes.proofs.Planning.{no-delay, too-short, too-long, too-much, carried, Planned, no-size, same, none-late, one-late, many-late, plan-view}
+use Rattle.sizes.proofs.Rewritten.{Rewrites, line-corrects, size-rewrites, line-rewrites}
 
 -- ---- the bytes afterwards are bytes
 
@@ -41,43 +43,44 @@ after-bytes s M (Kept r) b = b
 
 -- ---- boards that are apart as the request says sound the same
 
-module _ (s s′ : List ℕ) (bytes : Bytes s) (bytes′ : Bytes s′) (p q : Parsed) (reads : readBoard s ≡ whole p) (reads′ : readBoard s′ ≡ whole q) where
-  apart-sounds : Apart p q → SameSound s s′ p q
-  apart-sounds (line-longer o) = one-line-sounds s s′ bytes bytes′ p q reads reads′ o
-  apart-sounds (line-shorter o) = sounds-back s′ s q p (one-line-sounds s′ s bytes′ bytes q p reads′ reads o)
-  apart-sounds (size-alone o) = size-only-sounds s s′ bytes bytes′ p q reads reads′ o
-
-  apart-carries : Apart p q → CarriesOver s s′ (p .size) (q .size)
-  apart-carries (line-longer o) = one-line-carries s s′ bytes bytes′ p q reads reads′ o
-  apart-carries (line-shorter o) = carries-back s′ s (q .size) (p .size) (one-line-carries s′ s bytes′ bytes q p reads′ reads o)
-  apart-carries (size-alone o) = size-only-carries s s′ bytes bytes′ p q reads reads′ o
-
-rewritten : (s s′ : List ℕ) (M : ℕ) (p : Parsed) → Bytes s → Bytes s′ → readBoard s ≡ whole p → Rewrites p s′ M → Carried s s′ M
-rewritten s s′ M p bytes bytes′ reads r = record {
-  before = p;
-  after = r .after;
-  reads = reads;
-  reads-after = r .reads-after;
-  at-size = r .at-size;
-  apart = r .apart;
-  same-sound = apart-sounds s s′ bytes bytes′ p (r .after) reads (r .reads-after) (r .apart);
-  carries-over = subst (CarriesOver s s′ (p .size)) (r .at-size)
-      (apart-carries s s′ bytes bytes′ p (r .after) reads (r .reads-after) (r .apart));
-}
+apart-sounds : (s s′ : List ℕ) → Bytes s → Bytes s′ → (p q : Parsed) → readBoard s ≡ whole p → readBoard s′ ≡ whole q → Apart p q → SoundsAs s s′ p q
+apart-sounds s s′ bytes bytes′ p q reads reads′ (line-longer o) = one-line-sounds s s′ bytes bytes′ p q reads reads′ o
+apart-sounds s s′ bytes bytes′ p q reads reads′ (line-shorter o) = sounds-back s′ s q p (one-line-sounds s′ s bytes′ bytes q p reads′ reads o)
+apart-sounds s s′ bytes bytes′ p q reads reads′ (size-alone o) = size-only-sounds s s′ bytes bytes′ p q reads reads′ o
 
 -- ---- every answer
+
+module _ (s : List ℕ) (bytes : Bytes s) (M : ℕ) (p : Parsed) (reads : readBoard s ≡ whole p) where
+  rewritten : (r : Resized) → Rewrites p (bytesAfter s M r) M → Carried s (bytesAfter s M r) M
+  rewritten r w = record {
+    before = p;
+    after = w .after;
+    reads = reads;
+    reads-after = w .reads-after;
+    at-size = w .at-size;
+    apart = w .apart;
+    sounds = apart-sounds s (bytesAfter s M r) bytes (after-bytes s M r bytes) p (w .after) reads (w .reads-after) (w .apart);
+  }
+
+  by-plan : {r : Resized} → Planned p M r → Settled s M r
+  by-plan (no-size _) = tt
+  by-plan (same _ e) = λ x q. let board : x ≡ p = cc in ap (λ (y : Parsed). y .size) board ∙ sym e
+  by-plan (none-late h none) = rewritten Size (size-rewrites s bytes p reads M h none)
+  by-plan (one-late h w e (no-delay _)) = tt
+  by-plan (one-late h w e (too-short _ _)) = tt
+  by-plan (one-late h w e (too-long _ _ _)) = tt
+  by-plan (one-late h w e (too-much _ _ _ _)) = tt
+  by-plan (one-late h w e (carried some more within few)) =
+      let n : ℕ = delayOf (kindAt p (w .target)) in
+      let m : ℕ = n + p .size - M in
+      rewritten (Line (w .target) n m) (line-rewrites s bytes p reads M (w .target) n m (line-corrects p M h w e some more within few))
+  by-plan (many-late _ _ _ _ _) = tt
 
 pub settled : (s : List ℕ) → Bytes s → (M : ℕ) → Settled s M (resizedOf s M)
 unfolding resizedOf
 settled s bytes M = go (readBoard s) refl
   where
-    plan : (p : Parsed) → readBoard s ≡ whole p → (r : Resized) → planOf p M ≡ r → Settled s M r
-    plan p e Same h = λ x q. let same : x ≡ p = cc in ap (λ (y : Parsed). y .size) same ∙ plan-same p M h
-    plan p e Size h = rewritten s (bytesAfter s M Size) M p bytes (after-bytes s M Size bytes) e (size-rewrites s bytes p e M h)
-    plan p e (Line k n m) h = rewritten s (bytesAfter s M (Line k n m)) M p bytes (after-bytes s M (Line k n m) bytes) e (line-rewrites s bytes p e M k n m h)
-    plan p e (Kept r) h = tt
-
     go : (r : Reading) → readBoard s ≡ r → Settled s M (planBy M r)
     go (going at last p) e = tt
     go (refused n w) e = tt
-    go (whole p) e = plan p e (planOf p M) refl
+    go (whole p) e = by-plan s bytes M p e (plan-view p M)

@@ -1,8 +1,8 @@
 -- One preset at two block sizes (document 02, request 12): boards whose nodes are alike sound the same.
---     same-sound       of any two lists of block runs with the same input stream
---     carries          of one list of finite samples, whose length both sizes divide
---     one-line-sounds, one-line-carries, size-only-sounds, size-only-carries    of the request's boards, and where no wire is late
---     sounds-back, carries-back    the claims do not depend on which board is named first
+--     same-stream          any two lists of block runs with the same input stream
+--     same-played          one list of finite samples, whose length both sizes divide
+--     one-line-sounds      both, of the request's boards; size-only-sounds, of boards of which no wire is late
+--     sounds-back          the claims do not depend on which board is named first
 -- Assumes nothing.
 use Prim.Native.Nat.{ℕ, _+_, _*_}
 use mathlib.Core.Path.{_≡_, refl, sym, ap, subst, _∙_}
@@ -30,7 +30,7 @@ use Rattle.context.specs.Claim.{Claim, callIn, freshMemory}
 use Rattle.context.proofs.DemandAfter.{accepted-whole}
 use Rattle.context.proofs.FineBoard.{fine-board}
 use Rattle.context.proofs.Demand.{board-claim, own-order, demand}
-use Rattle.sizes.specs.Sizes.{OneLine, SizeOnly, NoMessage, join, inputStream, Stereo, stereoOf, outputStream, SameSound, AllFinite, runsOf, plays, SamePlayed, CarriesOver}
+use Rattle.sizes.specs.Sizes.{OneLine, SizeOnly, NoMessage, join, inputStream, stereoOf, outputStream, AllFinite, runsOf, plays, SamePlayed, SoundsAs}
 use Rattle.sizes.proofs.Streams.{stream-is, accepted-still}
 use Rattle.sizes.proofs.Plays.{Taken, taken-still, accepted-taken, played-taken, answers-taken, replies-long, runs-taken, runs-inputs, runs-long, join-cut}
 use Rattle.sizes.proofs.Apart.{one-line-alike, size-only-alike}
@@ -101,11 +101,11 @@ module _ (P Q : List ℕ) (bytes : Bytes P) (bytes′ : Bytes Q) (p q : Parsed) 
         → join (map g (played p cs (replies (callIn listed P) cs (freshMemory p)))) ≡ join (map g (played q ds (replies (callIn listed Q) ds (freshMemory q))))
     same-channel g w writes =
         ap (λ (rs : List Reply). join (map g (played p cs rs))) is-p
-        ∙ stream-is p s g w (writes p) cs 0
+        ∙ stream-is p s g w (writes p) cs
         ∙ ap unwords (tab-agree (end p (accepted p cs)) (λ i. w (0 * p .size + i)) (λ i. w (0 * q .size + i))
         (λ i h. let e : 0 * p .size + i ≡ 0 * q .size + i = omega arith in ap w e))
         ∙ ap (λ (n : ℕ). unwords (tab n (λ i. w (0 * q .size + i)))) same-end
-        ∙ sym (stream-is q s g w (writes q) ds 0)
+        ∙ sym (stream-is q s g w (writes q) ds)
         ∙ ap (λ (rs : List Reply). join (map g (played q ds rs))) (sym is-q)
 
     same-stream : outputStream P p cs ≡ outputStream Q q ds
@@ -113,9 +113,6 @@ module _ (P Q : List ℕ) (bytes : Bytes P) (bytes′ : Bytes Q) (p q : Parsed) 
         let lefts = same-channel (λ r. r .left) (λ t. s t 0 .left) (λ x b a. refl) in
         let rights = same-channel (λ r. r .right) (λ t. s t 0 .right) (λ x b a. refl) in
         λ i. record { left = lefts i; right = rights i }
-
-  pub same-sound : SameSound P Q p q
-  same-sound = same-stream
 
   -- ---- of one list of samples
 
@@ -162,38 +159,30 @@ module _ (P Q : List ℕ) (bytes : Bytes P) (bytes′ : Bytes Q) (p q : Parsed) 
       accepted = answers P bytes p reads m judged b long;
       accepted-too = answers Q bytes′ q reads′ m′ judged′ c long′;
       same = all-played P bytes p reads m judged b long
-          ∙ same-sound cs ds (taken-still p cs (runs-taken p b xs long number)) (taken-still q ds (runs-taken q c xs long′ number)) same-samples
+          ∙ same-stream cs ds (taken-still p cs (runs-taken p b xs long number)) (taken-still q ds (runs-taken q c xs long′ number)) same-samples
           ∙ sym (all-played Q bytes′ q reads′ m′ judged′ c long′);
     }
 
-  pub carries : CarriesOver P Q (p .size) (q .size)
-  carries = same-played
+  pub alike-sounds : SoundsAs P Q p q
+  alike-sounds = record { same-sound = same-stream; carries-over = same-played }
 
 -- ---- the request's boards, and those of which no wire is late
 
 module _ (P Q : List ℕ) (bytes : Bytes P) (bytes′ : Bytes Q) (p q : Parsed) (reads : readBoard P ≡ whole p) (reads′ : readBoard Q ≡ whole q) where
-  module _ (o : OneLine p q) where
-    pub one-line-sounds : SameSound P Q p q
-    one-line-sounds =
-        same-sound P Q bytes bytes′ p q reads reads′ (o .same-input) (o .same-wires) (one-line-alike p q (fine-board P bytes p reads) o)
+  pub one-line-sounds : OneLine p q → SoundsAs P Q p q
+  one-line-sounds o =
+      alike-sounds P Q bytes bytes′ p q reads reads′ (o .same-input) (o .same-wires) (one-line-alike p q (fine-board P bytes p reads) o)
 
-    pub one-line-carries : CarriesOver P Q (p .size) (q .size)
-    one-line-carries = carries P Q bytes bytes′ p q reads reads′ (o .same-input) (o .same-wires) (one-line-alike p q (fine-board P bytes p reads) o)
-
-  module _ (o : SizeOnly p q) where
-    pub size-only-sounds : SameSound P Q p q
-    size-only-sounds =
-        same-sound P Q bytes bytes′ p q reads reads′ (o .same-input) (o .same-wires) (size-only-alike p q (fine-board P bytes p reads) o)
-
-    pub size-only-carries : CarriesOver P Q (p .size) (q .size)
-    size-only-carries = carries P Q bytes bytes′ p q reads reads′ (o .same-input) (o .same-wires) (size-only-alike p q (fine-board P bytes p reads) o)
+  pub size-only-sounds : SizeOnly p q → SoundsAs P Q p q
+  size-only-sounds o =
+      alike-sounds P Q bytes bytes′ p q reads reads′ (o .same-input) (o .same-wires) (size-only-alike p q (fine-board P bytes p reads) o)
 
 -- ---- the other way round
 
-pub sounds-back : (P Q : List ℕ) (p q : Parsed) → SameSound P Q p q → SameSound Q P q p
-sounds-back P Q p q h cs ds still still′ same = sym (h ds cs still′ still (sym same))
-
-pub carries-back : (P Q : List ℕ) (N M : ℕ) → CarriesOver P Q N M → CarriesOver Q P M N
-carries-back P Q N M h m m′ judged judged′ xs b c number long long′ =
-    let r = h m′ m judged′ judged xs c b number long′ long in
-    record { accepted = r .accepted-too; accepted-too = r .accepted; same = sym (r .same) }
+pub sounds-back : (P Q : List ℕ) (p q : Parsed) → SoundsAs P Q p q → SoundsAs Q P q p
+sounds-back P Q p q h = record {
+  same-sound = λ cs ds still still′ same. sym (h .same-sound ds cs still′ still (sym same));
+  carries-over = λ m m′ judged judged′ xs b c number long long′.
+      let r = h .carries-over m′ m judged′ judged xs c b number long′ long in
+      record { accepted = r .accepted-too; accepted-too = r .accepted; same = sym (r .same) };
+}

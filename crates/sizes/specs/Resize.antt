@@ -1,6 +1,6 @@
 -- A board carried to another block size: what is done to its bytes, or why nothing is (docs/SIZES.md). Definitions only; that the result is
--- accepted and sounds the same (`settled`) and that no board of the theorem is left out (`complete`) is proved in proofs/Settled.antt and
--- proofs/Rewritten.antt.
+-- accepted and sounds the same (`settled`), that no board of the theorem is left out (`complete`) and that the way back leads to the same bytes
+-- (`returns`) is proved in proofs/Settled.antt, Rewritten.antt and Returned.antt.
 use Prim.Native.Nat.{ℕ, suc, _+_, _-_, _*_}
 use mathlib.Core.Path.{_≡_}
 use mathlib.Core.Bool.{cond}
@@ -18,11 +18,10 @@ use Rattle.graph.specs.Judge.{readBoard}
 use Rattle.graph.specs.Late.{lateWires}
 use Rattle.context.specs.Memory.{kindAt}
 use Rattle.context.specs.Calls.{listed}
-use Rattle.sizes.specs.declared.resize.Reason.{Reason}
 use Rattle.sizes.specs.declared.resize.Reason.the-variants.{Refused, NoSize, ManyLate, NoDelay, TooShort, TooLong, TooMuch}
 use Rattle.sizes.specs.declared.resize.Resized.{Resized}
 use Rattle.sizes.specs.declared.resize.Resized.the-variants.{Same, Size, Line, Kept}
-use Rattle.sizes.specs.Sizes.{OneLine, SizeOnly, SameSound, CarriesOver}
+use Rattle.sizes.specs.Sizes.{OneLine, SizeOnly, SoundsAs}
 
 -- ---- what is to be done
 
@@ -93,8 +92,7 @@ pub record Carried (s s′ : List ℕ) (M : ℕ) : Type 0 where
   pub reads-after : readBoard s′ ≡ whole after
   pub at-size : after .size ≡ M
   pub apart : Apart before after
-  pub same-sound : SameSound s s′ before after
-  pub carries-over : CarriesOver s s′ (before .size) M
+  pub sounds : SoundsAs s s′ before after
 
 -- where bytes have changed, they are carried
 abbrev pub Settled : List ℕ → ℕ → Resized → Type 0
@@ -103,8 +101,14 @@ Settled s M Size = Carried s (bytesAfter s M Size) M
 Settled s M (Line k n m) = Carried s (bytesAfter s M (Line k n m)) M
 Settled s M (Kept r) = Unit {0}
 
--- and none are left as they are that could be carried: wherever accepted bytes Q are of a board q apart from the one of s as above, the board
--- of s at q's block size is q
+-- and no board of the theorem is left out: wherever accepted bytes Q are of a board q apart from the one of s as above, the board of s at q's
+-- block size is q
 abbrev pub Complete : List ℕ → Type 0
 Complete s = (p : Parsed) → readBoard s ≡ whole p → (Q : List ℕ) (q : Parsed) → Bytes Q → readBoard Q ≡ whole q → Apart p q
     → readBoard (bytesAfter s (q .size) (resizedOf s (q .size))) ≡ whole q
+
+-- there and back: carried to M and then to the block size that it had, an accepted board has the bytes that it had
+abbrev pub Returns : List ℕ → ℕ → Type 0
+Returns s M = (p : Parsed) → readBoard s ≡ whole p
+    → let s′ = bytesAfter s M (resizedOf s M) in
+    bytesAfter s′ (p .size) (resizedOf s′ (p .size)) ≡ s

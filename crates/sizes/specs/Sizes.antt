@@ -121,3 +121,8 @@ abbrev pub CarriesOver : List ℕ → List ℕ → ℕ → ℕ → Type 0
 CarriesOver P Q N M = (m m′ : List ℕ) → judgeOf P ≡ answer 0 (length m) → judgeOf Q ≡ answer 0 (length m′)
     → (xs : List ℕ) (b c : ℕ) → AllFinite xs → length xs ≡ b * N → length xs ≡ c * M
     → SamePlayed (plays P m b N xs) b (plays Q m′ c M xs) c
+
+-- both claims, of bytes P and Q that are read as p and q
+pub record SoundsAs (P Q : List ℕ) (p q : Parsed) : Type 0 where
+  pub same-sound : SameSound P Q p q
+  pub carries-over : CarriesOver P Q (p .size) (q .size)

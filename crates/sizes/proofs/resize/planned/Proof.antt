@@ -1,34 +1,37 @@
 -- `sizes::resize::planned` meets its contract. Its tests are those of `planOf`, one by one, and the one late wire's target is a node.
 -- Assumes nothing.
 use mathlib.Core.Path.{_∙_}
-use Prim.Native.Nat.{_≤_}
 use native.Mathlib.Omega.{arith}
 use borrow.Author.Needs.{needs}
 use lib.Seq.{length-take-le}
-use Rattle.sizes.proofs.Planning.{size-right, one-there, plan-none, plan-same, plan-size, plan-many, plan-one}
+use Rattle.graph.specs.Read.{parsedOf}
+use Rattle.sizes.proofs.Planning.{SizeIn, Another, no-size, same, plan-is, size-wrong, size-right, one-there, plan-size, plan-many, plan-one}
 use Rattle.sizes.proofs.resize.planned.Statement.{statement}
 use Rattle.sizes.proofs.resize.planned.Tie as tie
 
 returns : tie.Need-returns
-returns c = plan-none _ _ (c .if1 .taken)
+returns c = plan-is _ _ (no-size (size-wrong (c .before .args .size) (c .if1 .taken)))
 
 -- the size fits
-right : (c : tie.Else1) → (1 ≤ c .before .args .size) × (c .before .args .size ≤ 128)
+right : (c : tie.Else1) → SizeIn (c .before .args .size)
 right c = size-right _ (c .if1 .left)
 
 returns-2 : tie.Need-returns-2
-returns-2 c = plan-same _ _ (right (c .before .before)) (c .if2 .taken)
+returns-2 c = plan-is _ _ (same (right (c .before .before)) (c .if2 .taken))
+
+-- and is another
+another : (c : tie.After-board-late) → Another (parsedOf (c .before .before .before .before .args .board)) (c .before .before .before .before .args .size)
+another c = record { size-fits = right (c .before .before .before); other = c .before .if2 .left }
 
 returns-3 : tie.Need-returns-3
 returns-3 c =
     let late = c .before .before in
-    plan-size _ _ (right (late .before .before .before)) (late .before .if2 .left) _ _ (late .board-late .ensures) (c .if3 .taken)
+    plan-size _ _ _ _ (another late) (late .board-late .ensures) (c .if3 .taken)
 
 returns-4 : tie.Need-returns-4
 returns-4 c =
     let late = c .before .before .before .before in
-    plan-many _ _ (right (late .before .before .before)) (late .before .if2 .left) _ _ (late .board-late .ensures)
-    (c .before .before .if3 .left) (c .if4 .taken)
+    plan-many _ _ _ _ (another late) (late .board-late .ensures) (c .before .before .if3 .left) (c .if4 .taken)
 
 corrected-requires : tie.Need-corrected-requires
 corrected-requires c κs =
@@ -44,8 +47,7 @@ corrected-requires c κs =
 returns-5 : tie.Need-returns-5
 returns-5 c =
     let late = c .before .before .before .before .before in
-    c .corrected .ensures
-    ∙ plan-one _ _ (right (late .before .before .before)) (late .before .if2 .left) _ _ (late .board-late .ensures) (c .before .if4 .left)
+    c .corrected .ensures ∙ plan-one _ _ _ _ (another late) (late .board-late .ensures) (c .before .if4 .left)
 
 pub planned-spec : {M : Type 1} → statement M
 planned-spec =
