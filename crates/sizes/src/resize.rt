@@ -179,7 +179,9 @@ fn planned(board: Board, size: u32) -> Resized
 }
 
 // Carries the board in `bytes` to blocks of the given size, where that keeps its sound; or says why it
-// cannot, and every byte is as found.
+// cannot, and every byte is as found. What it makes is accepted and sounds the same (`settled`), no
+// board that document 02 speaks of is left out (`complete`), and the way back leads to the same bytes
+// (`returns`).
 // Ruled out, and tried by must-fail edits: one that changes the size alone though a wire is late
 // (line_not_corrected), one that takes a board with two late wires (two_late_wires) or corrects an
 // all-pass (all_pass_corrected), one that stores the line in the next node (next_node_corrected).
