@@ -3,7 +3,7 @@
 --     Alike        how a node of the two boards may differ
 --     carried      the reading on the other board
 -- Assumes nothing.
-use Prim.Native.Nat.{ℕ, zero, suc, _+_, _-_, _/_, _≤_, _<_}
+use Prim.Native.Nat.{ℕ, zero, suc, _+_, _-_, _≤_, _<_}
 use mathlib.Core.Path.{_≡_, refl, sym, ap, _∙_}
 use mathlib.Core.Bool.{Bool, true, false, cond}
 use mathlib.Core.List.{List, [], _∷_, map}
@@ -35,8 +35,8 @@ use Rattle.context.specs.Reading.{Call, mono, silence, Timed, reached, rightSam
 use Rattle.context.proofs.DemandAfter.{Blocks}
 use Rattle.context.proofs.FineBoard.{lists, listed-there}
 use Rattle.context.proofs.ShownRun.{second-source}
-use Rattle.sizes.specs.Sizes.{NoMessage, join}
-use Rattle.sizes.proofs.Streams.{length-join, input-joined, number-still}
+use Rattle.sizes.specs.Sizes.{join, events}
+use Rattle.sizes.proofs.Streams.{length-join, input-joined, same-samples, numberBy, number-by}
 use Rattle.sizes.proofs.Line.{again, taken, same-line, delayed, has-taken}
 
 -- ---- what stands at a node's place
@@ -130,8 +130,11 @@ module _ (p : Parsed) (fine : Fine p) (M : ℕ) (ns : List NodeRecord) (least : 
 
   -- ---- the reading
 
-  module _ (es fs : List Call) (still : NoMessage es) (still′ : NoMessage fs) (blocks : Blocks (p .size) (inputs es)) (blocks′ : Blocks M (inputs fs))
-      (same-stream : join (inputs es) ≡ join (inputs fs)) (s : Timed Frame) (u : Timed Heard) (f : IsReading p es s u) where
+  module _ (es fs : List Call) (blocks : Blocks (p .size) (inputs es)) (blocks′ : Blocks M (inputs fs)) (brought : events es ≡ events fs)
+      (s : Timed Frame) (u : Timed Heard) (f : IsReading p es s u) where
+    same-stream : join (inputs es) ≡ join (inputs fs)
+    same-stream = same-samples es fs brought
+
     pub same-end : end p es ≡ end q fs
     same-end = sym (length-join (p .size) (inputs es) blocks) ∙ ap length same-stream ∙ length-join M (inputs fs) blocks′
 
@@ -143,9 +146,9 @@ module _ (p : Parsed) (fine : Fine p) (M : ℕ) (ns : List NodeRecord) (least : 
 
     same-number : (t j : ℕ) → kindAt q j ≡ kindAt p j → numberAt p es t j ≡ numberAt q fs t j
     same-number t j e =
-        number-still es still (t / p .size) j (toBits binary32 (numberOf (kindAt p j)))
-        ∙ ap (λ (d : NodeKind). toBits binary32 (numberOf d)) (sym e)
-        ∙ sym (number-still fs still′ (t / M) j (toBits binary32 (numberOf (kindAt q j))))
+        number-by (p .size) (fine .least-size) es blocks t j (toBits binary32 (numberOf (kindAt p j)))
+        ∙ (λ i. numberBy (brought i) t j (toBits binary32 (numberOf (sym e i))))
+        ∙ sym (number-by M least fs blocks′ t j (toBits binary32 (numberOf (kindAt q j))))
 
     -- what is known of each node on the other board
     abbrev pub known : Timed Heard

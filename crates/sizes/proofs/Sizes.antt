@@ -1,7 +1,7 @@
 -- One preset at two block sizes (document 02, request 12): boards whose nodes are alike sound the same.
---     same-stream          any two lists of block runs with the same input stream
+--     same-stream          any two lists of calls that bring the same; same-sound, of block runs with the same input stream
 --     same-played          one list of finite samples, whose length both sizes divide
---     one-line-sounds      both, of the request's boards; size-only-sounds, of boards of which no wire is late
+--     one-line-sounds      all of it, of the request's boards; size-only-sounds, of boards of which no wire is late
 --     sounds-back          the claims do not depend on which board is named first
 -- Assumes nothing.
 use Prim.Native.Nat.{ℕ, _+_, _*_}
@@ -30,8 +30,8 @@ use Rattle.context.specs.Claim.{Claim, callIn, freshMemory}
 use Rattle.context.proofs.DemandAfter.{accepted-whole}
 use Rattle.context.proofs.FineBoard.{fine-board}
 use Rattle.context.proofs.Demand.{board-claim, own-order, demand}
-use Rattle.sizes.specs.Sizes.{OneLine, SizeOnly, NoMessage, join, inputStream, stereoOf, outputStream, AllFinite, runsOf, plays, SamePlayed, SoundsAs}
-use Rattle.sizes.proofs.Streams.{stream-is, accepted-still}
+use Rattle.sizes.specs.Sizes.{OneLine, SizeOnly, join, inputStream, stereoOf, outputStream, SameSound, events, AllFinite, runsOf, plays, SamePlayed, SoundsAs}
+use Rattle.sizes.proofs.Streams.{stream-is, same-events}
 use Rattle.sizes.proofs.Plays.{Taken, taken-still, accepted-taken, played-taken, answers-taken, replies-long, runs-taken, runs-inputs, runs-long, join-cut}
 use Rattle.sizes.proofs.Apart.{one-line-alike, size-only-alike}
 use Rattle.sizes.proofs.Carried.{Alike}
@@ -65,7 +65,7 @@ module _ (P Q : List ℕ) (bytes : Bytes P) (bytes′ : Bytes Q) (p q : Parsed) 
   alike-other : (j : ℕ) → reached p j ≡ true → Alike p (carried.resized p (q .size) (q .nodes)) j
   alike-other j r = subst (λ (x : Parsed). Alike p x j) as-other (alike j r)
 
-  module _ (cs ds : List Call) (still : NoMessage cs) (still′ : NoMessage ds) (same : inputStream p cs ≡ inputStream q ds) where
+  module _ (cs ds : List Call) (same : events (accepted p cs) ≡ events (accepted q ds)) where
     abbrev claim : Claim P p cs
     claim = board-claim P bytes p reads cs
 
@@ -76,18 +76,18 @@ module _ (P Q : List ℕ) (bytes : Bytes P) (bytes′ : Bytes Q) (p q : Parsed) 
     abbrev there : Timed Heard
     there =
         carried.known p fine (q .size) (q .nodes) (fine-board Q bytes′ q reads′ .least-size) alike-other (accepted p cs) (accepted q ds)
-        (accepted-still p cs still) (accepted-still q ds still′) (accepted-whole p cs) (accepted-whole q ds) same s (claim .known) (claim .reads)
+        (accepted-whole p cs) (accepted-whole q ds) same s (claim .known) (claim .reads)
 
     reads-there : IsReading q (accepted q ds) s there
     reads-there =
         subst (λ (x : Parsed). IsReading x (accepted q ds) s there) (sym as-other)
         (carried.carried p fine (q .size) (q .nodes) (fine-board Q bytes′ q reads′ .least-size) alike-other (accepted p cs) (accepted q ds)
-        (accepted-still p cs still) (accepted-still q ds still′) (accepted-whole p cs) (accepted-whole q ds) same s (claim .known) (claim .reads))
+        (accepted-whole p cs) (accepted-whole q ds) same s (claim .known) (claim .reads))
 
     same-end : end p (accepted p cs) ≡ end q (accepted q ds)
     same-end =
         carried.same-end p fine (q .size) (q .nodes) (fine-board Q bytes′ q reads′ .least-size) alike-other (accepted p cs) (accepted q ds)
-        (accepted-still p cs still) (accepted-still q ds still′) (accepted-whole p cs) (accepted-whole q ds) same s (claim .known) (claim .reads)
+        (accepted-whole p cs) (accepted-whole q ds) same s (claim .known) (claim .reads)
 
     is-p : replies (callIn listed P) cs (freshMemory p) ≡ repliesTo p s 0 cs
     is-p = claim .as-read s (claim .known) (claim .reads) listed (own-order P bytes p reads) .replies
@@ -113,6 +113,9 @@ module _ (P Q : List ℕ) (bytes : Bytes P) (bytes′ : Bytes Q) (p q : Parsed) 
         let lefts = same-channel (λ r. r .left) (λ t. s t 0 .left) (λ x b a. refl) in
         let rights = same-channel (λ r. r .right) (λ t. s t 0 .right) (λ x b a. refl) in
         λ i. record { left = lefts i; right = rights i }
+
+  same-sound : SameSound P Q p q
+  same-sound cs ds still still′ same = same-stream cs ds (same-events p q cs ds still still′ same)
 
   -- ---- of one list of samples
 
@@ -159,12 +162,12 @@ module _ (P Q : List ℕ) (bytes : Bytes P) (bytes′ : Bytes Q) (p q : Parsed) 
       accepted = answers P bytes p reads m judged b long;
       accepted-too = answers Q bytes′ q reads′ m′ judged′ c long′;
       same = all-played P bytes p reads m judged b long
-          ∙ same-stream cs ds (taken-still p cs (runs-taken p b xs long number)) (taken-still q ds (runs-taken q c xs long′ number)) same-samples
+          ∙ same-sound cs ds (taken-still p cs (runs-taken p b xs long number)) (taken-still q ds (runs-taken q c xs long′ number)) same-samples
           ∙ sym (all-played Q bytes′ q reads′ m′ judged′ c long′);
     }
 
   pub alike-sounds : SoundsAs P Q p q
-  alike-sounds = record { same-sound = same-stream; carries-over = same-played }
+  alike-sounds = record { same-sound = same-sound; with-messages = same-stream; carries-over = same-played }
 
 -- ---- the request's boards, and those of which no wire is late
 
@@ -182,6 +185,7 @@ module _ (P Q : List ℕ) (bytes : Bytes P) (bytes′ : Bytes Q) (p q : Parsed) 
 pub sounds-back : (P Q : List ℕ) (p q : Parsed) → SoundsAs P Q p q → SoundsAs Q P q p
 sounds-back P Q p q h = record {
   same-sound = λ cs ds still still′ same. sym (h .same-sound ds cs still′ still (sym same));
+  with-messages = λ cs ds same. sym (h .with-messages ds cs (sym same));
   carries-over = λ m m′ judged judged′ xs b c number long long′.
       let r = h .carries-over m′ m judged′ judged xs c b number long′ long in
       record { accepted = r .accepted-too; accepted-too = r .accepted; same = sym (r .same) };

@@ -6,7 +6,7 @@ use mathlib.Core.Path.{_≡_}
 use mathlib.Core.Bool.{true}
 use mathlib.Core.List.{List, [], _∷_, _++_, map}
 use lib.ListN.{length, getD, set, take, drop, replicate}
-use Rattle.leaves.specs.Words.{unwords}
+use Rattle.leaves.specs.Words.{words, unwords}
 use Rattle.nodes.specs.Kind.{finite}
 use Rattle.nodes.specs.declared.kind.NodeKind.{NodeKind}
 use Rattle.nodes.specs.declared.kind.NodeKind.the-variants.{Delay}
@@ -90,7 +90,24 @@ abbrev pub SameSound : List ℕ → List ℕ → Parsed → Parsed → Type 0
 SameSound P Q p q = (cs ds : List Call) → NoMessage cs → NoMessage ds → inputStream p cs ≡ inputStream q ds
     → outputStream P p cs ≡ outputStream Q q ds
 
--- ---- the same, of one list of finite samples
+-- ---- beyond the request: the same messages between the same samples
+
+pub data Event : Type 0 where
+  sampled : ℕ → Event
+  numbered : ℕ → ℕ → Event
+
+-- what calls bring, one after the other: the samples of input blocks, and number messages
+abbrev pub events : List Call → List Event
+events [] = []
+events (block x l r ∷ cs) = map sampled (words x) ++ events cs
+events (message k w ∷ cs) = numbered k w ∷ events cs
+
+-- from fresh memory, the same accepted samples and messages in the same order give the same stereo stream. As messages stand between blocks, it
+-- speaks of those that stand where blocks of both sizes end
+abbrev pub SameWithMessages : List ℕ → List ℕ → Parsed → Parsed → Type 0
+SameWithMessages P Q p q = (cs ds : List Call) → events (accepted p cs) ≡ events (accepted q ds) → outputStream P p cs ≡ outputStream Q q ds
+
+-- ---- the request's claim of one list of finite samples
 
 -- each sample is the pattern of a finite float
 abbrev pub AllFinite : List ℕ → Type 0
@@ -122,7 +139,8 @@ CarriesOver P Q N M = (m m′ : List ℕ) → judgeOf P ≡ answer 0 (length m) 
     → (xs : List ℕ) (b c : ℕ) → AllFinite xs → length xs ≡ b * N → length xs ≡ c * M
     → SamePlayed (plays P m b N xs) b (plays Q m′ c M xs) c
 
--- both claims, of bytes P and Q that are read as p and q
+-- these claims together, of bytes P and Q that are read as p and q
 pub record SoundsAs (P Q : List ℕ) (p q : Parsed) : Type 0 where
   pub same-sound : SameSound P Q p q
+  pub with-messages : SameWithMessages P Q p q
   pub carries-over : CarriesOver P Q (p .size) (q .size)
