@@ -239,12 +239,12 @@ def muls(numbers):
 
 
 FRAME = 'block 2 input 1\ndestination\npass\n'
+PRINTED = 'block 2 input 1\ndestination\npass\nadd 0\ndelay 1\nmul 0.5\nwire 1 2\nwire 2 3\nwire 3 4\nwire 4 2\nwire 3 0\n'
+
+
 # the printed board's loop with its late wire into a delay, of n samples, at blocks of 64
 def loop(n, more=''):
     return 'block 64 input 1\ndestination\npass\nadd 0\nmul 0.5\ndelay %d\n%swire 1 2\nwire 2 3\nwire 3 4\nwire 4 2\nwire 3 0\n' % (n, more)
-
-
-PRINTED = 'block 2 input 1\ndestination\npass\nadd 0\ndelay 1\nmul 0.5\nwire 1 2\nwire 2 3\nwire 3 4\nwire 4 2\nwire 3 0\n'
 
 
 def random_decimal(r):
@@ -301,9 +301,10 @@ def cards():
     yield loop(20).replace('delay', 'allpass').replace(' 20', ' 20 0.5')
 
 
-plate = subprocess.run([sys.executable, os.path.join(ROOT, 'tools/plate_bytes.py')], capture_output=True, check=True).stdout
-made = list(cards())
-assert board(*read(made[0])) == plate
-assert not any('%' in card for card in made)
-open(os.path.join(ROOT, 'crates/card/stdin'), 'w', newline='').write('%'.join(made))
-open(os.path.join(ROOT, 'crates/card/stdout'), 'w', newline='').write(''.join(shown(card) for card in made))
+if __name__ == '__main__':
+    plate = subprocess.run([sys.executable, os.path.join(ROOT, 'tools/plate_bytes.py')], capture_output=True, check=True).stdout
+    made = list(cards())
+    assert board(*read(made[0])) == plate
+    assert not any('%' in card for card in made)
+    open(os.path.join(ROOT, 'crates/card/stdin'), 'w', newline='').write('%'.join(made))
+    open(os.path.join(ROOT, 'crates/card/stdout'), 'w', newline='').write(''.join(shown(card) for card in made))

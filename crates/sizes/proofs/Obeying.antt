@@ -117,7 +117,6 @@ map-set f [] i y = refl
 map-set f (x ∷ l) zero y = refl
 map-set {B = B} f (x ∷ l) (suc i) y = ap (λ (t : List B). f x ∷ t) (map-set f l i y)
 
--- past the end there is no delay
 -- the values of the lines of a list of kinds
 abbrev linesIn : List NodeKind → ℕ
 linesIn [] = 0
