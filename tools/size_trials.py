@@ -17,16 +17,14 @@ import subprocess
 import sys
 import tempfile
 
-from card_vectors import ROOT, SOURCES, Bad, board, judge, nearest, sized
-from fractions import Fraction
+from card_vectors import ROOT, SOURCES, Bad, board, judge, sized
 
 PASS, SUM, DESTINATION, BALANCE, MUL, ADD, DELAY, ALLPASS, ONEPOLE, SINE = range(1, 11)
 
 
 def of_float(r, low, high):
     """The bits of a float between two whole numbers of thousandths."""
-    x = Fraction(r.randrange(low, high + 1), 1000)
-    return nearest(abs(x)) + 2**31 * (x < 0)
+    return struct.unpack("<I", struct.pack("<f", r.randrange(low, high + 1) / 1000))[0]
 
 
 def random_size(r):
@@ -51,7 +49,7 @@ def forward(r, ranks):
         few, many = SOURCES[kind - 1]
         for _ in range(r.randint(max(few, kind == DESTINATION), min(many, 3)) if at else 0):
             others = [k for k in (range(at, len(ranks)) if r.random() < back else range(at)) if k != at]
-            wires.append((r.choice(others or [0]), at))
+            wires.append((r.choice(others + [0] * len(others) or [0]), at))
     return wires
 
 
@@ -86,7 +84,7 @@ def filled(r, nodes):
 
 def random_board(r):
     """Most have a loop through a delay; one of eight has a wire twice."""
-    kinds = (PASS, SUM, SUM, BALANCE, MUL, MUL, ADD, DELAY, DELAY, DELAY, ALLPASS, ONEPOLE, SINE)
+    kinds = (PASS, BALANCE, MUL, MUL, ADD, ALLPASS, ONEPOLE, SINE) + 4 * (SUM,) + 3 * (DELAY,)
     ranks = [PASS] + [r.choice(kinds) for _ in range(r.randrange(2, 13))] + [DESTINATION]
     wires = forward(r, ranks)
     r.shuffle(wires)
