@@ -1,7 +1,7 @@
 -- The reading of one board is a reading of another, of another block size: the samples are the same, and so is what is known of each node but
 -- of a delay that late wires lead into, whose line is corrected.
---     Alike        how a node of the two boards may differ
---     carried      the reading on the other board
+--     Alike                how a node of the two boards may differ
+--     ReadsToo, carried    the reading on the other board
 -- Assumes nothing.
 use Prim.Native.Nat.{ℕ, zero, suc, _+_, _-_, _≤_, _<_}
 use mathlib.Core.Path.{_≡_, refl, sym, ap, _∙_}
@@ -81,6 +81,12 @@ pub data Alike (p q : Parsed) (j : ℕ) : Type 0 where
   same : kindAt q j ≡ kindAt p j → OnTime p j → Alike p q j
   corrected : Corrected p q j → Alike p q j
 
+-- the samples s, of a reading of the calls es on p, are those of a reading of the calls fs on q too, and both are as long
+pub record ReadsToo (p q : Parsed) (es fs : List Call) (s : Timed Frame) : Type 0 where
+  pub known : Timed Heard
+  pub reads : IsReading q fs s known
+  pub same-end : end p es ≡ end q fs
+
 alike-channels : (p q : Parsed) (j : ℕ) → Alike p q j → channelsOf (kindAt p j) ≡ channelsOf (kindAt q j)
 alike-channels p q j (same e h) = ap channelsOf (sym e)
 alike-channels p q j (corrected c) = ap channelsOf (c .delay) ∙ sym (ap channelsOf (c .delay-there))
@@ -135,7 +141,7 @@ module _ (p : Parsed) (fine : Fine p) (M : ℕ) (ns : List NodeRecord) (least : 
     same-stream : join (inputs es) ≡ join (inputs fs)
     same-stream = same-samples es fs brought
 
-    pub same-end : end p es ≡ end q fs
+    same-end : end p es ≡ end q fs
     same-end = sym (length-join (p .size) (inputs es) blocks) ∙ ap length same-stream ∙ length-join M (inputs fs) blocks′
 
     same-input : (t : ℕ) → t < end p es → inputAt p es t ≡ inputAt q fs t
@@ -151,7 +157,7 @@ module _ (p : Parsed) (fine : Fine p) (M : ℕ) (ns : List NodeRecord) (least : 
         ∙ sym (number-by M least fs blocks′ t j (toBits binary32 (numberOf (kindAt q j))))
 
     -- what is known of each node on the other board
-    abbrev pub known : Timed Heard
+    abbrev known : Timed Heard
     known zero j = setNumber (numberAt q fs 0 j) (freshHeard (kindAt q j))
     known (suc t) j = setNumber (numberAt q fs (suc t) j) (heardAfter (kindAt q j) (known t j) (broughtTo q s t j))
 
@@ -249,9 +255,13 @@ module _ (p : Parsed) (fine : Fine p) (M : ℕ) (ns : List NodeRecord) (least : 
     sample-by j r (same e on-time) = sample-same j r e on-time
     sample-by j r (corrected c) = sample-corrected j r c
 
-    pub carried : IsReading q fs s known
+    pub carried : ReadsToo p q es fs s
     carried = record {
-      first = λ j r. refl;
-      sample = λ t j h r. sample-by j r (alike j r) t (omega (arith, same-end));
-      next = λ t j h r. refl;
+      known = known;
+      reads = record {
+        first = λ j r. refl;
+        sample = λ t j h r. sample-by j r (alike j r) t (omega (arith, same-end));
+        next = λ t j h r. refl;
+      };
+      same-end = same-end;
     }

@@ -2,14 +2,15 @@
 --     lates-more                  the late wires of one wire more
 --     lines-more                  the lines of one node more
 --     one-there                   the one late wire's target is a node
---     Tested, line-view, tested   what becomes of the late wire's target, case by case
---     Planned, plan-view, plan-is what is to be done to a board, case by case
---     size-wrong, .., plan-one    the same by the code's tests
+--     Tested, tested, line-view   what becomes of the late wire's target, case by case
+--     Corrects, corrects-plan     the one late wire's target has another line at the new block size; then the plan has it
+--     Planned, plan-view          what a plan stores: nothing, the size, or the size and such a line
+--     plan-same, .., plan-one     the plan by the code's tests
 --     plan-room                   what is to be stored fits and lies within the board's bytes
 -- Assumes nothing.
-use Prim.Native.Nat.{ℕ, suc, _+_, _-_, _*_, _≤_, _<_}
+use Prim.Native.Nat.{ℕ, _+_, _-_, _*_, _≤_, _<_}
 use mathlib.Core.Path.{_≡_, refl, sym, ap, subst, subst⁻¹, _∙_}
-use mathlib.Core.Bool.{Bool, true, false, cond, _&&_, _||_, and-eq-true-iff}
+use mathlib.Core.Bool.{Bool, true, false, cond, _||_, and-eq-true-iff}
 use mathlib.Core.List.{List, [], _∷_, _++_, append-nil}
 use native.Mathlib.Numerals.{add-one}
 use native.Mathlib.Omega.{arith}
@@ -19,7 +20,10 @@ use lib.Seq.{take-suc}
 use borrow.Author.Tests.{ltb-true, ltb-false, leb-true, leb-false, le-leb, lt-leb, eqb-true, eqb-false, eq-eqb, ne-eqb}
 use Rattle.leaves.specs.Words.{Bytes}
 use Rattle.nodes.specs.Kind.{lineOf}
+use Rattle.nodes.specs.declared.kind.NodeKind.{NodeKind}
+use Rattle.nodes.specs.declared.kind.NodeKind.the-variants.{Delay}
 use Rattle.nodes.specs.declared.kind.NodeRecord.{NodeRecord}
+use Rattle.nodes.proofs.Arms.{kinds as each}
 use Rattle.reading.specs.Order.{Wire, Each}
 use Rattle.reading.specs.Keeps.{All}
 use Rattle.graph.specs.Board.{Parsed, whole, blank, wire, linesOf, sizeFits}
@@ -28,19 +32,19 @@ use Rattle.graph.specs.Wires.{wiresOf}
 use Rattle.graph.specs.Late.{isLate, lateWires}
 use Rattle.graph.specs.Write.{NodeCard, Card, nodesBytes, writeBoard, WireObeys}
 use Rattle.graph.proofs.Choice.{pick, both, neither}
-use Rattle.graph.proofs.Formed.{whole-formed}
 use Rattle.graph.proofs.Late.{late-more}
 use Rattle.graph.proofs.Round.{read-write}
 use Rattle.graph.proofs.RoundSix.{records-length}
 use Rattle.graph.proofs.Sums.{lines-snoc}
 use Rattle.context.specs.Calls.{listed}
 use Rattle.context.specs.Memory.{kindAt}
+use Rattle.sizes.specs.declared.resize.Reason.{Reason}
 use Rattle.sizes.specs.declared.resize.Reason.the-variants.{NoSize, ManyLate, NoDelay, TooShort, TooLong, TooMuch}
 use Rattle.sizes.specs.declared.resize.Resized.{Resized}
 use Rattle.sizes.specs.declared.resize.Resized.the-variants.{Same, Size, Line, Kept}
 use Rattle.sizes.specs.Planning.{lastTarget, Lates}
 use Rattle.sizes.specs.Resize.{delayOf, lineBy, lateBy, planOf}
-use Rattle.sizes.proofs.Boards.{late-are}
+use Rattle.sizes.proofs.Boards.{delay-there, late-are}
 
 -- ---- the late wires, wire by wire
 
@@ -121,48 +125,89 @@ pub record Another (p : Parsed) (M : ℕ) : Type 0 where
   pub size-fits : SizeIn M
   pub other : M ≡ p .size → ⊥
 
--- what is to be done to it, with what holds then
+-- the one late wire leads into node k, a delay of n samples; with m samples in its place, at blocks of M, all is within its bounds
+pub record Corrects (p : Parsed) (M k n m : ℕ) : Type 0 where
+  pub another : Another p M
+  pub source : ℕ
+  pub late-is : lateWires (listed p) (p .wires) ≡ wire source k ∷ []
+  pub is-delay : kindAt p k ≡ Delay n
+  pub some : 1 ≤ n
+  pub least : 1 ≤ m
+  pub most : m ≤ 132300
+  pub few : linesOf (p .nodes) + m ≤ 262144 + n
+  pub as-long : n + p .size ≡ m + M
+
+-- what is stored: nothing, the size, or the size and a line
 pub data Planned (p : Parsed) (M : ℕ) : Resized → Type 0 where
-  no-size : sizeFits M ≡ false → Planned p M (Kept NoSize)
-  same : SizeIn M → M ≡ p .size → Planned p M Same
-  none-late : Another p M → lateWires (listed p) (p .wires) ≡ [] → Planned p M Size
-  one-late : {r : Resized} → Another p M → (w : Wire) → lateWires (listed p) (p .wires) ≡ w ∷ []
-      → Tested p M (w .target) (delayOf (kindAt p (w .target))) r → Planned p M r
-  many-late : Another p M → (w v : Wire) (ws : List Wire) → lateWires (listed p) (p .wires) ≡ w ∷ v ∷ ws
-      → Planned p M (Kept (ManyLate (suc (suc (length ws)))))
+  kept : {r : Reason} → Planned p M (Kept r)
+  already : M ≡ p .size → Planned p M Same
+  size-stored : Another p M → lateWires (listed p) (p .wires) ≡ [] → Planned p M Size
+  line-stored : (k n m : ℕ) → Corrects p M k n m → Planned p M (Line k n m)
+
+delay-is : (k : NodeKind) → 1 ≤ delayOf k → k ≡ Delay (delayOf k)
+delay-is = each (λ k. 1 ≤ delayOf k → k ≡ Delay (delayOf k)) (none, none, none, none, λ f. none, λ f. none, λ n h. refl, λ n f. none, λ f. none, λ f. none)
+  where
+    none : {A : Type 0} → 1 ≤ 0 → A
+    none h = absurd (omega arith)
 
 module _ (p : Parsed) (M : ℕ) where
-  late-view : Another p M → (ws : List Wire) → lateWires (listed p) (p .wires) ≡ ws → Planned p M (lateBy p M ws)
-  late-view h [] e = none-late h e
-  late-view h (w ∷ []) e = one-late h w e (line-view p M (w .target) (delayOf (kindAt p (w .target))))
-  late-view h (w ∷ v ∷ ws) e = many-late h w v ws e
+  one-view : (w : Wire) {r : Resized} → Another p M → lateWires (listed p) (p .wires) ≡ w ∷ [] → Tested p M (w .target) (delayOf (kindAt p (w .target))) r
+      → Planned p M r
+  one-view w h e (no-delay _) = kept
+  one-view w h e (too-short _ _) = kept
+  one-view w h e (too-long _ _ _) = kept
+  one-view w h e (too-much _ _ _ _) = kept
+  one-view w h e (carried some more within few) =
+      let n : ℕ = delayOf (kindAt p (w .target)) in
+      line-stored (w .target) n (n + p .size - M) (record {
+        another = h;
+        source = w .source;
+        late-is = e;
+        is-delay = delay-is (kindAt p (w .target)) (omega (arith, some));
+        some = omega (arith, some);
+        least = omega arith;
+        most = omega arith;
+        few = omega arith;
+        as-long = omega arith;
+      })
+
+  late-view : (ws : List Wire) → Another p M → lateWires (listed p) (p .wires) ≡ ws → Planned p M (lateBy p M ws)
+  late-view [] h e = size-stored h e
+  late-view (w ∷ []) h e = one-view w h e (line-view p M (w .target) (delayOf (kindAt p (w .target))))
+  late-view (w ∷ v ∷ ws) h e = kept
 
   pub plan-view : Planned p M (planOf p M)
   unfolding planOf
   plan-view =
       pick (Planned p M) (sizeFits M) _ _
-      (λ f. pick (Planned p M) (eqb M (p .size)) _ _ (λ e. same (size-told M f) (eqb-true M (p .size) e))
-      (λ e. late-view (record { size-fits = size-told M f; other = eqb-false M (p .size) e }) (lateWires (listed p) (p .wires)) refl))
-      no-size
+      (λ f. pick (Planned p M) (eqb M (p .size)) _ _ (λ e. already (eqb-true M (p .size) e))
+      (λ e. late-view (lateWires (listed p) (p .wires)) (record { size-fits = size-told M f; other = eqb-false M (p .size) e }) refl))
+      (λ _. kept)
 
-  by-late : Another p M → (ws : List Wire) → lateWires (listed p) (p .wires) ≡ ws → lateBy p M ws ≡ planOf p M
+  -- and back
+  pub plan-same : SizeIn M → M ≡ p .size → Same ≡ planOf p M
   unfolding planOf
-  by-late h ws e = rw (size-in M (h .size-fits), ne-eqb M (p .size) (h .other), e)
+  plan-same fits e = rw (size-in M fits, eq-eqb M (p .size) e)
 
-  pub plan-is : {r : Resized} → Planned p M r → r ≡ planOf p M
+  pub plan-late : (ws : List Wire) → Another p M → lateWires (listed p) (p .wires) ≡ ws → lateBy p M ws ≡ planOf p M
   unfolding planOf
-  plan-is (no-size f) = rw f
-  plan-is (same fits e) = rw (size-in M fits, eq-eqb M (p .size) e)
-  plan-is (none-late h e) = by-late h [] e
-  plan-is (one-late h w e t) = tested p M _ _ t ∙ by-late h (w ∷ []) e
-  plan-is (many-late h w v ws e) = by-late h (w ∷ v ∷ ws) e
+  plan-late ws h e = rw (size-in M (h .size-fits), ne-eqb M (p .size) (h .other), e)
+
+  pub corrects-plan : (k n m : ℕ) → Corrects p M k n m → Line k n m ≡ planOf p M
+  corrects-plan k n m h =
+      let delay : delayOf (kindAt p k) ≡ n = ap delayOf (h .is-delay) in
+      let to : n + p .size - M ≡ m = omega arith in
+      sym ((λ i. Line k (delay i) (delay i + p .size - M)) ∙ ap (Line k n) to)
+      ∙ tested p M k (delayOf (kindAt p k)) (carried (λ e. omega arith) (omega arith) (omega arith) (omega arith))
+      ∙ plan-late (wire (h .source) k ∷ []) (h .another) (h .late-is)
 
 -- ---- the code's tests
 
-pub size-wrong : (M : ℕ) → (ltb M 1 || ltb 128 M) ≡ true → sizeFits M ≡ false
-size-wrong M = go (ltb M 1) refl
+pub plan-no-size : (p : Parsed) (M : ℕ) → (ltb M 1 || ltb 128 M) ≡ true → Kept NoSize ≡ planOf p M
+unfolding planOf
+plan-no-size p M = go (ltb M 1) refl
   where
-    go : (b : Bool) → ltb M 1 ≡ b → (b || ltb 128 M) ≡ true → (leb 1 M && leb M 128) ≡ false
+    go : (b : Bool) → ltb M 1 ≡ b → (b || ltb 128 M) ≡ true → Kept NoSize ≡ planOf p M
     go true e t = rw (lt-leb 1 M (ltb-true M 1 e))
     go false e t = rw (le-leb 1 M (ltb-false M 1 e), lt-leb M 128 (ltb-true 128 M t))
 
@@ -175,7 +220,7 @@ module _ (p : Parsed) (M n t : ℕ) (h : Another p M) (lates : Lates (lateWires 
   plan-size e = go (lateWires (listed p) (p .wires)) refl lates
     where
       go : (ws : List Wire) → lateWires (listed p) (p .wires) ≡ ws → Lates ws n t → Size ≡ planOf p M
-      go [] q d = plan-is p M (none-late h q)
+      go [] q d = plan-late p M [] h q
       go (w ∷ ws) q d = absurd (omega (arith, d .counted))
 
   pub plan-many : (n ≡ 0 → ⊥) → (n ≡ 1 → ⊥) → Kept (ManyLate n) ≡ planOf p M
@@ -184,14 +229,14 @@ module _ (p : Parsed) (M n t : ℕ) (h : Another p M) (lates : Lates (lateWires 
       go : (ws : List Wire) → lateWires (listed p) (p .wires) ≡ ws → Lates ws n t → Kept (ManyLate n) ≡ planOf p M
       go [] q d = absurd (some (d .counted))
       go (w ∷ []) q d = absurd (more (d .counted))
-      go (w ∷ v ∷ ws) q d = ap (λ (m : ℕ). Kept (ManyLate m)) (d .counted) ∙ plan-is p M (many-late h w v ws q)
+      go (w ∷ v ∷ ws) q d = ap (λ (m : ℕ). Kept (ManyLate m)) (d .counted) ∙ plan-late p M (w ∷ v ∷ ws) h q
 
   pub plan-one : n ≡ 1 → lineBy p M t (delayOf (kindAt p t)) ≡ planOf p M
   plan-one e = go (lateWires (listed p) (p .wires)) refl lates
     where
       go : (ws : List Wire) → lateWires (listed p) (p .wires) ≡ ws → Lates ws n t → lineBy p M t (delayOf (kindAt p t)) ≡ planOf p M
       go [] q d = absurd (omega (arith, d .counted))
-      go (w ∷ []) q d = ap (λ (k : ℕ). lineBy p M k (delayOf (kindAt p k))) (d .last) ∙ plan-is p M (one-late h w q (line-view p M _ _))
+      go (w ∷ []) q d = ap (λ (k : ℕ). lineBy p M k (delayOf (kindAt p k))) (d .last) ∙ plan-late p M (w ∷ []) h q
       go (w ∷ v ∷ ws) q d = absurd (omega (arith, d .counted))
 
 -- ---- the bytes
@@ -219,21 +264,11 @@ module _ (s : List ℕ) (small : Bytes s) (p : Parsed) (e : readBoard s ≡ whol
       let nodes = ap (λ (q : Parsed). length (q .nodes)) (a .parsed) in
       omega (arith, board-length (a .card), count, nodes, ap length (a .bytes))
 
-  line-room : M ≤ 128 → (k n : ℕ) {r : Resized} → k < length (p .nodes) → Tested p M k n r → Room M (length s) r
-  line-room fits k n there (no-delay _) = tt
-  line-room fits k n there (too-short _ _) = tt
-  line-room fits k n there (too-long _ _ _) = tt
-  line-room fits k n there (too-much _ _ _ _) = tt
-  line-room fits k n there (carried _ _ _ _) = (fits, omega (arith, long))
-
   room : {r : Resized} → Planned p M r → Room M (length s) r
-  room (no-size _) = tt
-  room (same _ _) = tt
-  room (none-late h _) = (h .size-fits .1, omega (arith, long))
-  room (one-late h w q t) =
-      let joins = subst (All (WireObeys (length (p .nodes)))) q (late-are (WireObeys (length (p .nodes))) (listed p) (p .wires) (whole-formed s p e .joins)) in
-      line-room (h .size-fits .1) (w .target) (delayOf (kindAt p (w .target))) (joins .0 .target-there) t
-  room (many-late _ _ _ _ _) = tt
+  room kept = tt
+  room (already _) = tt
+  room (size-stored h _) = (h .size-fits .1, omega (arith, long))
+  room (line-stored k n m h) = (h .another .size-fits .1, omega (arith, long, delay-there p k n (h .is-delay)))
 
   pub plan-room : Room M (length s) (planOf p M)
   plan-room = room (plan-view p M)

@@ -1,7 +1,7 @@
 -- A board carried to another block size and back has the bytes that it had: `returns`. Assumes nothing.
-use Prim.Native.Nat.{ℕ, _+_, _-_}
+use Prim.Native.Nat.{ℕ}
 use mathlib.Core.Path.{_≡_, refl, sym, ap, subst, _∙_}
-use mathlib.Core.List.{List}
+use mathlib.Core.List.{List, []}
 use native.Mathlib.Omega.{arith}
 use lib.ListN.{set}
 use Rattle.leaves.specs.Words.{Bytes}
@@ -9,17 +9,16 @@ use Rattle.nodes.specs.declared.kind.NodeKind.the-variants.{Delay}
 use Rattle.graph.specs.Board.{Parsed, whole}
 use Rattle.graph.specs.Judge.{readBoard}
 use Rattle.graph.proofs.Round.{Accepted, read-write}
-use Rattle.context.specs.Memory.{kindAt}
 use Rattle.context.specs.Fine.{Fine}
 use Rattle.context.proofs.FineBoard.{fine-board}
 use Rattle.sizes.specs.declared.resize.Resized.{Resized}
 use Rattle.sizes.specs.declared.resize.Resized.the-variants.{Same, Size, Line}
 use Rattle.sizes.specs.Sizes.{kinds}
-use Rattle.sizes.specs.Resize.{delayOf, planOf, planBy, resizedOf, bytesAfter, Returns}
+use Rattle.sizes.specs.Resize.{planOf, planBy, resizedOf, bytesAfter, Returns}
 use Rattle.sizes.proofs.Boards.{line-fits, new-kind}
-use Rattle.sizes.proofs.Planning.{SizeIn, no-delay, too-short, too-long, too-much, carried, Planned, no-size, same, none-late, one-late, many-late, plan-view, plan-is}
+use Rattle.sizes.proofs.Planning.{SizeIn, Corrects, Planned, kept, already, size-stored, line-stored, plan-view, plan-same, plan-late, corrects-plan}
 use Rattle.sizes.proofs.Obeying.{boardOf, kinds-laid, size-read, size-back, line-back, lines-replaced}
-use Rattle.sizes.proofs.Rewritten.{Corrects, line-corrects, corrects-plan, new, new-read}
+use Rattle.sizes.proofs.Rewritten.{new, new-read}
 
 module _ (s : List ℕ) (bytes : Bytes s) (p : Parsed) (reads : readBoard s ≡ whole p) (M : ℕ) where
   abbrev accepted : Accepted s p
@@ -42,7 +41,7 @@ module _ (s : List ℕ) (bytes : Bytes s) (p : Parsed) (reads : readBoard s ≡ 
 
   unchanged : bytesAfter s (p .size) (resizedOf s (p .size)) ≡ s
   unfolding bytesAfter
-  unchanged = by-plan s p Same reads (plan-is p (p .size) (same fits refl)) refl
+  unchanged = by-plan s p Same reads (plan-same p (p .size) fits refl) refl
 
   module _ (k n m : ℕ) (h : Corrects p M k n m) where
     abbrev q : Parsed
@@ -73,20 +72,13 @@ module _ (s : List ℕ) (bytes : Bytes s) (p : Parsed) (reads : readBoard s ≡ 
 
   by-view : {r : Resized} → Planned p M r → Back r
   unfolding bytesAfter
-  by-view (no-size _) = unchanged
-  by-view (same _ _) = unchanged
-  by-view (none-late h none) =
+  by-view kept = unchanged
+  by-view (already _) = unchanged
+  by-view (size-stored h none) =
       let q : Parsed = boardOf p M (kinds p) in
       by-plan (bytesAfter s M Size) q Size (size-read s p accepted M (h .size-fits .0) (h .size-fits .1))
-      (plan-is q (p .size) (none-late (record { size-fits = fits; other = λ e. h .other (sym e) }) none)) (size-back s p accepted M)
-  by-view (one-late h w e (no-delay _)) = unchanged
-  by-view (one-late h w e (too-short _ _)) = unchanged
-  by-view (one-late h w e (too-long _ _ _)) = unchanged
-  by-view (one-late h w e (too-much _ _ _ _)) = unchanged
-  by-view (one-late h w e (carried some more within few)) =
-      let n : ℕ = delayOf (kindAt p (w .target)) in
-      line-returns (w .target) n (n + p .size - M) (line-corrects p M h w e some more within few)
-  by-view (many-late _ _ _ _ _) = unchanged
+      (plan-late q (p .size) [] (record { size-fits = fits; other = λ e. h .other (sym e) }) none) (size-back s p accepted M)
+  by-view (line-stored k n m h) = line-returns k n m h
 
 pub returns : (s : List ℕ) → Bytes s → (M : ℕ) → Returns s M
 unfolding resizedOf

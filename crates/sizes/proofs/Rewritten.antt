@@ -1,10 +1,9 @@
 -- A board whose bytes are stored anew as planned is accepted, and apart from the board before as `Apart` allows; and every accepted board
 -- that is so apart from it is reached.
---     line-corrects, corrects-plan      what holds where the plan has a line, and back
 --     size-rewrites, line-rewrites      the bytes afterwards are accepted, of a board at the new size, apart from the one before
 --     complete                          an accepted board that is apart from the one before is what the bytes afterwards are read as
 -- Assumes nothing.
-use Prim.Native.Nat.{ℕ, _+_, _-_, _≤_, _<_}
+use Prim.Native.Nat.{ℕ, _+_, _<_}
 use mathlib.Core.Path.{_≡_, refl, sym, ap, _∙_}
 use mathlib.Core.Bool.{Bool, true, false}
 use mathlib.Core.List.{List, [], _∷_}
@@ -15,9 +14,8 @@ use borrow.Author.Tests.{eqb-true, eqb-false, ltb-true, ltb-false}
 use Rattle.leaves.specs.Words.{Bytes}
 use Rattle.nodes.specs.declared.kind.NodeKind.{NodeKind}
 use Rattle.nodes.specs.declared.kind.NodeKind.the-variants.{Delay}
-use Rattle.nodes.proofs.Arms.{kinds as each}
 use Rattle.reading.specs.Order.{Wire, sources}
-use Rattle.graph.specs.Board.{Parsed, whole, wire, linesOf}
+use Rattle.graph.specs.Board.{Parsed, whole, wire}
 use Rattle.graph.specs.Judge.{readBoard}
 use Rattle.graph.specs.Late.{lateWires}
 use Rattle.graph.specs.Visit.{visitingList}
@@ -27,58 +25,12 @@ use Rattle.context.specs.Calls.{listed}
 use Rattle.context.specs.Fine.{Fine}
 use Rattle.context.proofs.FineBoard.{fine-board}
 use Rattle.sizes.specs.Sizes.{kinds}
-use Rattle.sizes.specs.Resize.{delayOf, planOf, planBy, resizedOf, bytesAfter, Apart, line-longer, line-shorter, size-alone, Complete}
+use Rattle.sizes.specs.Resize.{planOf, planBy, resizedOf, bytesAfter, Apart, line-longer, line-shorter, size-alone, Complete}
 use Rattle.sizes.specs.declared.resize.Resized.{Resized}
 use Rattle.sizes.specs.declared.resize.Resized.the-variants.{Same, Size, Line}
 use Rattle.sizes.proofs.Boards.{line-fits, new-kind, old-kinds, one-in}
-use Rattle.sizes.proofs.Planning.{SizeIn, Another, carried, same, none-late, one-late, plan-is}
+use Rattle.sizes.proofs.Planning.{SizeIn, Another, Corrects, plan-same, plan-late, corrects-plan}
 use Rattle.sizes.proofs.Obeying.{lines-replaced, laid, boardOf, kinds-laid, laid-out, size-read, line-read}
-
--- ---- the one line
-
-delay-is : (k : NodeKind) → 1 ≤ delayOf k → k ≡ Delay (delayOf k)
-delay-is = each (λ k. 1 ≤ delayOf k → k ≡ Delay (delayOf k)) (none, none, none, none, λ f. none, λ f. none, λ n h. refl, λ n f. none, λ f. none, λ f. none)
-  where
-    none : {A : Type 0} → 1 ≤ 0 → A
-    none h = absurd (omega arith)
-
--- the one late wire leads into node k, a delay of n samples; with m samples in its place, at blocks of M, all is within its bounds
-pub record Corrects (p : Parsed) (M k n m : ℕ) : Type 0 where
-  pub another : Another p M
-  pub source : ℕ
-  pub late-is : lateWires (listed p) (p .wires) ≡ wire source k ∷ []
-  pub is-delay : kindAt p k ≡ Delay n
-  pub some : 1 ≤ n
-  pub least : 1 ≤ m
-  pub most : m ≤ 132300
-  pub few : linesOf (p .nodes) + m ≤ 262144 + n
-  pub as-long : n + p .size ≡ m + M
-
-module _ (p : Parsed) (M : ℕ) where
-  -- so it is where the plan has a line
-  pub line-corrects : (h : Another p M) (w : Wire) → lateWires (listed p) (p .wires) ≡ w ∷ []
-      → let n = delayOf (kindAt p (w .target)) in
-      (n ≡ 0 → ⊥) → M < n + p .size → n + p .size ≤ 132300 + M → linesOf (p .nodes) + p .size ≤ 262144 + M
-      → Corrects p M (w .target) n (n + p .size - M)
-  line-corrects h w e some more within few = record {
-    another = h;
-    source = w .source;
-    late-is = e;
-    is-delay = delay-is (kindAt p (w .target)) (omega (arith, some));
-    some = omega (arith, some);
-    least = omega arith;
-    most = omega arith;
-    few = omega arith;
-    as-long = omega arith;
-  }
-
-  -- and then the plan has it
-  pub corrects-plan : (k n m : ℕ) → Corrects p M k n m → Line k n m ≡ planOf p M
-  corrects-plan k n m h =
-      let delay : delayOf (kindAt p k) ≡ n = ap delayOf (h .is-delay) in
-      let to : n + p .size - M ≡ m = omega arith in
-      sym ((λ i. Line k (delay i) (delay i + p .size - M)) ∙ ap (Line k n) to)
-      ∙ plan-is p M (one-late (h .another) (wire (h .source) k) (h .late-is) (carried (λ e. omega arith) (omega arith) (omega arith) (omega arith)))
 
 -- ---- the bytes afterwards
 
@@ -183,10 +135,10 @@ module _ (s : List ℕ) (b : Bytes s) (p : Parsed) (e : readBoard s ≡ whole p)
       go : (t : Bool) → eqb (q .size) (p .size) ≡ t → Reached
       go true t =
           let at-size = eqb-true (q .size) (p .size) t in
-          by-plan Same (kinds p) (plan-is p (q .size) (same fits at-size)) same-kinds
+          by-plan Same (kinds p) (plan-same p (q .size) fits at-size) same-kinds
           (e ∙ ap whole (laid-out s p (read-write s b p e) ∙ ap (λ (N : ℕ). boardOf p N (kinds p)) (sym at-size)))
       go false t =
-          by-plan Size (kinds p) (plan-is p (q .size) (none-late (record { size-fits = fits; other = eqb-false (q .size) (p .size) t }) none)) same-kinds
+          by-plan Size (kinds p) (plan-late p (q .size) [] (record { size-fits = fits; other = eqb-false (q .size) (p .size) t }) none) same-kinds
           (size-read s p (read-write s b p e) (q .size) (fits .0) (fits .1))
 
   line-reached : (source k n m : ℕ) → lateWires (listed p) (p .wires) ≡ wire source k ∷ [] → kindAt p k ≡ Delay n → kinds q ≡ set (kinds p) k (Delay m)

@@ -1,5 +1,5 @@
 -- A board carried to another block size is accepted, and sounds the same: `settled`, of every answer of `resize`. Assumes nothing.
-use Prim.Native.Nat.{ℕ, zero, suc, _+_, _-_, _*_, _<_}
+use Prim.Native.Nat.{ℕ, zero, suc, _+_, _*_, _<_}
 use mathlib.Core.Path.{_≡_, refl, sym, ap, _∙_}
 use mathlib.Core.List.{List, [], _∷_}
 use native.Mathlib.Omega.{arith}
@@ -10,14 +10,13 @@ use Rattle.leaves.specs.Words.{Bytes}
 use Rattle.reading.specs.Keeps.{All}
 use Rattle.graph.specs.Board.{Parsed, Reading, going, refused, whole}
 use Rattle.graph.specs.Judge.{readBoard}
-use Rattle.context.specs.Memory.{kindAt}
 use Rattle.sizes.specs.declared.resize.Resized.{Resized}
 use Rattle.sizes.specs.declared.resize.Resized.the-variants.{Same, Size, Line, Kept}
 use Rattle.sizes.specs.Sizes.{SoundsAs}
-use Rattle.sizes.specs.Resize.{delayOf, planBy, resizedOf, bytesAfter, Apart, line-longer, line-shorter, size-alone, Carried, Settled}
+use Rattle.sizes.specs.Resize.{planBy, resizedOf, bytesAfter, Apart, line-longer, line-shorter, size-alone, Carried, Settled}
 use Rattle.sizes.proofs.Sizes.{one-line-sounds, size-only-sounds, sounds-back}
-use Rattle.sizes.proofs.Planning.{no-delay, too-short, too-long, too-much, carried, Planned, no-size, same, none-late, one-late, many-late, plan-view}
-use Rattle.sizes.proofs.Rewritten.{Rewrites, line-corrects, size-rewrites, line-rewrites}
+use Rattle.sizes.proofs.Planning.{Planned, kept, already, size-stored, line-stored, plan-view}
+use Rattle.sizes.proofs.Rewritten.{Rewrites, size-rewrites, line-rewrites}
 
 -- ---- the bytes afterwards are bytes
 
@@ -63,18 +62,10 @@ module _ (s : List ℕ) (bytes : Bytes s) (M : ℕ) (p : Parsed) (reads : readBo
   }
 
   by-plan : {r : Resized} → Planned p M r → Settled s M r
-  by-plan (no-size _) = tt
-  by-plan (same _ e) = λ x q. let board : x ≡ p = cc in ap (λ (y : Parsed). y .size) board ∙ sym e
-  by-plan (none-late h none) = rewritten Size (size-rewrites s bytes p reads M h none)
-  by-plan (one-late h w e (no-delay _)) = tt
-  by-plan (one-late h w e (too-short _ _)) = tt
-  by-plan (one-late h w e (too-long _ _ _)) = tt
-  by-plan (one-late h w e (too-much _ _ _ _)) = tt
-  by-plan (one-late h w e (carried some more within few)) =
-      let n : ℕ = delayOf (kindAt p (w .target)) in
-      let m : ℕ = n + p .size - M in
-      rewritten (Line (w .target) n m) (line-rewrites s bytes p reads M (w .target) n m (line-corrects p M h w e some more within few))
-  by-plan (many-late _ _ _ _ _) = tt
+  by-plan kept = tt
+  by-plan (already e) = λ x q. let board : x ≡ p = cc in ap (λ (y : Parsed). y .size) board ∙ sym e
+  by-plan (size-stored h none) = rewritten Size (size-rewrites s bytes p reads M h none)
+  by-plan (line-stored k n m h) = rewritten (Line k n m) (line-rewrites s bytes p reads M k n m h)
 
 pub settled : (s : List ℕ) → Bytes s → (M : ℕ) → Settled s M (resizedOf s M)
 unfolding resizedOf

@@ -12,7 +12,6 @@ use native.Mathlib.Omega.{arith}
 use lib.ListN.{length, replicate}
 use Rattle.leaves.specs.Words.{Bytes, unwords}
 use Rattle.nodes.specs.Rule.{Frame}
-use Rattle.nodes.specs.History.{Heard}
 use Rattle.reading.specs.Table.{tab}
 use Rattle.reading.proofs.Table.{tab-agree}
 use Rattle.reading.specs.Calls.{replies}
@@ -24,7 +23,7 @@ use Rattle.graph.specs.declared.answer.Answer.{Answer}
 use Rattle.context.specs.Memory.{passed}
 use Rattle.context.specs.Calls.{listed, freshOf}
 use Rattle.context.specs.Fine.{Fine}
-use Rattle.context.specs.Reading.{Call, Reply, Timed, reached, IsReading, accepted, inputs, end, outputs, repliesTo}
+use Rattle.context.specs.Reading.{Call, Reply, Timed, reached, accepted, inputs, end, outputs, repliesTo}
 use Rattle.context.specs.Silence.{played}
 use Rattle.context.specs.Claim.{Claim, callIn, freshMemory}
 use Rattle.context.proofs.DemandAfter.{accepted-whole}
@@ -34,8 +33,7 @@ use Rattle.sizes.specs.Sizes.{OneLine, SizeOnly, join, inputStream, ster
 use Rattle.sizes.proofs.Streams.{stream-is, same-events}
 use Rattle.sizes.proofs.Plays.{Taken, taken-still, accepted-taken, played-taken, answers-taken, replies-long, runs-taken, runs-inputs, runs-long, join-cut}
 use Rattle.sizes.proofs.Apart.{one-line-alike, size-only-alike}
-use Rattle.sizes.proofs.Carried.{Alike}
-use Rattle.sizes.proofs.Carried as carried
+use Rattle.sizes.proofs.Carried.{Alike, resized, ReadsToo, carried}
 
 -- ---- the fresh call
 
@@ -59,10 +57,10 @@ module _ (P Q : List ℕ) (bytes : Bytes P) (bytes′ : Bytes Q) (p q : Parsed) 
   fine = fine-board P bytes p reads
 
   -- the other board, with this one's input node and wires
-  as-other : q ≡ carried.resized p (q .size) (q .nodes)
+  as-other : q ≡ resized p (q .size) (q .nodes)
   as-other = λ i. record { size = q .size; input = same-input i; nodes = q .nodes; wires = same-wires i }
 
-  alike-other : (j : ℕ) → reached p j ≡ true → Alike p (carried.resized p (q .size) (q .nodes)) j
+  alike-other : (j : ℕ) → reached p j ≡ true → Alike p (resized p (q .size) (q .nodes)) j
   alike-other j r = subst (λ (x : Parsed). Alike p x j) as-other (alike j r)
 
   module _ (cs ds : List Call) (same : events (accepted p cs) ≡ events (accepted q ds)) where
@@ -73,27 +71,17 @@ module _ (P Q : List ℕ) (bytes : Bytes P) (bytes′ : Bytes Q) (p q : Parsed) 
     s = claim .samples
 
     -- the other board's reading has the same samples
-    abbrev there : Timed Heard
+    there : ReadsToo p q (accepted p cs) (accepted q ds) s
     there =
-        carried.known p fine (q .size) (q .nodes) (fine-board Q bytes′ q reads′ .least-size) alike-other (accepted p cs) (accepted q ds)
-        (accepted-whole p cs) (accepted-whole q ds) same s (claim .known) (claim .reads)
-
-    reads-there : IsReading q (accepted q ds) s there
-    reads-there =
-        subst (λ (x : Parsed). IsReading x (accepted q ds) s there) (sym as-other)
-        (carried.carried p fine (q .size) (q .nodes) (fine-board Q bytes′ q reads′ .least-size) alike-other (accepted p cs) (accepted q ds)
+        subst (λ (x : Parsed). ReadsToo p x (accepted p cs) (accepted q ds) s) (sym as-other)
+        (carried p fine (q .size) (q .nodes) (fine-board Q bytes′ q reads′ .least-size) alike-other (accepted p cs) (accepted q ds)
         (accepted-whole p cs) (accepted-whole q ds) same s (claim .known) (claim .reads))
-
-    same-end : end p (accepted p cs) ≡ end q (accepted q ds)
-    same-end =
-        carried.same-end p fine (q .size) (q .nodes) (fine-board Q bytes′ q reads′ .least-size) alike-other (accepted p cs) (accepted q ds)
-        (accepted-whole p cs) (accepted-whole q ds) same s (claim .known) (claim .reads)
 
     is-p : replies (callIn listed P) cs (freshMemory p) ≡ repliesTo p s 0 cs
     is-p = claim .as-read s (claim .known) (claim .reads) listed (own-order P bytes p reads) .replies
 
     is-q : replies (callIn listed Q) ds (freshMemory q) ≡ repliesTo q s 0 ds
-    is-q = board-claim Q bytes′ q reads′ ds .as-read s there reads-there listed (own-order Q bytes′ q reads′) .replies
+    is-q = board-claim Q bytes′ q reads′ ds .as-read s (there .known) (there .reads) listed (own-order Q bytes′ q reads′) .replies
 
     -- g takes a reply's block of one channel, and w is the samples of that channel
     same-channel : (g : Reply → List ℕ) (w : ℕ → ℕ)
@@ -104,7 +92,7 @@ module _ (P Q : List ℕ) (bytes : Bytes P) (bytes′ : Bytes Q) (p q : Parsed) 
         ∙ stream-is p s g w (writes p) cs
         ∙ ap unwords (tab-agree (end p (accepted p cs)) (λ i. w (0 * p .size + i)) (λ i. w (0 * q .size + i))
         (λ i h. let e : 0 * p .size + i ≡ 0 * q .size + i = omega arith in ap w e))
-        ∙ ap (λ (n : ℕ). unwords (tab n (λ i. w (0 * q .size + i)))) same-end
+        ∙ ap (λ (n : ℕ). unwords (tab n (λ i. w (0 * q .size + i)))) (there .same-end)
         ∙ sym (stream-is q s g w (writes q) ds)
         ∙ ap (λ (rs : List Reply). join (map g (played q ds rs))) (sym is-q)
 

@@ -5,19 +5,19 @@ use native.Mathlib.Omega.{arith}
 use borrow.Author.Needs.{needs}
 use lib.Seq.{length-take-le}
 use Rattle.graph.specs.Read.{parsedOf}
-use Rattle.sizes.proofs.Planning.{SizeIn, Another, no-size, same, plan-is, size-wrong, size-right, one-there, plan-size, plan-many, plan-one}
+use Rattle.sizes.proofs.Planning.{SizeIn, Another, plan-same, plan-no-size, size-right, one-there, plan-size, plan-many, plan-one}
 use Rattle.sizes.proofs.resize.planned.Statement.{statement}
 use Rattle.sizes.proofs.resize.planned.Tie as tie
 
 returns : tie.Need-returns
-returns c = plan-is _ _ (no-size (size-wrong (c .before .args .size) (c .if1 .taken)))
+returns c = plan-no-size _ _ (c .if1 .taken)
 
 -- the size fits
 right : (c : tie.Else1) → SizeIn (c .before .args .size)
 right c = size-right _ (c .if1 .left)
 
 returns-2 : tie.Need-returns-2
-returns-2 c = plan-is _ _ (same (right (c .before .before)) (c .if2 .taken))
+returns-2 c = plan-same _ _ (right (c .before .before)) (c .if2 .taken)
 
 -- and is another
 another : (c : tie.After-board-late) → Another (parsedOf (c .before .before .before .before .args .board)) (c .before .before .before .before .args .size)
