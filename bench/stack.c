@@ -7,13 +7,15 @@
 
 #include "plate.h"
 
-enum { SPACE = 1 << 20, PAINT = 0xA5, IDLE = 7 };
+enum { SPACE = 1 << 20, PAINT = 0xA5, IDLE = 9 };
 
 static uint8_t board[4096], in[512], out0[512], out1[512], written[1270];
 static size_t board_len, memory_len;
 static uint8_t *memory;
 static int which;
+static uint16_t far;
 static plate_answer answer;
+static plate_wiring wiring;
 
 static void u16(uint32_t v) { board[board_len++] = v & 255; board[board_len++] = v >> 8 & 255; }
 static void u32(uint32_t v) { u16(v & 65535); u16(v >> 16); }
@@ -29,6 +31,9 @@ static void *call(void *unused)
     case 4: answer = plate_message(board, board_len, memory, memory_len, 3, 0.5f); break;
     case 5: answer = plate_mix(board, board_len, memory, memory_len, 0.5f); break;
     case 6: answer = plate_write(128, 0.5f, written, sizeof written); break;
+    /* From the input node to an all-pass at the far end of the walk; pulled again, so that the board is as before. */
+    case 7: wiring = plate_add_wire(board, sizeof board, board_len, board[6], far); break;
+    case 8: wiring = plate_pull_wire(board, sizeof board, board_len + 8, board[6], far); break;
     }
     return NULL;
 }
@@ -46,6 +51,7 @@ static size_t used(int c)
     which = c;
     if (pthread_create(&thread, &attr, call, NULL) != 0) exit(1);
     pthread_join(thread, NULL);
+    if (wiring.number != 0) exit(1);
     while (clean < SPACE && stack[clean] == PAINT) clean++;
     free(stack);
     return SPACE - clean;
@@ -66,16 +72,17 @@ static void chain(void)
 
 int main(void)
 {
-    static const char *names[] = {"judge", "tail", "fresh", "block", "message", "mix", "write"};
+    static const char *names[] = {"judge", "tail", "fresh", "block", "message", "mix", "write", "add wire", "pull wire"};
     size_t idle = used(IDLE);
     for (int deep = 0; deep < 2; deep++) {
         if (deep) chain();
         else board_len = sizeof written, plate_write(128, 0.5f, board, board_len);
+        far = deep ? 60 : 5;
         memory_len = plate_judge(board, board_len).place;
         memory = malloc(memory_len);
         plate_fresh(board, board_len, memory, memory_len);
         printf("%s\n", deep ? "a chain of 64 nodes" : "the plate");
-        for (int c = 0; c < IDLE; c++) printf("  %-8s %6zu bytes of stack\n", names[c], used(c) - idle);
+        for (int c = 0; c < IDLE; c++) printf("  %-9s %6zu bytes of stack\n", names[c], used(c) - idle);
         free(memory);
     }
     return 0;

@@ -37,7 +37,9 @@ enum {
     PLATE_BLOCKS = 9,     /* block size N: a block is not of 4 x N bytes */
     PLATE_INPUT = 10,     /* index of the first infinite or NaN input sample */
     PLATE_TARGET = 11,    /* node that is missing or takes no number; for plate_mix, that is no mul */
-    PLATE_VALUE = 12      /* node whose value is outside its range; 41 for a mix, 0 for milliseconds */
+    PLATE_VALUE = 12,     /* node whose value is outside its range; 41 for a mix, 0 for milliseconds */
+    PLATE_ROOM = 15,      /* length needed, at most 4,294,967,295: fewer bytes are lent to a change of wires */
+    PLATE_NO_WIRE = 16    /* target: there is no such wire to pull */
 };
 
 /* The tail of a board whose output may never end. */
@@ -61,6 +63,26 @@ plate_answer plate_fresh(const uint8_t *board, size_t board_len, uint8_t *memory
 plate_answer plate_block(const uint8_t *board, size_t board_len, uint8_t *memory, size_t memory_len,
                          const uint8_t *input, size_t input_len, uint8_t *out0, size_t out0_len, uint8_t *out1,
                          size_t out1_len);
+
+/* A change of wires: number and place as above, and the new board's visiting list, its nodes in the order in which a
+   block runs them. The first count bytes of listed are the list, those behind it 0; a refusal has count 0. */
+typedef struct {
+    uint32_t number;
+    uint32_t place;
+    uint32_t count;
+    uint8_t listed[64];
+} plate_wiring;
+
+/* Adds a wire to the board that the first board_len bytes are, also while it plays: between two blocks. The record comes
+   before the end record, so the board is 8 bytes longer afterwards, which must be lent behind it; bytes behind the new
+   end are left alone. The memory stays as it is, and blocks go on with the new board. Answers 0 and 0; or 15, 1 to 6 of
+   the old board, 5 (place board_len - 4) or 6 of the changed one. */
+plate_wiring plate_add_wire(uint8_t *bytes, size_t bytes_len, size_t board_len, uint16_t source, uint16_t target);
+
+/* Pulls the newest wire from source to target of the board that the first board_len bytes are, and closes up: the board
+   is 8 bytes shorter afterwards, and bytes behind the new end are left alone. Answers 0 and 0; or 15, 1 to 6 of the old
+   board, 16, 6 of the changed one. */
+plate_wiring plate_pull_wire(uint8_t *bytes, size_t bytes_len, size_t board_len, uint16_t source, uint16_t target);
 
 /* Sets the number of a mul, an add, an all-pass (its gain) or a sine (its frequency): writes 4 bytes of the memory.
    Answers 0 and 0, or 1 to 6, 7, 8, 11, 12. */

@@ -4,7 +4,7 @@
 mod straight;
 
 use compare::boards::{node, to_bytes};
-use compare::library::{answer, c, Answer};
+use compare::library::{answer, c, Answer, Wiring};
 use compare::model::{Board, Node, PLATE_BYTES};
 use compare::original::{OfPlate, Original};
 use compare::random::Random;
@@ -88,6 +88,20 @@ fn least<const K: usize>(rounds: usize, mut calls: [&mut dyn FnMut(); K]) -> [f6
     best
 }
 
+/// The least time in ns of a call that changes the bytes it is lent: ten copies, made before each short run.
+fn least_anew(rounds: usize, bytes: &[u8], call: impl Fn(&mut [u8]) -> Wiring) -> f64 {
+    let mut best = f64::MAX;
+    for _ in 0..rounds {
+        let mut copies = vec![bytes.to_vec(); 10];
+        let start = Instant::now();
+        for copy in &mut copies {
+            assert_eq!(call(copy).number, 0);
+        }
+        best = best.min(start.elapsed().as_nanos() as f64 / 10.0);
+    }
+    best
+}
+
 fn noise(size: usize, r: &mut Random) -> Vec<f32> {
     (0..size).map(|_| r.unit()).collect()
 }
@@ -139,6 +153,27 @@ fn calls(rounds: usize) {
         }],
     );
     println!("plate, ns a call: judge {judge:.0}, tail {tail:.0}, mix message {mix:.0}, fresh {fresh:.0}");
+    let length = library.board.len();
+    let bytes = [&library.board[..], &[0; 8]].concat();
+    let add = |bytes: &mut [u8], length: usize, (source, target): (u16, u16)| unsafe {
+        c::plate_add_wire(bytes.as_mut_ptr(), bytes.len(), length, source, target)
+    };
+    let pull = |bytes: &mut [u8], length: usize, (source, target): (u16, u16)| unsafe {
+        c::plate_pull_wire(bytes.as_mut_ptr(), bytes.len(), length, source, target)
+    };
+    // A wire that the plate has not, and its feedback.
+    let (new, feedback) = ((1, 38), (37, 9));
+    let (mut longer, mut shorter) = (bytes.clone(), bytes.clone());
+    add(&mut longer, length, new);
+    pull(&mut shorter, length, feedback);
+    let times = [
+        ("add 1→38", least_anew(rounds, &bytes, |bytes| add(bytes, length, new))),
+        ("pull it again", least_anew(rounds, &longer, |bytes| pull(bytes, length + 8, new))),
+        ("pull 37→9", least_anew(rounds, &bytes, |bytes| pull(bytes, length, feedback))),
+        ("add it again", least_anew(rounds, &shorter, |bytes| add(bytes, length - 8, feedback))),
+    ];
+    let times = times.map(|(name, time)| format!("{name} {time:.0} ({:.2} judges)", time / judge));
+    println!("plate, ns a change of wires: {}", times.join(", "));
 }
 
 /// Node 0, input 1, an add of 29.5 that gives a modulation, then `count` nodes in a chain that ends in node 0; with

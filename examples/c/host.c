@@ -1,27 +1,12 @@
 /* Writes a plate, makes its memory, and renders an impulse to a WAV file: two channels, 16 bits, two seconds. */
 #include "plate.h"
+#include "words.h"
 
 #include <stdio.h>
 #include <stdlib.h>
 #include <string.h>
 
 enum { N = 64, RATE = 44100, BLOCKS = 2 * RATE / N };
-
-static const char *const words[] = {
-    "success",
-    "a record is cut, of a wrong length, or stands after the end",
-    "a record's kind is unknown or out of order",
-    "the block size is not 1 to 128",
-    "a node breaks a rule",
-    "a wire has no end, or one node at both",
-    "a node has a wrong number of sources",
-    "the bytes lent are not of the length needed",
-    "a value in the memory is not as it must be",
-    "a block is not of the block size",
-    "an input sample is not finite",
-    "the node takes no number",
-    "the value is out of range",
-};
 
 static void check(const char *call, plate_answer a)
 {

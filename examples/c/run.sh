@@ -1,5 +1,5 @@
 #!/bin/sh
-# Proves and builds the library, builds the example against it, and runs it. The archive may need nothing of its host
+# Proves and builds the library, builds the examples against it, and runs them. The archive may need nothing of its host
 # but memcpy, memset and memmove.
 set -eu
 cd "$(dirname "$0")"
@@ -16,8 +16,10 @@ for name in $needed; do
     esac
 done
 
-make -s clean host
+make -s clean all
 ./host impulse.wav
+./rewire
 if command -v valgrind >/dev/null; then
     valgrind -q --error-exitcode=1 ./host impulse.wav
+    valgrind -q --error-exitcode=1 ./rewire
 fi

@@ -4,6 +4,7 @@
 #include <stdint.h>
 
 typedef struct { uint32_t number, place; } plate_answer;
+typedef struct { uint32_t number, place, count; uint8_t listed[64]; } plate_wiring;
 typedef struct { const uint8_t *start; size_t length; } slice;
 
 void map_judge(plate_answer *, const slice *);
@@ -13,6 +14,8 @@ void map_block(plate_answer *, const slice *, const slice *, const slice *, cons
 void map_message(plate_answer *, const slice *, const slice *, uint32_t, float);
 void map_mix(plate_answer *, const slice *, const slice *, float);
 void map_write(plate_answer *, uint32_t, float, const slice *);
+void map_add_wire(plate_wiring *, const slice *, size_t, uint16_t, uint16_t);
+void map_pull_wire(plate_wiring *, const slice *, size_t, uint16_t, uint16_t);
 void map_delay_length(plate_answer *, float);
 void map_allpass_length(plate_answer *, float);
 
@@ -61,6 +64,18 @@ plate_answer plate_write(uint32_t n, float mix, uint8_t *board, size_t board_len
   plate_answer a;
   map_write(&a, n, mix, &b);
   return a;
+}
+plate_wiring plate_add_wire(uint8_t *bytes, size_t bytes_len, size_t board_len, uint16_t source, uint16_t target) {
+  slice b = {bytes, bytes_len};
+  plate_wiring w;
+  map_add_wire(&w, &b, board_len, source, target);
+  return w;
+}
+plate_wiring plate_pull_wire(uint8_t *bytes, size_t bytes_len, size_t board_len, uint16_t source, uint16_t target) {
+  slice b = {bytes, bytes_len};
+  plate_wiring w;
+  map_pull_wire(&w, &b, board_len, source, target);
+  return w;
 }
 plate_answer plate_delay_length(float ms) {
   plate_answer a;

@@ -19,6 +19,7 @@ use Rattle.nodes.specs.Rule.{Frame}
 use Rattle.nodes.specs.History.{Heard, stateOf}
 use Rattle.reading.specs.Order.{Reorders}
 use Rattle.reading.specs.Board as theory
+use Rattle.reading.specs.Visit.{start}
 use Rattle.reading.specs.Calls.{replies, afterCalls}
 use Rattle.reading.specs.Blocks.{freshCells}
 use Rattle.reading.specs.Time as time
@@ -40,7 +41,7 @@ use Rattle.context.specs.Fine.{Fine}
 use Rattle.context.specs.Instance.{Held}
 use Rattle.graph.specs.declared.answer.Answer.{Answer}
 use Rattle.graph.proofs.Ending.{Ended, board-ends}
-use Rattle.context.proofs.FineBoard.{fine-board}
+use Rattle.context.proofs.FineBoard.{fine-board, lists}
 use Rattle.context.proofs.Lawful.{board-sound, rules-encode, rules-lawful}
 use Rattle.context.proofs.Told.{heard-sent}
 use Rattle.context.proofs.ShownBlock.{reordered}
@@ -108,7 +109,9 @@ module _ (bytes : List ℕ) (p : Parsed) (reads : readBoard bytes ≡ whole p) (
         (fine .least-size) fit (readingRules p) (λ k. stateOf (kindAt p k)) (rules-encode p fine) cs full known left solves in
         let fresh : freshMemory p ≡ memoryOf p (freshCells (boardOf p) (memoryRules p)) = ap unwords (fresh-shown p) in
         record {
-          replies = ap (replies (callIn order bytes) cs) fresh ∙ main .0 ∙ replies-shown p fine es s cs 0;
+          replies = ap (replies (callIn order bytes) cs) fresh
+              ∙ main .0
+              ∙ replies-shown p full s (λ t. reading.whole-reached p fine es s t 0 (lists p fine .all 0 start)) cs 0;
           memory = ap (afterCalls (callIn order bytes) cs) fresh
               ∙ main .1
               ∙ ap (λ (l : List (theory.Call Frame ℕ)). memoryOf p (encCells (λ k. stateOf (kindAt p k)) (flatCells (boardOf p) l full known))) (heard-sent p cs)
@@ -128,7 +131,7 @@ pub own-order : (bytes : List ℕ) → Bytes bytes → (p : Parsed) → readBoar
 own-order bytes b p e = reorders-self (p .wires) (listed p) (board-sound p (fine-board bytes b p e) .once)
 
 -- the fresh call on memory of the right length
-fresh-call : (bytes : List ℕ) (p : Parsed) → readBoard bytes ≡ whole p → (m : List ℕ) → length m ≡ memoryLength p
+pub fresh-call : (bytes : List ℕ) (p : Parsed) → readBoard bytes ≡ whole p → (m : List ℕ) → length m ≡ memoryLength p
     → freshOf bytes m ≡ (answer 0 0, freshMemory p)
 unfolding freshOf
 fresh-call bytes p e m h =

@@ -1,6 +1,6 @@
 -- What a list of calls leaves and answers, by the theory, is what the reading by samples says:
 --     memory-shown     the theory's cells afterwards show every byte of the memory
---     replies-shown    what its calls wrote are the replies
+--     reply-shown, replies-shown    what its calls wrote are the replies
 -- Assumes nothing.
 use Prim.Native.Nat.{ℕ, suc, _+_, _-_, _*_, _/_, _%_, _<_}
 use mathlib.Core.Path.{_≡_, refl, sym, ap, _∙_}
@@ -21,7 +21,6 @@ use Rattle.nodes.specs.History.{Heard, freshHeard, stateOf}
 use Rattle.nodes.proofs.HistoryFrames.{map-tab}
 use Rattle.reading.specs.Table.{tab}
 use Rattle.reading.specs.Board as theory
-use Rattle.reading.specs.Visit.{start}
 use Rattle.reading.specs.Time.{timeReply, nextBlock, timeReplies}
 use Rattle.reading.specs.Flat.{byBlock, flatCells}
 use Rattle.reading.specs.Encode.{encCells}
@@ -30,16 +29,15 @@ use Rattle.reading.specs.Keeps.{All}
 use Rattle.reading.proofs.Table.{joined-agree, tab-agree, tab-constant, length-tab, getD-tab}
 use Rattle.graph.specs.Board.{Parsed}
 use Rattle.context.specs.Memory.{kindAt}
-use Rattle.context.specs.Reading.{mono, Call, block, message, Reply, Timed, silence, reached, accepts, accepted, inputs, answerTo, end, inputAt, numberAt, earlier, IsReading, samplesOf, lastOf, withNumber, reachedCell, otherCell, cellAfter, memoryAfter, outputs, replyTo, blocksAfter, repliesTo}
+use Rattle.context.specs.Reading.{mono, Call, block, message, Timed, silence, reached, accepts, accepted, inputs, answerTo, end, inputAt, numberAt, earlier, IsReading, samplesOf, lastOf, withNumber, reachedCell, otherCell, cellAfter, memoryAfter, outputs, replyTo, blocksAfter, repliesTo}
 use Rattle.context.specs.Instance.{Cells, sent, asks, boardOf, memoryRules, readingRules, cellIn, memoryOf}
 use Rattle.context.specs.Fine.{Fine}
 use Rattle.graph.specs.declared.answer.Answer.{Answer}
-use Rattle.context.proofs.FineBoard.{lists}
 use Rattle.context.proofs.Lawful.{rules-encode}
 use Rattle.context.proofs.Told.{end-sent}
 use Rattle.context.proofs.ShownCall.{block-whole, replyFor}
 use Rattle.context.proofs.ShownFresh.{fresh-cell}
-use Rattle.context.proofs.DemandReading.{still, whole, whole-reached, whole-other, earlier-reached, input-whole, before}
+use Rattle.context.proofs.DemandReading.{still, whole, whole-other, earlier-reached, input-whole, before}
 
 -- ---- the last block
 
@@ -193,53 +191,42 @@ module _ (p : Parsed) (fine : Fine p) (es : List Call) (s : Timed Frame) (u : Ti
       ≡ memoryAfter p es s u
   memory-shown = ap unwords (joined-agree (length (p .nodes)) _ _ (λ k h. ap valuesOf (cell-after k)))
 
--- ---- the replies
+-- ---- the replies, where node 0 has the samples of s
 
-module _ (p : Parsed) (fine : Fine p) (es : List Call) (s : Timed Frame) where
-  abbrev played : Timed Frame
-  played = whole p fine es s
-
+module _ (p : Parsed) (played s : Timed Frame) (same : (t : ℕ) → played t 0 ≡ s t 0) where
   -- one channel of node 0's block b
-  out-block : (channel : Frame → ℕ) (b : ℕ)
+  out-block : (b : ℕ) (channel : Frame → ℕ)
       → map channel (tab (p .size) (λ i. played (b * p .size + i) 0)) ≡ tab (p .size) (λ i. channel (s (b * p .size + i) 0))
-  out-block channel b =
-      map-tab channel (p .size) (λ i. played (b * p .size + i) 0)
-      ∙ tab-agree (p .size) _ _ (λ i h. ap channel (whole-reached p fine es s (b * p .size + i) 0 (lists p fine .all 0 start)))
+  out-block b channel =
+      map-tab channel (p .size) (λ i. played (b * p .size + i) 0) ∙ tab-agree (p .size) _ _ (λ i h. ap channel (same (b * p .size + i)))
+
+  -- a call's reply, and how many blocks have been accepted after it
+  pub reply-shown : (c : Call) (b : ℕ)
+      → (replyFor p c (timeReply (boardOf p) (byBlock (p .size) played) b (asks p c)) ≡ replyTo p s b c) × (nextBlock b (asks p c) ≡ blocksAfter p b c)
+  reply-shown (block x l r) b = go (accepts p (block x l r))
+    where
+      a : Answer
+      a = answerTo p (block x l r)
+
+      asked : Bool → Option (theory.Call Frame ℕ)
+      asked q = cond q (some (sent (block x l r))) none
+
+      go : (q : Bool)
+          → (replyFor p (block x l r) (timeReply (boardOf p) (byBlock (p .size) played) b (asked q))
+          ≡ cond q (outputs p s b a) (record { answer = a; left = l; right = r })) × (nextBlock b (asked q) ≡ cond q (suc b) b)
+      go true = (λ i. record { answer = a; left = unwords (out-block b (λ f. f .left) i); right = unwords (out-block b (λ f. f .right) i) }, refl)
+      go false = (refl, refl)
+  reply-shown (message k w) b = (refl, go (accepts p (message k w)))
+    where
+      go : (q : Bool) → nextBlock b (cond q (some (sent (message k w))) none) ≡ b
+      go true = refl
+      go false = refl
 
   pub replies-shown : (cs : List Call) (b : ℕ)
-      → answers (replyFor p) cs (timeReplies (boardOf p) (byBlock (p .size) (whole p fine es s)) b cs) ≡ repliesTo p s b cs
+      → answers (replyFor p) cs (timeReplies (boardOf p) (byBlock (p .size) played) b cs) ≡ repliesTo p s b cs
   unfolding repliesTo
   replies-shown [] b = refl
-  replies-shown (c ∷ cs) b = one c (replies-shown cs)
-    where
-      rest : ℕ → List Reply
-      rest n = answers (replyFor p) cs (timeReplies (boardOf p) (byBlock (p .size) played) n cs)
-
-      one : (d : Call) → ((n : ℕ) → rest n ≡ repliesTo p s n cs)
-          → replyFor p d (timeReply (boardOf p) (byBlock (p .size) played) b (asks p d)) ∷ rest (nextBlock b (asks p d))
-          ≡ replyTo p s b d ∷ repliesTo p s (blocksAfter p b d) cs
-      one (block x l r) ih = go (accepts p (block x l r))
-        where
-          a : Answer
-          a = answerTo p (block x l r)
-
-          asked : Bool → Option (theory.Call Frame ℕ)
-          asked q = cond q (some (sent (block x l r))) none
-
-          go : (q : Bool)
-              → _≡_ {A = List Reply}
-              (replyFor p (block x l r) (timeReply (boardOf p) (byBlock (p .size) played) b (asked q)) ∷ rest (nextBlock b (asked q)))
-              (cond q (outputs p s b a) (record { answer = a; left = l; right = r }) ∷ repliesTo p s (cond q (suc b) b) cs)
-          go true = λ i. record { answer = a; left = unwords (out-block (λ f. f .left) b i); right = unwords (out-block (λ f. f .right) b i) } ∷ ih (suc b) i
-          go false = λ i. record { answer = a; left = l; right = r } ∷ ih b i
-      one (message k w) ih = go (accepts p (message k w))
-        where
-          asked : Bool → Option (theory.Call Frame ℕ)
-          asked q = cond q (some (sent (message k w))) none
-
-          go : (q : Bool)
-              → _≡_ {A = List Reply}
-              (replyFor p (message k w) (timeReply (boardOf p) (byBlock (p .size) played) b (asked q)) ∷ rest (nextBlock b (asked q)))
-              (replyTo p s b (message k w) ∷ repliesTo p s b cs)
-          go true = λ i. replyTo p s b (message k w) ∷ ih b i
-          go false = λ i. replyTo p s b (message k w) ∷ ih b i
+  replies-shown (c ∷ cs) b =
+      let one = reply-shown c b in
+      λ i. one .0 i ∷ (ap (λ (n : ℕ). answers (replyFor p) cs (timeReplies (boardOf p) (byBlock (p .size) played) n cs)) (one .1)
+      ∙ replies-shown cs (blocksAfter p b c)) i

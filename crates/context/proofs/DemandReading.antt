@@ -1,9 +1,11 @@
 -- The reading by samples of `specs/Reading.antt` is the theory's (`IsFlat` of the crate reading), on the nodes that are reached.
 --     step-sent        a node's rule on the frames that its wires bring
+--     input-gives      the input node gives what stands at its place
 --     flat-reading     what solves the theory's equations solves the reading's
 --     whole            what solves the reading's, with the input node's blocks and silence for the nodes that are not reached
 --     reading-flat     solves the theory's
 --     input-whole      of the input node, listed or not, these are the input blocks
+--     held-other       of another node that is not reached, what stands at its place
 --     still            what a node that is not reached hears: its messages, and nothing else
 -- Assumes nothing.
 use Prim.Native.Nat.{ℕ, zero, suc, _-_, _%_, _≤_, _<_}
@@ -69,7 +71,7 @@ module _ (p : Parsed) (k : ℕ) (f : ℕ → Frame) where
       λ i. record { left = ls i; right = rs i; second = second i }
 
 -- a node's rule on the frames that its wires bring
-step-sent : (p : Parsed) → Fine p → (k i : ℕ) → k < length (p .nodes) → (h : Heard) (held : Frame) (f : ℕ → Frame)
+pub step-sent : (p : Parsed) → Fine p → (k i : ℕ) → k < length (p .nodes) → (h : Heard) (held : Frame) (f : ℕ → Frame)
     → (readingRules p) .step k i h held (map f (sources (p .wires) k))
     ≡ (sampleHeard (kindAt p k) h held (broughtOf p k f), heardAfter (kindAt p k) h (broughtOf p k f))
 unfolding readingRules
@@ -80,6 +82,21 @@ step-sent p fine k i there h held f =
     let s = ap (sampleHeard (kindAt p k) h held) (brought-of p k f) ∙ sym (heard-sample-unread (kindAt p k) b fits h held) in
     let n = ap (heardAfter (kindAt p k) h) (brought-of p k f) ∙ sym (heard-unread (kindAt p k) b h) in
     λ j. (s j, n j)
+
+-- the input node, a pass without wires in, gives what stands at its place
+pub input-gives : (p : Parsed) → Fine p → (s : Timed Frame) (t : ℕ) (h : Heard) (held : Frame)
+    → sampleHeard (kindAt p (p .input)) h held (broughtTo p s t (p .input)) ≡ held
+unfolding sampleHeard keeps distinct
+input-gives p fine s t h held =
+    let k : ℕ = p .input in
+    let none : length (broughtTo p s t k .left) ≡ 0 =
+    ap (λ (l : List ℕ). length (map (λ a. ofBits binary32 (brings p s t k a .left)) (distinct l))) (fine .input-free) in
+    let kept : keeps (kindAt p k) (broughtTo p s t k) ≡ true =
+    ap (λ (d : NodeKind). keeps d (broughtTo p s t k)) (fine .input-pass) ∙ eq-eqb (length (broughtTo p s t k .left)) 0 none in
+    ap (λ (b : Bool). cond b held (record {
+      left = toBits binary32 (leftHeard (kindAt p k) h (broughtTo p s t k));
+      right = toBits binary32 (rightOf (kindAt p k) (broughtTo p s t k));
+    })) kept
 
 module _ (p : Parsed) (fine : Fine p) (es : List Call) where
   abbrev cs : List (theory.Call Frame ℕ)
@@ -168,8 +185,8 @@ module _ (p : Parsed) (fine : Fine p) (es : List Call) where
     held-reached t k r =
         held-sent whole t k ∙ ap (λ (x : Frame). cond (eqb k (p .input)) (mono (inputAt p es t)) x) (earlier-reached t k r)
 
-    held-other : (t k : ℕ) → reached p k ≡ false → whole t k ≡ heldWhen (boardOf p) cs whole t k
-    held-other t k r = whole-other t k r ∙ go (eqb k (p .input)) refl ∙ sym (held-sent whole t k)
+    pub held-other : (t k : ℕ) → reached p k ≡ false → whole t k ≡ heldAt p es whole t k
+    held-other t k r = whole-other t k r ∙ go (eqb k (p .input)) refl
       where
         quiet : eqb k (p .input) ≡ false → (b : Bool) → silence ≡ cond b (whole (t - p .size) k) silence
         quiet e true = sym (whole-other (t - p .size) k r ∙ ap (λ (c : Bool). cond c (mono (inputAt p es (t - p .size))) silence) e)
@@ -179,10 +196,9 @@ module _ (p : Parsed) (fine : Fine p) (es : List Call) where
         go true e = refl
         go false e = quiet e (leb (p .size) t)
 
-    -- the input node, a pass without wires in, gives the input sample, listed or not
+    -- the input node gives the input sample, listed or not
     pub input-whole : (u : Timed Heard) → IsReading p es s u → (t : ℕ) → t < end p es → whole t (p .input) ≡ mono (inputAt p es t)
-    unfolding sampleHeard keeps distinct
-    input-whole u f t h = go (reached p (p .input)) refl
+    input-whole u f t h = go (reached p k) refl
       where
         k : ℕ
         k = p .input
@@ -190,27 +206,12 @@ module _ (p : Parsed) (fine : Fine p) (es : List Call) where
         same : eqb k k ≡ true
         same = eq-eqb k k refl
 
-        held : heldAt p es s t k ≡ mono (inputAt p es t)
-        held = ap (λ (b : Bool). cond b (mono (inputAt p es t)) (earlier p s t k)) same
-
-        none : length (broughtTo p s t k .left) ≡ 0
-        none = ap (λ (l : List ℕ). length (map (λ a. ofBits binary32 (brings p s t k a .left)) (distinct l))) (fine .input-free)
-
-        kept : keeps (kindAt p k) (broughtTo p s t k) ≡ true
-        kept = ap (λ (d : NodeKind). keeps d (broughtTo p s t k)) (fine .input-pass) ∙ eq-eqb (length (broughtTo p s t k .left)) 0 none
-
-        given : Frame
-        given = record {
-          left = toBits binary32 (leftHeard (kindAt p k) (u t k) (broughtTo p s t k));
-          right = toBits binary32 (rightOf (kindAt p k) (broughtTo p s t k));
-        }
-
         go : (b : Bool) → reached p k ≡ b → whole t k ≡ mono (inputAt p es t)
         go true r =
             whole-reached t k r
             ∙ f .sample t k h r
-            ∙ ap (λ (b : Bool). cond b (heldAt p es s t k) given) kept
-            ∙ held
+            ∙ input-gives p fine s t (u t k) (heldAt p es s t k)
+            ∙ ap (λ (b : Bool). cond b (mono (inputAt p es t)) (earlier p s t k)) same
         go false r = whole-other t k r ∙ ap (λ (b : Bool). cond b (mono (inputAt p es t)) silence) same
 
     -- what is known before and after a time, with the nodes that are not reached
@@ -263,5 +264,5 @@ module _ (p : Parsed) (fine : Fine p) (es : List Call) where
             before-next t k (out-time t h) (reached p k) refl
             ∙ sym (told-then p (fine .least-size) es k t (after u t) (after-number t k (out-time t h) (reached p k) refl)));
         listed = λ t k h r. listed-at t k (out-time t h) r;
-        others = λ t k h r. λ i. (held-other t k r i, other-at t k r i);
+        others = λ t k h r. λ i. ((held-other t k r ∙ sym (held-sent whole t k)) i, other-at t k r i);
       }

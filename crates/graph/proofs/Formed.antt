@@ -128,6 +128,10 @@ module _ (q p : Parsed) where
           let up : i + suc j ≡ suc i + j = omega arith in
           rw up (later d j (omega arith))
 
+-- check 6 passes a board as it is
+pub six-same : (q p : Parsed) → checkSix q ≡ whole p → q ≡ p
+six-same q p e = walked q p 0 (q .nodes) (choice (inputFits q) 6 (q .input) (other (eqb (length (q .nodes)) 0) 6 0 e .1) .1) .0
+
 six-formed : (q p : Parsed) → Records q → checkSix q ≡ whole p → Formed p
 six-formed q p h e =
     let nodes = other (eqb (length (q .nodes)) 0) 6 0 e in

@@ -1,5 +1,6 @@
 -- Laws that the proofs of `graph` cite, and theorems for its callers.
 pub mod Choice
+pub mod Stores
 pub mod Sums
 pub mod Fits
 pub mod Found

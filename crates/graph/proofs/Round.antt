@@ -19,7 +19,7 @@ use Rattle.graph.specs.Write.{NodeCard, Card, writeBoard, asRead, NodeOb
 use Rattle.graph.specs.declared.answer.Answer.{Answer}
 use Rattle.graph.proofs.Run.{refused-is-not-whole, going-is-not-whole}
 use Rattle.graph.proofs.Ending.{Ended, board-ends}
-use Rattle.graph.proofs.RoundRun.{WiresFit, records-read}
+use Rattle.graph.proofs.RoundRun.{WiresFit, Fits, records-read}
 use Rattle.graph.proofs.RoundBack.{Written, records-written}
 use Rattle.graph.proofs.RoundObeys.{EachFrom, each-from, from-each, nodes-fit, nodes-told, wires-fit, wires-told}
 use Rattle.graph.proofs.RoundSix.{Free, Six, records-length, six-in, six-told}
@@ -39,14 +39,18 @@ module _ (c : Card) (h : Obeys c) where
   nodes-obey : EachFrom NodeObeys 0 (c .nodes)
   nodes-obey = each-from NodeObeys noNode (c .nodes) (h .nodes)
 
-  records : readRecords (writeBoard c) ≡ whole (asRead c)
-  records =
+  pub fits : Fits c
+  fits =
       let i : c .input < length (c .nodes) = beyond (c .nodes) (c .input) (h .input-pass) in
-      records-read c (omega (arith, h .most-size)) (omega (arith, h .few-nodes))
-      (and-eq-true-iff (leb 1 (c .size)) (leb (c .size) 128) .1 (le-leb 1 (c .size) (h .least-size), le-leb (c .size) 128 (h .most-size)))
-      (nodes-fit (c .nodes) 0 0 nodes-obey (omega (arith, h .few-nodes)) (omega (arith, h .few-lines)))
-      (subst (λ (n : ℕ). WiresFit n 0 (c .wires)) (sym (records-length (c .size) 0 (c .nodes)))
-      (wires-fit (length (c .nodes)) (c .wires) 0 0 (each-from (Joins c) noWire (c .wires) (h .wires)) (h .few-nodes) (omega (arith, h .few-wires))))
+      record {
+        size-small = omega (arith, h .most-size);
+        input-small = omega (arith, h .few-nodes);
+        size-fits =
+            and-eq-true-iff (leb 1 (c .size)) (leb (c .size) 128) .1 (le-leb 1 (c .size) (h .least-size), le-leb (c .size) 128 (h .most-size));
+        nodes-fit = nodes-fit (c .nodes) 0 0 nodes-obey (omega (arith, h .few-nodes)) (omega (arith, h .few-lines));
+        wires-fit = subst (λ (n : ℕ). WiresFit n 0 (c .wires)) (sym (records-length (c .size) 0 (c .nodes)))
+            (wires-fit (length (c .nodes)) (c .wires) 0 0 (each-from (Joins c) noWire (c .wires) (h .wires)) (h .few-nodes) (omega (arith, h .few-wires)));
+      }
 
   six : Six c
   six = record {
@@ -59,7 +63,7 @@ module _ (c : Card) (h : Obeys c) where
   -- every board that obeys is read, and read as what was written
   pub write-read : readBoard (writeBoard c) ≡ whole (asRead c)
   unfolding readBoard
-  write-read = ap thenSix records ∙ six-in c nodes-obey six
+  write-read = ap thenSix (records-read c fits) ∙ six-in c nodes-obey six
 
   -- the judge accepts it, with the memory's length
   pub judge-written : judgeOf (writeBoard c) ≡ answer 0 (memoryLength (asRead c))

@@ -4,7 +4,7 @@ use Prim.Native.Nat.{ℕ, zero, suc, _+_, _*_, _/_, _%_, _≤_, _<_}
 use mathlib.Core.Path.{_≡_, sym, ap, _∙_}
 use mathlib.Core.List.{List, [], _∷_, _++_}
 use native.Mathlib.Omega.{arith}
-use lib.ListN.{length, getD, drop}
+use lib.ListN.{length, getD, take, drop}
 use lib.Seq.{getD-drop}
 use Rattle.leaves.specs.Bytes.{u16At, u32At, u16Bytes, u32Bytes}
 use Rattle.leaves.specs.Words.{word, word-digits, Bytes}
@@ -27,6 +27,13 @@ module _ (s : List ℕ) (at : ℕ) where
 
   pub bytes-on : Bytes s → Bytes (drop at s)
   bytes-on h k = rw getD-drop (h (at + k))
+
+-- the first bytes
+pub bytes-front : (n : ℕ) (m : List ℕ) → Bytes m → (i : ℕ) → getD (take n m) i 0 < 256
+bytes-front zero m h i = omega arith
+bytes-front (suc n) [] h i = h i
+bytes-front (suc n) (x ∷ xs) h zero = h 0
+bytes-front (suc n) (x ∷ xs) h (suc i) = bytes-front n xs (λ j. h (suc j)) i
 
 -- ---- a number from its bytes, and back
 

@@ -1,9 +1,9 @@
 -- The reading of a board's records against the records that are written: bytes written for nodes and wires that fit are read whole
 -- (`records-read`). Assumes nothing.
-use Prim.Native.Nat.{ℕ, zero, suc, _+_, _≤_, _<_}
+use Prim.Native.Nat.{ℕ, suc, _+_, _*_, _≤_, _<_}
 use mathlib.Core.Path.{_≡_, refl, sym, ap, subst, _∙_}
-use mathlib.Core.List.{List, [], _∷_, _++_, append-nil}
-use mathlib.Core.Bool.{Bool, true, cond, _&&_, and-eq-true-iff}
+use mathlib.Core.List.{List, [], _∷_, _++_, append-nil, append-assoc}
+use mathlib.Core.Bool.{Bool, true, false, cond, _&&_, and-eq-true-iff}
 use native.Mathlib.Omega.{arith}
 use borrow.Author.Tests.{ne-eqb, eq-eqb, le-leb}
 use lib.ListN.{length, drop, length-append, length-drop}
@@ -16,12 +16,12 @@ use Rattle.nodes.specs.declared.kind.NodeRecord.{NodeRecord}
 use Rattle.nodes.specs.declared.kind.Rule.the-variants.{Is}
 use Rattle.reading.specs.Order.{Wire}
 use Rattle.graph.specs.Record.{inOrder, foundOf, foundAt}
-use Rattle.graph.specs.Board.{Parsed, going, refused, whole, headed, withNode, withWire, linesOf, cellsOf, sizeFits, nodeFits, wireFits, nodeBy, wireBy, headBy, takeFound, stepOf, run, readRecords}
+use Rattle.graph.specs.Board.{Parsed, Reading, going, refused, whole, headed, withNode, withWire, linesOf, cellsOf, sizeFits, nodeFits, wireFits, nodeBy, wireBy, headBy, takeFound, stepOf, run, readRecords}
 use Rattle.graph.specs.Write.{NodeCard, Card, headBytes, nodeBytes, wireBytes, endBytes, nodesBytes, wiresBytes, writeBoard, kindOf, recordsFrom, asRead}
 use Rattle.graph.specs.declared.record.Found.the-variants.{Head, Node, End}
 use Rattle.graph.specs.declared.record.Found.the-variants as found
 use Rattle.graph.proofs.Sums.{lines-snoc, cells-snoc}
-use Rattle.graph.proofs.Run.{run-done}
+use Rattle.graph.proofs.Run.{Done, run-add, run-next, run-ends}
 use Rattle.graph.proofs.RoundBytes.{u16-on, u32-on, u16-back}
 use Rattle.graph.proofs.RoundRecords.{found-in}
 
@@ -119,16 +119,21 @@ module _ (s : List ℕ) (at : ℕ) where
         ap (takeFound s at p) fo ∙ (λ i. nodeBy at p (ruleOf (t i) (n i) (f i))) ∙ ap (nodeBy at p) (h .rule)
         ∙ ap (λ (x : Bool). cond x (going (at + 14) 2 (withNode p (kindOf d))) (refused 4 at)) (h .fits)
 
-    wire-step : (w : Wire) (rest : List ℕ) → last ≤ 3 → drop at s ≡ wireBytes w ++ rest → WireFits (length (p .nodes)) (length (p .wires)) w
-        → stepOf s (going at last p) ≡ going (at + 8) 3 (withWire p (w .source) (w .target))
+    wire-found : (w : Wire) (rest : List ℕ) → last ≤ 3 → drop at s ≡ wireBytes w ++ rest → w .source < 65536 → w .target < 65536
+        → stepOf s (going at last p) ≡ wireBy at p (w .source) (w .target)
     unfolding stepOf takeFound foundOf
-    wire-step w rest high e h =
+    wire-found w rest high e hs ht =
         let b = wireBytes w ++ rest in
         let fo : foundAt s at last ≡ found.Wire = finds b 3 8 high e refl refl (omega arith) in
-        let x : u16At s (at + 4) ≡ w .source = u16-read b 4 e ∙ u16-back (w .source) (h .source-small) in
-        let y : u16At s (at + 6) ≡ w .target = u16-read b 6 e ∙ u16-back (w .target) (h .target-small) in
+        let x : u16At s (at + 4) ≡ w .source = u16-read b 4 e ∙ u16-back (w .source) hs in
+        let y : u16At s (at + 6) ≡ w .target = u16-read b 6 e ∙ u16-back (w .target) ht in
         ap (takeFound s at p) fo ∙ (λ i. wireBy at p (x i) (y i))
-        ∙ ap (λ (x : Bool). cond x (going (at + 8) 3 (withWire p (w .source) (w .target))) (refused 5 at)) (h .fits)
+
+    wire-by : (w : Wire) (rest : List ℕ) → last ≤ 3 → drop at s ≡ wireBytes w ++ rest → w .source < 65536 → w .target < 65536 → (b : Bool)
+        → wireFits (length (p .nodes)) (length (p .wires)) (w .source) (w .target) ≡ b
+        → stepOf s (going at last p) ≡ cond b (going (at + 8) 3 (withWire p (w .source) (w .target))) (refused 5 at)
+    wire-by w rest high e hs ht b h =
+        wire-found w rest high e hs ht ∙ ap (λ (x : Bool). cond x (going (at + 8) 3 (withWire p (w .source) (w .target))) (refused 5 at)) h
 
     end-step : last ≤ 4 → drop at s ≡ endBytes → stepOf s (going at last p) ≡ whole p
     unfolding stepOf takeFound foundOf
@@ -141,35 +146,65 @@ module _ (s : List ℕ) (at : ℕ) where
   after : (b rest : List ℕ) (z : ℕ) → drop at s ≡ b → drop z b ≡ rest → drop (at + z) s ≡ rest
   after b rest z e q = sym (drop-drop z at s) ∙ ap (drop z) e ∙ q
 
-module _ (s : List ℕ) where
-  wires-read : (ws : List Wire) (n at last : ℕ) (p : Parsed) → 1 ≤ last → last ≤ 3 → drop at s ≡ wiresBytes ws ++ endBytes
-      → length (wiresBytes ws ++ endBytes) < n → WiresFit (length (p .nodes)) (length (p .wires)) ws
-      → run n s (going at last p) ≡ whole (addWires p ws)
-  unfolding run
-  wires-read [] zero at last p low high e l h = absurd (omega arith)
-  wires-read [] (suc n) at last p low high e l h = ap (run n s) (end-step s at last p low (omega arith) e) ∙ run-done s n (whole p) tt ∙ ap whole (sym (no-wire p))
-  wires-read (w ∷ ws) zero at last p low high e l h = absurd (omega arith)
-  wires-read (w ∷ ws) (suc n) at last p low high e l h =
-      ap (run n s) (wire-step s at last p low w (wiresBytes ws ++ endBytes) high e (h .0))
-      ∙ wires-read ws n (at + 8) 3 (withWire p (w .source) (w .target)) (omega arith) (omega arith) (after s at _ _ 8 e refl) (omega arith)
-      (subst (λ (A : Type 0). A) (next-wires p w (length (p .nodes)) ws) (h .1))
-      ∙ ap whole (one-wire p w ws)
+-- so many records on, the reading goes on at an offset, where `rest` stands, after a record of a kind from 1 to `most`, with the board q
+pub record Passes (s rest : List ℕ) (n : ℕ) (r : Reading) (at most : ℕ) (q : Parsed) : Type 0 where
+  pub last : ℕ
+  pub least-kind : 1 ≤ last
+  pub most-kind : last ≤ most
+  pub goes : run n s r ≡ going at last q
+  pub left : drop at s ≡ rest
 
-  nodes-read : (ds : List NodeCard) (ws : List Wire) (n at last : ℕ) (p : Parsed) → 1 ≤ last → last ≤ 2
-      → drop at s ≡ nodesBytes ds ++ wiresBytes ws ++ endBytes → length (nodesBytes ds ++ wiresBytes ws ++ endBytes) < n
-      → NodesFit (length (p .nodes)) (linesOf (p .nodes)) ds → WiresFit (length (addNodes p ds .nodes)) (length (p .wires)) ws
-      → run n s (going at last p) ≡ whole (addWires (addNodes p ds) ws)
+module _ (s rest : List ℕ) where
+  wires-pass : (ws : List Wire) (at last : ℕ) (p : Parsed) → 1 ≤ last → last ≤ 3 → drop at s ≡ wiresBytes ws ++ rest
+      → WiresFit (length (p .nodes)) (length (p .wires)) ws → Passes s rest (length ws) (going at last p) (at + 8 * length ws) 3 (addWires p ws)
   unfolding run
-  nodes-read [] ws n at last p low high e l h k =
-      wires-read ws n at last p low (omega arith) e l (subst (λ (q : Parsed). WiresFit (length (q .nodes)) (length (q .wires)) ws) (no-node p) k)
-      ∙ ap (λ (q : Parsed). whole (addWires q ws)) (sym (no-node p))
-  nodes-read (d ∷ ds) ws zero at last p low high e l h k = absurd (omega arith)
-  nodes-read (d ∷ ds) ws (suc n) at last p low high e l h k =
-      ap (run n s) (node-step s at last p low d (nodesBytes ds ++ wiresBytes ws ++ endBytes) high e (h .0))
-      ∙ nodes-read ds ws n (at + 14) 2 (withNode p (kindOf d)) (omega arith) (omega arith) (after s at _ _ 14 e refl) (omega arith)
-      (subst (λ (A : Type 0). A) (next-nodes p d ds) (h .1))
-      (subst (λ (q : Parsed). WiresFit (length (q .nodes)) (length (q .wires)) ws) (sym (one-node p d ds)) k)
-      ∙ ap (λ (q : Parsed). whole (addWires q ws)) (one-node p d ds)
+  wires-pass [] at last p low high e h =
+      let here : at ≡ at + 8 * 0 = omega arith in
+      record {
+        last = last;
+        least-kind = low;
+        most-kind = high;
+        goes = λ i. going (here i) last (sym (no-wire p) i);
+        left = ap (λ (n : ℕ). drop n s) (sym here) ∙ e;
+      }
+  wires-pass (w ∷ ws) at last p low high e h =
+      let f = h .0 in
+      let there : at + 8 + 8 * length ws ≡ at + 8 * suc (length ws) = omega arith in
+      let on = wires-pass ws (at + 8) 3 (withWire p (w .source) (w .target)) (omega arith) (omega arith) (after s at _ _ 8 e refl)
+      (subst (λ (A : Type 0). A) (next-wires p w (length (p .nodes)) ws) (h .1)) in
+      record {
+        last = on .last;
+        least-kind = on .least-kind;
+        most-kind = on .most-kind;
+        goes = ap (run (length ws) s) (wire-by s at last p low w (wiresBytes ws ++ rest) high e (f .source-small) (f .target-small) true (f .fits))
+            ∙ on .goes ∙ (λ i. going (there i) (on .last) (one-wire p w ws i));
+        left = ap (λ (n : ℕ). drop n s) (sym there) ∙ on .left;
+      }
+
+  nodes-pass : (ds : List NodeCard) (at last : ℕ) (p : Parsed) → 1 ≤ last → last ≤ 2 → drop at s ≡ nodesBytes ds ++ rest
+      → NodesFit (length (p .nodes)) (linesOf (p .nodes)) ds → Passes s rest (length ds) (going at last p) (at + 14 * length ds) 2 (addNodes p ds)
+  unfolding run
+  nodes-pass [] at last p low high e h =
+      let here : at ≡ at + 14 * 0 = omega arith in
+      record {
+        last = last;
+        least-kind = low;
+        most-kind = high;
+        goes = λ i. going (here i) last (sym (no-node p) i);
+        left = ap (λ (n : ℕ). drop n s) (sym here) ∙ e;
+      }
+  nodes-pass (d ∷ ds) at last p low high e h =
+      let there : at + 14 + 14 * length ds ≡ at + 14 * suc (length ds) = omega arith in
+      let on = nodes-pass ds (at + 14) 2 (withNode p (kindOf d)) (omega arith) (omega arith) (after s at _ _ 14 e refl)
+      (subst (λ (A : Type 0). A) (next-nodes p d ds) (h .1)) in
+      record {
+        last = on .last;
+        least-kind = on .least-kind;
+        most-kind = on .most-kind;
+        goes = ap (run (length ds) s) (node-step s at last p low d (nodesBytes ds ++ rest) high e (h .0))
+            ∙ on .goes ∙ (λ i. going (there i) (on .last) (one-node p d ds i));
+        left = ap (λ (n : ℕ). drop n s) (sym there) ∙ on .left;
+      }
 
 head-step : (s : List ℕ) (p : Parsed) (N i : ℕ) (rest : List ℕ) → s ≡ headBytes N i ++ rest → N < 65536 → i < 65536 → sizeFits N ≡ true
     → stepOf s (going 0 0 p) ≡ going 8 1 (headed N i)
@@ -180,12 +215,67 @@ head-step s p N i rest e hN hi fits =
     let y : u16At s 6 ≡ i = ap (λ (x : List ℕ). u16At x 6) e ∙ u16-back i hi in
     ap (takeFound s 0 p) fo ∙ (λ j. headBy 0 (x j) (y j)) ∙ ap (λ (b : Bool). cond b (going 8 1 (headed N i)) (refused 3 0)) fits
 
--- the records of a card, each as the reader asks it, are read whole
-pub records-read : (c : Card) → c .size < 65536 → c .input < 65536 → sizeFits (c .size) ≡ true → NodesFit 0 0 (c .nodes)
-    → WiresFit (length (asRead c .nodes)) 0 (c .wires) → readRecords (writeBoard c) ≡ whole (asRead c)
-unfolding readRecords run writeBoard
-records-read c hN hi fits h k =
-    let rest = nodesBytes (c .nodes) ++ wiresBytes (c .wires) ++ endBytes in
-    let s = headBytes (c .size) (c .input) ++ rest in
-    ap (run (length s) s) (head-step s (headed 0 0) (c .size) (c .input) rest refl hN hi fits)
-    ∙ nodes-read s (c .nodes) (c .wires) (length s) 8 1 (headed (c .size) (c .input)) (omega arith) (omega arith) refl (omega arith) h k
+-- the records of a card up to its end record: their bytes, how many they are, and where they end
+abbrev pub front : Card → List ℕ
+front c = headBytes (c .size) (c .input) ++ nodesBytes (c .nodes) ++ wiresBytes (c .wires)
+
+abbrev pub passed : Card → ℕ
+passed c = suc (length (c .nodes) + length (c .wires))
+
+abbrev pub place : Card → ℕ
+place c = 8 + 14 * length (c .nodes) + 8 * length (c .wires)
+
+-- each is as the reader asks it
+pub record Fits (c : Card) : Type 0 where
+  pub size-small : c .size < 65536
+  pub input-small : c .input < 65536
+  pub size-fits : sizeFits (c .size) ≡ true
+  pub nodes-fit : NodesFit 0 0 (c .nodes)
+  pub wires-fit : WiresFit (length (asRead c .nodes)) 0 (c .wires)
+
+-- then the reading goes on behind them, whatever stands there
+module _ (c : Card) (h : Fits c) (rest : List ℕ) where
+  front-pass : Passes (front c ++ rest) rest (passed c) (going 0 0 (headed 0 0)) (place c) 3 (asRead c)
+  unfolding run
+  front-pass =
+      let s = front c ++ rest in
+      let here : drop 8 s ≡ nodesBytes (c .nodes) ++ (wiresBytes (c .wires) ++ rest) = append-assoc (nodesBytes (c .nodes)) (wiresBytes (c .wires)) rest in
+      let n = nodes-pass s (wiresBytes (c .wires) ++ rest) (c .nodes) 8 1 (headed (c .size) (c .input)) (omega arith) (omega arith) here (h .nodes-fit) in
+      let w = wires-pass s rest (c .wires) (8 + 14 * length (c .nodes)) (n .last) (addNodes (headed (c .size) (c .input)) (c .nodes))
+      (n .least-kind) (omega (arith, n .most-kind)) (n .left) (h .wires-fit) in
+      record {
+        last = w .last;
+        least-kind = w .least-kind;
+        most-kind = w .most-kind;
+        goes = ap (run (length (c .nodes) + length (c .wires)) s)
+            (head-step s (headed 0 0) (c .size) (c .input) (nodesBytes (c .nodes) ++ wiresBytes (c .wires) ++ rest) refl (h .size-small) (h .input-small) (h .size-fits))
+            ∙ run-add s (length (c .nodes)) (length (c .wires)) (going 8 1 (headed (c .size) (c .input)))
+            ∙ ap (run (length (c .wires)) s) (n .goes)
+            ∙ w .goes;
+        left = w .left;
+      }
+
+  -- one step behind them is the last
+  front-then : (r : Reading) → Done r → 1 ≤ length rest
+      → ((last : ℕ) → 1 ≤ last → last ≤ 3 → drop (place c) (front c ++ rest) ≡ rest → stepOf (front c ++ rest) (going (place c) last (asRead c)) ≡ r)
+      → readRecords (front c ++ rest) ≡ r
+  front-then r done some step =
+      let s = front c ++ rest in
+      let w = front-pass in
+      let long : length s ≡ place c + length rest = omega (arith, sym (length-drop (place c) s) ∙ ap length (w .left)) in
+      run-ends s (suc (passed c)) r (omega (arith, long)) done
+      (run-next s (passed c) (going 0 0 (headed 0 0)) ∙ ap (stepOf s) (w .goes) ∙ step (w .last) (w .least-kind) (w .most-kind) (w .left))
+
+-- the records of a card are read whole
+pub records-read : (c : Card) → Fits c → readRecords (writeBoard c) ≡ whole (asRead c)
+unfolding writeBoard
+records-read c h =
+    front-then c h endBytes (whole (asRead c)) tt (omega arith) (λ last low high e. end-step (front c ++ endBytes) (place c) last (asRead c) low (omega arith) e)
+
+-- a wire behind them that does not fit is refused where it stands
+pub wire-refused : (c : Card) → Fits c → (w : Wire) (rest : List ℕ) → w .source < 65536 → w .target < 65536
+    → wireFits (length (asRead c .nodes)) (length (c .wires)) (w .source) (w .target) ≡ false
+    → readRecords (front c ++ (wireBytes w ++ rest)) ≡ refused 5 (place c)
+wire-refused c h w rest hs ht n =
+    front-then c h (wireBytes w ++ rest) (refused 5 (place c)) tt (omega arith)
+    (λ last low high e. wire-by (front c ++ (wireBytes w ++ rest)) (place c) last (asRead c) low w rest high e hs ht false n)

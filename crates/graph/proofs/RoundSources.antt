@@ -85,7 +85,7 @@ mem-without x y (z ∷ m) a e = go (eqb x z) refl (eqb y z) refl e (mem-without 
     go false p true q e h = or-left (mem y (without x m)) q
     go false p false q e h = or-right (eqb y z) (h e)
 
-fewer : (l m : List ℕ) → Once l → ((y : ℕ) → mem y l ≡ true → mem y m ≡ true) → length l ≤ length m
+pub fewer : (l m : List ℕ) → Once l → ((y : ℕ) → mem y l ≡ true → mem y m ≡ true) → length l ≤ length m
 fewer [] m o h = omega arith
 fewer (x ∷ l) m o h =
     let there : mem x m ≡ true = h x (or-left (mem x l) (eq-eqb x x refl)) in

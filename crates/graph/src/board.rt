@@ -254,7 +254,7 @@ fn read_nodes(s: &[u8], size: usize) -> Nodes
 }
 
 // Whether a wire from a to t may follow w wires, on a board of i nodes.
-fn wire_fits(i: usize, w: usize, a: u16, t: u16) -> bool
+pub fn wire_fits(i: usize, w: usize, a: u16, t: u16) -> bool
     ensures { λ r. ⌜ r ≡ wireFits i w a t ⌝ }
 {
     (((w < 128) & ((a as usize) < i)) & ((t as usize) < i)) & !(a == t)

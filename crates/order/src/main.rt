@@ -1,6 +1,4 @@
 // Writes the visiting list and the late wires of the board on standard input, or its refusal.
-mod lines;
-
 use libc::STDIN_FILENO;
 use libc::STDOUT_FILENO;
 
@@ -10,6 +8,6 @@ fn main() {
     let mut bytes = [0u8; 69632];
     let n = io::read_full(STDIN_FILENO, &mut bytes);
     let mut out = [0u8; 2048];
-    let m = lines::board_text(&bytes[..n], &mut out);
+    let m = listing::lines::board_text(&bytes[..n], &mut out);
     io::write_all(STDOUT_FILENO, &out[..m]);
 }

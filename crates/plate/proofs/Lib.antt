@@ -1,5 +1,4 @@
 -- Laws that the proofs of `plate` cite, and the plate's facts.
-pub mod Stores
 pub mod Tables
 pub mod Written
 pub mod Dry

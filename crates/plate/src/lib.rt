@@ -4,12 +4,14 @@ ghost use mathlib.Core.Path.{_≡_};
 ghost use Rattle.leaves.specs.Lengths.{delayOf, allPassOf};
 ghost use Rattle.graph.specs.Judge.{judgeOf};
 ghost use Rattle.graph.specs.Tail.{tailAnswer};
+ghost use Rattle.wiring.specs.Rewire.{addOf, pullOf};
 ghost use Rattle.context.specs.Calls.{asLeft, freshOf, blockOf, messageOf};
 ghost use Rattle.plate.specs.Plate.{writeOf};
 ghost use Rattle.plate.specs.Mix.{mixOf};
 ghost use Rattle.plate.specs.Lengths.{lengthAnswer};
 use graph::answer::Answer;
 use leaves::lengths::Length;
+use wiring::rewire::Wiring;
 
 pub mod mix;
 pub mod plate;
@@ -93,6 +95,28 @@ pub extern "C" fn plate_write(n: u32, mix: f32, board: &mut [u8]) -> Answer
     ensures bytes { λ _. ⌜ now (board .exit) ≡ (writeOf n mix (now (board .entry))) .1 ⌝ }
 {
     crate::plate::write(n, mix, board)
+}
+
+// Adds a wire to the board that the first n bytes are.
+// Ruled out: a length that wraps (wiring, length_wraps), a list found from the old wires (wiring,
+// list_of_old_wires).
+#[no_mangle]
+pub extern "C" fn plate_add_wire(bytes: &mut [u8], n: usize, source: u16, target: u16) -> Wiring
+    ensures answered { λ r. ⌜ r ≡ (addOf (now (bytes .entry)) n source target) .0 ⌝ }
+    ensures bytes { λ _. ⌜ now (bytes .exit) ≡ (addOf (now (bytes .entry)) n source target) .1 ⌝ }
+{
+    wiring::rewire::add_wire(bytes, n, source, target)
+}
+
+// Pulls the newest wire from source to target of the board that the first n bytes are.
+// Ruled out: the oldest wire pulled (wiring, oldest_pulled), the bytes behind the new end cleared (wiring,
+// spare_bytes_cleared), 16 before 1 to 6 (wiring, sixteen_first).
+#[no_mangle]
+pub extern "C" fn plate_pull_wire(bytes: &mut [u8], n: usize, source: u16, target: u16) -> Wiring
+    ensures answered { λ r. ⌜ r ≡ (pullOf (now (bytes .entry)) n source target) .0 ⌝ }
+    ensures bytes { λ _. ⌜ now (bytes .exit) ≡ (pullOf (now (bytes .entry)) n source target) .1 ⌝ }
+{
+    wiring::rewire::pull_wire(bytes, n, source, target)
 }
 
 fn length_answer(length: Length) -> Answer

@@ -9,6 +9,7 @@ ghost use Rattle.leaves.specs.Bytes.{u16Bytes};
 ghost use Rattle.graph.specs.Write.{nodeBytes, nodesBytes, wiresBytes, writeBoard};
 ghost use Rattle.plate.specs.Plate.{node, plateNodes, plateWires, plateCard, writeOf};
 use graph::answer::Answer;
+use graph::record::put_four;
 use leaves::bytes::put_u16;
 use leaves::bytes::put_u32;
 use leaves::float::finite;
@@ -323,17 +324,6 @@ const TARGETS: [u16; 68] = [
 
 // How long the plate's bytes are.
 const LENGTH: usize = 1270;
-
-// A record of four 2-byte numbers: the head, or a wire.
-fn put_four(board: &mut [u8], at: usize, kind: u16, a: u16, b: u16)
-    requires { ⌜ at + 8 ≤ length (now board) ⌝ }
-    ensures { λ _. ⌜ now (board .exit) ≡ sets (now (board .entry)) at (u16Bytes 8 ++ u16Bytes kind ++ u16Bytes a ++ u16Bytes b) ⌝ }
-{
-    put_u16(board, at, 8);
-    put_u16(board, at + 2, kind);
-    put_u16(board, at + 4, a);
-    put_u16(board, at + 6, b);
-}
 
 // A node's record.
 fn put_node(board: &mut [u8], at: usize, kind: u16, whole: u32, float: u32)

@@ -18,7 +18,7 @@ use check::same;
 use render::render;
 use text::words::Stop;
 use text::words::find;
-use text::words::next_word;
+use text::words::word_at;
 
 fn usage() {
     say::text(
@@ -26,33 +26,24 @@ fn usage() {
     );
 }
 
-// Word k of a line, from 0; an empty one where there are fewer.
-fn word(line: &[u8], k: usize) -> &[u8] {
-    let mut at = 0;
-    let mut i = 0;
-    while i < k {
-        let passed = next_word(line, at);
-        at = passed.to;
-        i += 1;
-    }
-    let found = next_word(line, at);
-    let from = found.from;
-    let to = found.to;
-    &line[from..to]
-}
-
 // The render that a line asks for; an empty line asks for none.
 fn line(words: &[u8]) {
-    let input = word(words, 0);
+    let input = word_at(words, 0);
     if input.len() == 0 {
         return;
     }
-    let what = word(words, 3);
-    if what.len() == 0 || word(words, 5).len() != 0 {
+    let what = word_at(words, 3);
+    if what.len() == 0 || word_at(words, 5).len() != 0 {
         usage();
         return;
     }
-    render(input, word(words, 1), word(words, 2), what, word(words, 4));
+    render(
+        input,
+        word_at(words, 1),
+        word_at(words, 2),
+        what,
+        word_at(words, 4),
+    );
 }
 
 // Each line of a list, without its comment.

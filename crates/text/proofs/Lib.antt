@@ -4,3 +4,4 @@ pub mod Digits
 pub mod Scaling
 pub mod Tens
 pub mod Reading
+pub mod Finding

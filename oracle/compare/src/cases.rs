@@ -1,7 +1,8 @@
 //! A case is a board, what is changed in its fresh memory, and a list of calls. It is run three times side by side: in the
-//! library, in the model, and, where the board is accepted and its memory fresh, in the original Rust.
+//! library, in the model, and, where the board is accepted, its memory fresh and no wire changed so far, in the original
+//! Rust.
 use crate::boards::{text, to_bytes};
-use crate::library::{self, answer, Answer, Lent};
+use crate::library::{self, answer, Answer, Lent, Wiring};
 use crate::model::{self, bytes_of, judge, word, words, Board};
 use crate::original::{of_board, Original};
 
@@ -11,6 +12,61 @@ pub enum Call {
     Block(Vec<u8>, usize, usize),
     Message(u32, f32),
     Mix(f32),
+    Wire(Change),
+}
+
+/// A wire to add or to pull.
+#[derive(Clone, Debug)]
+pub struct Change {
+    pub adding: bool,
+    pub source: u16,
+    pub target: u16,
+    /// How many bytes are lent behind the board; below 0, how many of the board's own are missing.
+    pub spare: isize,
+    pub said: Said,
+}
+
+/// The board's length as the caller gives it: by how much it is off, or a number whatever the length is.
+#[derive(Clone, Copy, Debug, PartialEq)]
+pub enum Said {
+    Off(isize),
+    Is(usize),
+}
+
+/// Bytes of which the first `length` are the board, as the changes so far have left them.
+#[derive(Clone)]
+pub struct Panel {
+    bytes: Vec<u8>,
+    length: usize,
+}
+
+impl Panel {
+    pub fn new(board: &[u8]) -> Self {
+        Panel { bytes: board.to_vec(), length: board.len() }
+    }
+    pub fn board(&self) -> &[u8] {
+        &self.bytes[..self.length]
+    }
+    /// A change's bytes as they are lent, and how many of them are said to be the board.
+    fn lent(&mut self, change: &Change) -> (&mut [u8], usize) {
+        let length = self.length.saturating_add_signed(change.spare);
+        self.bytes.extend((self.bytes.len()..length).map(|i| (i * 29 + 7) as u8));
+        let said = match change.said {
+            Said::Off(off) => self.length.saturating_add_signed(off),
+            Said::Is(said) => said,
+        };
+        (&mut self.bytes[..length], said)
+    }
+    /// The change in the model.
+    pub fn change(&mut self, change: &Change) -> Wiring {
+        let (bytes, said) = self.lent(change);
+        let call = if change.adding { model::add_wire } else { model::pull_wire };
+        let answered = call(bytes, said, change.source, change.target);
+        if answered.number == 0 {
+            self.length = if change.adding { said + 8 } else { said - 8 };
+        }
+        answered
+    }
 }
 
 #[derive(Clone, Debug)]
@@ -23,14 +79,23 @@ pub struct Case {
     pub calls: Vec<Call>,
 }
 
-/// What was seen: answers by number, and blocks held against the original.
+/// What was seen: answers by number, blocks held against the original, and changes of wires.
 #[derive(Default)]
 pub struct Seen {
-    pub answers: [u64; 16],
+    pub answers: [u64; 17],
     pub blocks: u64,
     pub original_blocks: u64,
     pub not_finite: u64,
     pub tails: u64,
+    pub added: u64,
+    pub pulled: u64,
+    /// Changes after which the visiting list is another one, those that list 64 nodes, wires that would be the 129th,
+    /// blocks after a change, and nodes with a line, y1 or phase that are run again after they stood still in a block.
+    pub relisted: u64,
+    pub longest: u64,
+    pub too_many: u64,
+    pub rewired_blocks: u64,
+    pub back: u64,
 }
 
 /// The board's offset of a cell's samples of a channel.
@@ -77,9 +142,12 @@ fn same_bytes(what: &str, expected: &[u8], found: &Lent) -> Result<(), String> {
     }
 }
 
-struct Running<'a> {
-    case: &'a Case,
+struct Running {
+    panel: Panel,
     accepted: Option<Board>,
+    rewired: bool,
+    /// The nodes that were not run by the last block.
+    still: Vec<usize>,
     board: Lent,
     memory: Lent,
     expected: Vec<u8>,
@@ -90,8 +158,8 @@ struct Running<'a> {
     tail: u32,
 }
 
-impl Running<'_> {
-    fn start(case: &Case) -> Result<Running<'_>, String> {
+impl Running {
+    fn start(case: &Case) -> Result<Running, String> {
         let board = Lent::new(&case.board);
         let accepted = judge(&case.board).ok();
         same("judge", model::judge_answer(&case.board), library::judge(&board))?;
@@ -111,7 +179,20 @@ impl Running<'_> {
         let unchanged = answered.number == 0 && case.changes.is_empty();
         let original = accepted.as_ref().filter(|_| unchanged).and_then(of_board);
         let tail = if unchanged { tail.place } else { model::ENDLESS };
-        Ok(Running { case, accepted, board, memory, expected, original, time: 0, zero_from: 0, tail })
+        let panel = Panel::new(&case.board);
+        Ok(Running {
+            panel,
+            accepted,
+            rewired: false,
+            still: vec![],
+            board,
+            memory,
+            expected,
+            original,
+            time: 0,
+            zero_from: 0,
+            tail,
+        })
     }
 
     /// Output is zero at most a tail after the input turned zero for good.
@@ -141,11 +222,13 @@ impl Running<'_> {
     fn block(&mut self, input: &[u8], lengths: [usize; 2], seen: &mut Seen) -> Result<Answer, String> {
         let [mut expected0, mut expected1] = lengths.map(|length| vec![0xee; length]);
         let (lent, mut out0, mut out1) = (Lent::new(input), Lent::new(&expected0), Lent::new(&expected1));
-        let expected = model::block(&self.case.board, &mut self.expected, input, &mut expected0, &mut expected1);
+        let expected = model::block(self.panel.board(), &mut self.expected, input, &mut expected0, &mut expected1);
         same("answer", expected, library::block(&self.board, &mut self.memory, &lent, &mut out0, &mut out1))?;
         same_bytes("input", input, &lent)?;
         if expected.number == 0 {
             seen.blocks += 1;
+            seen.rewired_blocks += self.rewired as u64;
+            self.count_back(seen);
             if let (Some(original), Some(board)) = (&mut self.original, &self.accepted) {
                 seen.original_blocks += 1;
                 original.block(&words(input).into_iter().map(f32::from_bits).collect::<Vec<_>>());
@@ -170,11 +253,47 @@ impl Running<'_> {
         Ok(expected)
     }
 
+    fn count_back(&mut self, seen: &mut Seen) {
+        let Some(board) = self.accepted.as_ref() else { return };
+        let order = board.order();
+        let back = |k: &&usize| order.contains(k) && (7..=10).contains(&board.nodes[**k].kind);
+        seen.back += self.still.iter().filter(back).count() as u64;
+        self.still = (0..board.nodes.len()).filter(|k| !order.contains(k)).collect();
+    }
+
+    /// Every byte lent is compared, those behind the board too. A rewired board is played on in library and model: there
+    /// is no original of it, and no tail is promised.
+    fn change(&mut self, change: &Change, seen: &mut Seen) -> Result<Answer, String> {
+        let (bytes, said) = self.panel.lent(change);
+        let (mut lent, count) = (Lent::new(bytes), bytes.len());
+        let call = if change.adding { library::add_wire } else { library::pull_wire };
+        let found = call(&mut lent, said, change.source, change.target);
+        let expected = self.panel.change(change);
+        let answered = answer(expected.number, expected.place);
+        same("answer", answered, answer(found.number, found.place))?;
+        same("nodes listed", expected.count, found.count)?;
+        same("list", &expected.listed[..], &found.listed[..])?;
+        same_bytes("bytes lent", &self.panel.bytes[..count], &lent)?;
+        seen.longest += (expected.count == 64) as u64;
+        seen.too_many += (answered.number == 5 && self.accepted.as_ref().is_some_and(|b| b.wires.len() == 128)) as u64;
+        if answered.number == 0 {
+            *if change.adding { &mut seen.added } else { &mut seen.pulled } += 1;
+            let before = self.accepted.as_ref().map(Board::order);
+            self.board = Lent::new(self.panel.board());
+            self.accepted = judge(self.panel.board()).ok();
+            seen.relisted += (before != self.accepted.as_ref().map(Board::order)) as u64;
+            (self.rewired, self.original, self.tail) = (true, None, model::ENDLESS);
+            same("judge of the new board", model::judge_answer(self.panel.board()), library::judge(&self.board))?;
+            same("tail of the new board", model::tail_answer(self.panel.board()), library::tail(&self.board))?;
+        }
+        Ok(answered)
+    }
+
     fn call(&mut self, call: &Call, seen: &mut Seen) -> Result<(), String> {
         let answered = match call {
             Call::Block(input, length0, length1) => self.block(input, [*length0, *length1], seen)?,
             Call::Message(node, value) => {
-                let expected = model::message(&self.case.board, &mut self.expected, *node, *value);
+                let expected = model::message(self.panel.board(), &mut self.expected, *node, *value);
                 same("answer", expected, library::message(&self.board, &mut self.memory, *node, *value))?;
                 if let (Some(original), 0) = (&mut self.original, expected.number) {
                     original.message(*node as usize, *value);
@@ -182,17 +301,18 @@ impl Running<'_> {
                 expected
             }
             Call::Mix(value) => {
-                let expected = model::mix(&self.case.board, &mut self.expected, *value);
+                let expected = model::mix(self.panel.board(), &mut self.expected, *value);
                 same("answer", expected, library::mix(&self.board, &mut self.memory, *value))?;
                 if let (Some(original), 0) = (&mut self.original, expected.number) {
                     original.mix(*value);
                 }
                 expected
             }
+            Call::Wire(change) => self.change(change, seen)?,
         };
         seen.answers[answered.number as usize] += 1;
         same_bytes("memory (model)", &self.expected, &self.memory)?;
-        same_bytes("board", &self.case.board, &self.board)
+        same_bytes("board", self.panel.board(), &self.board)
     }
 }
 
@@ -210,16 +330,24 @@ fn fails(case: &Case) -> bool {
     compare(case, &mut Seen::default()).is_err()
 }
 
-/// The case on a board without node k, its wires and the messages to it.
+/// The case on a board without node k, its wires and the messages to it, and without changes of its wires.
 fn without_node(case: &Case, board: &Board, k: usize) -> Case {
     let moved = |node: usize| node - (node > k) as usize;
     let mut smaller = board.clone();
     smaller.nodes.remove(k);
     smaller.input = moved(board.input);
     smaller.wires = board.wires.iter().filter(|w| w.0 != k && w.1 != k).map(|w| (moved(w.0), moved(w.1))).collect();
-    let calls = case.calls.iter().filter(|call| !matches!(call, Call::Message(node, _) if *node as usize == k));
+    let calls = case.calls.iter().filter(|call| match call {
+        Call::Message(node, _) => *node as usize != k,
+        Call::Wire(change) => change.source as usize != k && change.target as usize != k,
+        _ => true,
+    });
     let calls = calls.map(|call| match call {
         Call::Message(node, value) => Call::Message(moved(*node as usize) as u32, *value),
+        Call::Wire(change) => {
+            let [source, target] = [change.source, change.target].map(|node| moved(node as usize) as u16);
+            Call::Wire(Change { source, target, ..change.clone() })
+        }
         other => other.clone(),
     });
     Case { board: to_bytes(&smaller), calls: calls.collect(), ..case.clone() }
@@ -287,6 +415,15 @@ fn smaller(case: &Case) -> Vec<Case> {
         }
     }
     for k in 0..count {
+        if let Call::Wire(change) = &case.calls[k] {
+            for (spare, said) in [(8, change.said), (change.spare, Said::Off(0))] {
+                if (spare, said) != (change.spare, change.said) {
+                    let mut calls = case.calls.clone();
+                    calls[k] = Call::Wire(Change { spare, said, ..change.clone() });
+                    found.push(Case { calls, ..case.clone() });
+                }
+            }
+        }
         if let Call::Block(input, length0, length1) = &case.calls[k] {
             for i in (0..input.len() / 4).filter(|&i| word(input, 4 * i) != 0).take(16) {
                 let mut calls = case.calls.clone();
@@ -334,6 +471,17 @@ pub fn describe(case: &Case) -> String {
             }
             Call::Message(node, value) => format!("call {k}: message {node} {value:?}"),
             Call::Mix(value) => format!("call {k}: mix {value:?}"),
+            Call::Wire(change) => {
+                let name = if change.adding { "add" } else { "pull" };
+                let mut line = format!("call {k}: {name} {}→{}", change.source, change.target);
+                line += &format!(", {} bytes lent behind the board", change.spare);
+                match change.said {
+                    Said::Off(0) => {}
+                    Said::Off(off) => line += &format!(", its length given {off} off"),
+                    Said::Is(said) => line += &format!(", its length given as {said}"),
+                }
+                line
+            }
         });
     }
     lines.join("\n")

@@ -17,12 +17,12 @@ pub fn input(r: &mut Random, size: usize) -> Vec<u8> {
     (0..size).flat_map(|i| sample(i, r).to_le_bytes()).collect()
 }
 
-fn whole_block(r: &mut Random, size: usize) -> Call {
+pub fn whole_block(r: &mut Random, size: usize) -> Call {
     Call::Block(input(r, size), 4 * size, 4 * size)
 }
 
 /// An input block with an infinite or NaN sample, or of a wrong length.
-fn refused_block(r: &mut Random, size: usize) -> Call {
+pub fn refused_block(r: &mut Random, size: usize) -> Call {
     let mut block = input(r, size);
     if r.one_in(2) {
         let at = 4 * r.below(size);
@@ -34,7 +34,7 @@ fn refused_block(r: &mut Random, size: usize) -> Call {
 }
 
 /// A number message that the board accepts, if it has a node that takes one.
-fn fitting_message(r: &mut Random, board: &Board) -> Option<Call> {
+pub fn fitting_message(r: &mut Random, board: &Board) -> Option<Call> {
     let takers: Vec<usize> = (0..board.nodes.len()).filter(|&k| board.nodes[k].takes_number()).collect();
     if takers.is_empty() {
         return None;
@@ -72,7 +72,7 @@ pub fn accepted_case(r: &mut Random, sizes: &[usize], limits: Limits, blocks: us
 }
 
 /// Some field of some record of a board, changed, or a record doubled, moved or left out.
-fn damage_board(r: &mut Random, board: &mut Vec<u8>) {
+pub fn damage_board(r: &mut Random, board: &mut Vec<u8>) {
     let mut starts = vec![];
     let mut at = 0;
     while at + 4 <= board.len() {

@@ -15,9 +15,19 @@ pub fn answer(number: u32, place: u32) -> Answer {
 
 pub const OK: Answer = Answer { number: 0, place: 0 };
 
+/// What a change of wires answers: a number and a place as every call, and the new board's visiting list.
+#[repr(C)]
+#[derive(Clone, Copy, PartialEq, Eq, Debug)]
+pub struct Wiring {
+    pub number: u32,
+    pub place: u32,
+    pub count: u32,
+    pub listed: [u8; 64],
+}
+
 /// The interface as firmware links it.
 pub mod c {
-    use super::Answer;
+    use super::{Answer, Wiring};
     extern "C" {
         pub fn plate_judge(board: *const u8, board_len: usize) -> Answer;
         pub fn plate_tail(board: *const u8, board_len: usize) -> Answer;
@@ -44,6 +54,8 @@ pub mod c {
         ) -> Answer;
         pub fn plate_mix(board: *const u8, board_len: usize, memory: *mut u8, memory_len: usize, mix: f32) -> Answer;
         pub fn plate_write(n: u32, mix: f32, board: *mut u8, board_len: usize) -> Answer;
+        pub fn plate_add_wire(bytes: *mut u8, bytes_len: usize, board_len: usize, source: u16, target: u16) -> Wiring;
+        pub fn plate_pull_wire(bytes: *mut u8, bytes_len: usize, board_len: usize, source: u16, target: u16) -> Wiring;
         pub fn plate_delay_length(ms: f32) -> Answer;
         pub fn plate_allpass_length(ms: f32) -> Answer;
     }
@@ -118,6 +130,12 @@ pub fn mix(board: &Lent, memory: &mut Lent, mix: f32) -> Answer {
 }
 pub fn write(n: u32, mix: f32, board: &mut Lent) -> Answer {
     unsafe { c::plate_write(n, mix, board.pointer_mut(), board.len) }
+}
+pub fn add_wire(bytes: &mut Lent, board_len: usize, source: u16, target: u16) -> Wiring {
+    unsafe { c::plate_add_wire(bytes.pointer_mut(), bytes.len, board_len, source, target) }
+}
+pub fn pull_wire(bytes: &mut Lent, board_len: usize, source: u16, target: u16) -> Wiring {
+    unsafe { c::plate_pull_wire(bytes.pointer_mut(), bytes.len, board_len, source, target) }
 }
 pub fn delay_length(ms: f32) -> Answer {
     unsafe { c::plate_delay_length(ms) }

@@ -1,6 +1,7 @@
-//! Document 01 in plain Rust, written from the document alone and with no care for speed: vectors, one cell for each node,
-//! floats as patterns. Every answer, output byte and memory byte of the library is held against it.
-use crate::library::{answer, Answer, OK};
+//! Document 01 in plain Rust, and document 02's changes of wires, written from the documents alone and with no care for
+//! speed: vectors, one cell for each node, floats as patterns. Every answer, output byte and memory byte of the library is
+//! held against it.
+use crate::library::{answer, Answer, Wiring, OK};
 
 pub const NAN: u32 = 0x7fc00000;
 pub const ENDLESS: u32 = 4294967295;
@@ -451,6 +452,58 @@ pub fn block(bytes: &[u8], memory: &mut [u8], input: &[u8], out0: &mut [u8], out
     out0.copy_from_slice(&bytes_of(&cells[0].samples[0]));
     out1.copy_from_slice(&bytes_of(&cells[0].samples[1]));
     OK
+}
+
+/// The answer of a change of wires: the list in 64 bytes, zeros behind it.
+fn wiring(answered: Answer, list: &[usize]) -> Wiring {
+    let mut listed = [0; 64];
+    for (byte, &node) in listed.iter_mut().zip(list) {
+        *byte = node as u8;
+    }
+    Wiring { number: answered.number, place: answered.place, count: list.len() as u32, listed }
+}
+
+/// A change of wires in bytes of which the first `board_len` are the board and at least `needed` must be lent: 15, the old
+/// board's 1 to 6, what the change itself refuses, and the changed board's 5 and 6. The changed board is judged and its
+/// list found from its bytes alone, as if there had been no other. Nothing is said of the memory: the next block finds
+/// there, of each source, the block that it last wrote, and runs what is listed then.
+fn rewired(
+    bytes: &mut [u8],
+    board_len: usize,
+    needed: u128,
+    change: impl Fn(&Board, &[u8]) -> Result<Vec<u8>, Answer>,
+) -> Wiring {
+    if (bytes.len() as u128) < needed {
+        return wiring(answer(15, needed.min(4294967295) as u32), &[]);
+    }
+    let old = &bytes[..board_len];
+    let changed = judge(old).and_then(|board| change(&board, old));
+    match changed.and_then(|new| Ok((judge(&new)?, new))) {
+        Ok((board, new)) => {
+            bytes[..new.len()].copy_from_slice(&new);
+            wiring(OK, &board.order())
+        }
+        Err(refused) => wiring(refused, &[]),
+    }
+}
+
+/// A wire record before the end record.
+pub fn add_wire(bytes: &mut [u8], board_len: usize, source: u16, target: u16) -> Wiring {
+    rewired(bytes, board_len, board_len as u128 + 8, |_, old| {
+        let (front, end) = old.split_at(old.len() - 4);
+        let record = [8, 3, source, target].map(u16::to_le_bytes).concat();
+        Ok([front, &record, end].concat())
+    })
+}
+
+/// The newest wire from source to target out.
+pub fn pull_wire(bytes: &mut [u8], board_len: usize, source: u16, target: u16) -> Wiring {
+    rewired(bytes, board_len, board_len as u128, |board, old| {
+        let wire = (source as usize, target as usize);
+        let newest = board.wires.iter().rposition(|&w| w == wire).ok_or(answer(16, target as u32))?;
+        let at = 8 + 14 * board.nodes.len() + 8 * newest;
+        Ok([&old[..at], &old[at + 8..]].concat())
+    })
 }
 
 fn put_number(board: &Board, memory: &mut [u8], node: usize, value: f32) {

@@ -76,6 +76,7 @@ impl Record {
                 }
                 self.put(4, answered, 0, &bytes_of(&[value.to_bits()]));
             }
+            Call::Wire(_) => unreachable!("the original has no changes of wires"),
         }
     }
 

@@ -1,8 +1,9 @@
 //! run [boards N] [plate M] [seed S]: the library against the original Rust and the model.
 //!
 //! N accepted boards with their calls in all three; N cases of damaged boards, memories, lengths and values, and lengths
-//! of milliseconds, in library and model; M blocks of the plate at each block size in library and `Plate`. The first
-//! difference is printed with the smallest case found, and the status is 1.
+//! of milliseconds, in library and model; M blocks of the plate at each block size in library and `Plate`; N boards that
+//! are rewired while they play, in library and model. The first difference is printed with the smallest case found, and
+//! the status is 1.
 use compare::boards::Limits;
 use compare::cases::{compare as compare_case, describe, printed_holds, same_samples, shrink, Case, Seen};
 use compare::damage::{accepted_case, any_case, input};
@@ -10,6 +11,7 @@ use compare::library::{self, answer, Lent};
 use compare::model::{self, judge, words, PLATE_BYTES};
 use compare::original::{of_plate, SIZES};
 use compare::random::Random;
+use compare::wires::rewired_case;
 
 fn stop(text: String) -> ! {
     println!("{text}");
@@ -153,7 +155,17 @@ fn main() {
     for &size in SIZES.iter().filter(|_| blocks > 0) {
         plate(size, blocks, &mut r);
     }
+    for k in 0..boards {
+        let limits = Limits { nodes: 64, line: if k % 50 == 0 { 132300 } else { 100 } };
+        let start = (k % 50 == 1).then(|| plate_board(r.between(1, 128), r.unit()).get().to_vec());
+        hold(&rewired_case(&mut r, k, start, limits), &mut seen, &format!("rewired board {k}"));
+    }
     println!("seed {seed}: {boards} accepted boards, {original} blocks as in the original ({not_finite} output samples infinite or NaN, {tails} past a tail);");
     println!("{boards} damaged cases as in the model; {} lengths and plate writers; {blocks} plate blocks at each N of {SIZES:?}", 8 * boards);
-    println!("answers by number: {:?}", &seen.answers[..13]);
+    println!("{boards} rewired boards as in the model: {} wires added, {} pulled; {} other visiting lists, {} lists of 64 nodes; {} times a 129th wire;", seen.added, seen.pulled, seen.relisted, seen.longest, seen.too_many);
+    println!(
+        "{} blocks afterwards, {} times a node with a line, a pole or a phase that had stood still",
+        seen.rewired_blocks, seen.back
+    );
+    println!("answers by number: {:?}", seen.answers);
 }

@@ -4,7 +4,7 @@ use mathlib.Core.List.{_++_}
 use Prim.Native.Nat.{_+_}
 use denote.Ref.{now}
 use Rattle.leaves.specs.Bytes.{u16Bytes, u32Bytes}
-use Rattle.plate.proofs.Stores.{next}
+use Rattle.graph.proofs.Stores.{next}
 use borrow.Author.Needs.{needs}
 use Rattle.plate.proofs.plate.put_node.Statement.{statement}
 use Rattle.plate.proofs.plate.put_node.Tie as tie

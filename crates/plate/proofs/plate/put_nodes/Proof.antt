@@ -8,7 +8,7 @@ use lib.Seq.{sets}
 use denote.Ref.{now}
 use Rattle.graph.specs.Write.{NodeCard, noNode, nodeBytes, nodesBytes}
 use Rattle.plate.specs.Plate.{plateNodes}
-use Rattle.plate.proofs.Stores.{one-more, all-written}
+use Rattle.graph.proofs.Stores.{one-more, all-written}
 use Rattle.plate.proofs.Tables.{node-at}
 use borrow.Author.Needs.{needs}
 use Rattle.plate.proofs.plate.put_nodes.Statement.{statement}

@@ -9,7 +9,7 @@ use denote.Ref.{now}
 use Rattle.leaves.specs.Bytes.{u16Bytes}
 use Rattle.graph.specs.Write.{headBytes, nodesBytes, wiresBytes, endBytes, writeBoard}
 use Rattle.plate.specs.Plate.{plateNodes, plateWires}
-use Rattle.plate.proofs.Stores.{next, sets-all}
+use Rattle.graph.proofs.Stores.{next, sets-all}
 use Rattle.plate.proofs.Written.{nodes-long, wires-long, plate-long}
 use borrow.Author.Needs.{needs}
 use Rattle.plate.proofs.plate.put_plate.Statement.{statement}

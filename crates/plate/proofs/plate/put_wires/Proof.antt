@@ -8,7 +8,7 @@ use denote.Ref.{now}
 use Rattle.reading.specs.Order.{Wire}
 use Rattle.graph.specs.Write.{noWire, wireBytes, wiresBytes}
 use Rattle.plate.specs.Plate.{plateWires}
-use Rattle.plate.proofs.Stores.{one-more, all-written}
+use Rattle.graph.proofs.Stores.{one-more, all-written}
 use Rattle.plate.proofs.Tables.{wire-at}
 use borrow.Author.Needs.{needs}
 use Rattle.plate.proofs.plate.put_wires.Statement.{statement}

@@ -1,0 +1,4 @@
+-- Demand 3 with wires added and pulled among the calls: the reading by samples on a board that is rewired while it plays, and the claim.
+pub mod Reading
+pub mod Claim
+pub mod Instance

@@ -1,0 +1,3 @@
+-- What the contracts of `rewire` cite.
+pub mod Change
+pub mod Step
