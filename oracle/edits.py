@@ -1,8 +1,10 @@
 #!/usr/bin/env python3
 """edits.py FROM TO: the glicol synth crate's sources from FROM, edited, in TO.
 
-Two kinds of edits, each named below: what document 01 replaces (the oracle's five differences), and what a build of the
-files that are there needs. An edit that does not apply exactly as often as said stops the script.
+Two kinds of edits, each named below: the four things that document 01 replaces in the Rust (sine, one-pole b, sum order and
+the limits of w), and what a build of the files that are there needs. Of the six places where document 01 decides, NaN
+patterns and the input need no edit: they are ways of comparing (docs/DIFFERENCES.md, "The comparison"). An edit that does
+not apply exactly as often as said stops the script.
 """
 import os
 import re

@@ -25,22 +25,18 @@
 //
 // `card check` reads cards with a `%` between them, and writes of each the board's bytes in base 16, its
 // card and its graph, and what becomes of it at blocks of 1, then 64, then 128.
-mod board;
-mod line;
-mod names;
-mod records;
 mod size;
 mod write;
 
-use board::Made;
-use board::board_of;
+use cards::board::Made;
+use cards::board::board_of;
+use cards::line::Reason;
 use check::same;
 use graph::judge::read_board;
 use leaves::bytes::wide;
 use libc::STDERR_FILENO;
 use libc::STDIN_FILENO;
 use libc::STDOUT_FILENO;
-use line::Reason;
 use size::show_resized;
 use sizes::resize::Resized;
 use sizes::resize::resize;

@@ -4,6 +4,7 @@ use Prim.Native.Nat.{ℕ}
 use mathlib.Core.Path.{_≡_, refl}
 use mathlib.Core.List.{List, [], _∷_}
 use lib.ListN.{set, replicate}
+use lib.Ieee.{ofBits}
 use Rattle.leaves.specs.Words.{words}
 use Rattle.nodes.specs.Kind.{ruleOf}
 use Rattle.nodes.specs.Cell.{numberFits, carryFits, placeFits}
@@ -38,22 +39,22 @@ abbrev short : List ℕ
 short = replicate 7 0
 
 pub fresh-length : freshOf board quiet ≡ (answer 7 112, quiet)
-unfolding writeBoard freshOf readBoard readRecords run stepOf takeFound foundAt foundOf ruleOf checkSources distinct
+unfolding writeBoard freshOf readBoard readRecords run stepOf takeFound foundAt foundOf ruleOf ofBits checkSources distinct
 fresh-length = refl
 
 pub block-length : blockOf board quiet broken short quiet ≡ asLeft (answer 7 112) quiet short quiet
-unfolding writeBoard blockIn readBoard readRecords run stepOf takeFound foundAt foundOf ruleOf checkSources distinct
+unfolding writeBoard blockIn readBoard readRecords run stepOf takeFound foundAt foundOf ruleOf ofBits checkSources distinct
 block-length = refl
 
 pub block-place : blockOf board misplaced broken short quiet ≡ asLeft (answer 8 3) misplaced short quiet
-unfolding writeBoard blockIn readBoard readRecords run stepOf takeFound foundAt foundOf ruleOf checkSources distinct checkCells numberFits carryFits placeFits words
+unfolding writeBoard blockIn readBoard readRecords run stepOf takeFound foundAt foundOf ruleOf ofBits checkSources distinct checkCells numberFits carryFits placeFits words
 block-place = refl
 
 pub block-size : blockOf board zeros broken quiet short ≡ asLeft (answer 9 2) zeros quiet short
-unfolding writeBoard blockIn readBoard readRecords run stepOf takeFound foundAt foundOf ruleOf checkSources distinct checkCells numberFits carryFits placeFits words
+unfolding writeBoard blockIn readBoard readRecords run stepOf takeFound foundAt foundOf ruleOf ofBits checkSources distinct checkCells numberFits carryFits placeFits words
 block-size = refl
 
 pub block-sample : blockOf board zeros broken quiet quiet ≡ asLeft (answer 10 1) zeros quiet quiet
-unfolding writeBoard blockIn readBoard readRecords run stepOf takeFound foundAt foundOf ruleOf checkSources distinct checkCells numberFits carryFits placeFits words
+unfolding writeBoard blockIn readBoard readRecords run stepOf takeFound foundAt foundOf ruleOf ofBits checkSources distinct checkCells numberFits carryFits placeFits words
     checkSamples
 block-sample = refl

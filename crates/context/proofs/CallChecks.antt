@@ -15,7 +15,7 @@ use borrow.Author.Tests.{eqb-true, eqb-false, ne-eqb}
 use lib.Dec.{eqb}
 use lib.ListN.{length, getD, take, drop}
 use lib.Seq.{drop-cons, drop-length}
-use Rattle.nodes.specs.Kind.{finite}
+use Rattle.leaves.specs.Floats.{finiteBits}
 use Rattle.nodes.specs.Cell.{cellFits}
 use Rattle.nodes.specs.declared.kind.NodeRecord.{NodeRecord}
 use Rattle.graph.specs.Answer.{answer}
@@ -58,11 +58,11 @@ module _ (ws : List ℕ) (nodes : List NodeRecord) (n : ℕ) (fits : n ≤ lengt
 
 module _ (ws : List ℕ) where
   module _ (i : ℕ) (within : i < length ws) where
-    pub samples-next : finite (getD ws i 0) ≡ true → checkSamples (i + 1) (drop (i + 1) ws) ≡ checkSamples i (drop i ws)
+    pub samples-next : finiteBits (getD ws i 0) ≡ true → checkSamples (i + 1) (drop (i + 1) ws) ≡ checkSamples i (drop i ws)
     unfolding checkSamples
     samples-next e = rw (add-one, drop-cons ws i 0 within, e)
 
-    pub samples-wrong : finite (getD ws i 0) ≡ false → checkSamples i (drop i ws) ≡ answer 10 i
+    pub samples-wrong : finiteBits (getD ws i 0) ≡ false → checkSamples i (drop i ws) ≡ answer 10 i
     unfolding checkSamples
     samples-wrong e = rw (drop-cons ws i 0 within, e)
 
@@ -74,7 +74,7 @@ pub samples-passed : (i : ℕ) (ws : List ℕ) → checkSamples i ws .number ≡
 unfolding checkSamples
 samples-passed i [] z = refl
 samples-passed i (w ∷ ws) z =
-    let rest = passes (finite w) (checkSamples (suc i) ws) (answer 10 i) (λ e. omega arith) z in
+    let rest = passes (finiteBits w) (checkSamples (suc i) ws) (answer 10 i) (λ e. omega arith) z in
     rest .2 ∙ samples-passed (suc i) ws (rest .1)
 
 -- ---- checks 7 and 9

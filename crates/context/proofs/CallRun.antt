@@ -15,12 +15,12 @@ use lib.ListN.{length, getD, take, drop, length-drop, drop-of-length-le}
 use lib.Seq.{getD-take, getD-drop, drop-cons, length-take-le, ext-getD}
 use Rattle.leaves.specs.Words.{words, length-words}
 use Rattle.leaves.specs.Floats.{floatAt}
-use Rattle.nodes.specs.Kind.{channelsOf, cellSize}
+use Rattle.nodes.specs.Row.{Writes, mono, keeping, stereo, rowOf}
+use Rattle.nodes.specs.Kind.{channelsBy, channelsOf, lineOf, cellSize}
 use Rattle.nodes.specs.Rule.{Brought}
 use Rattle.nodes.specs.Block.{InMemory}
 use Rattle.nodes.specs.Node.{broughtAt, nodeRun, Ready}
 use Rattle.nodes.specs.declared.kind.NodeKind.{NodeKind}
-use Rattle.nodes.specs.declared.kind.NodeKind.the-variants.{Pass, Sum, Destination, Balance, Mul, Add, Delay, AllPass, OnePole, Sine}
 use Rattle.nodes.specs.declared.kind.NodeRecord.{NodeRecord}
 use Rattle.reading.specs.Table.{mem}
 use Rattle.reading.specs.Order.{sources}
@@ -54,17 +54,14 @@ record Within (N : ℕ) (k : NodeKind) : Type 0 where
   some : 1 ≤ channelsOf k
   few : channelsOf k ≤ 2
 
+samples-by : (N m : ℕ) (w : Writes) → (3 + N ≤ 3 + N * channelsBy w + m) × (3 + N * (channelsBy w - 1) + N ≤ 3 + N * channelsBy w + m)
+    × (1 ≤ channelsBy w) × (channelsBy w ≤ 2)
+samples-by N m (mono l) = omega arith
+samples-by N m (keeping l) = omega arith
+samples-by N m (stereo l r) = omega arith
+
 samples-within : (N : ℕ) (k : NodeKind) → Within N k
-samples-within N Pass = record { left = omega arith; right = omega arith; some = omega arith; few = omega arith }
-samples-within N Sum = record { left = omega arith; right = omega arith; some = omega arith; few = omega arith }
-samples-within N Destination = record { left = omega arith; right = omega arith; some = omega arith; few = omega arith }
-samples-within N Balance = record { left = omega arith; right = omega arith; some = omega arith; few = omega arith }
-samples-within N (Mul f) = record { left = omega arith; right = omega arith; some = omega arith; few = omega arith }
-samples-within N (Add f) = record { left = omega arith; right = omega arith; some = omega arith; few = omega arith }
-samples-within N (Delay n) = record { left = omega arith; right = omega arith; some = omega arith; few = omega arith }
-samples-within N (AllPass n f) = record { left = omega arith; right = omega arith; some = omega arith; few = omega arith }
-samples-within N (OnePole f) = record { left = omega arith; right = omega arith; some = omega arith; few = omega arith }
-samples-within N (Sine f) = record { left = omega arith; right = omega arith; some = omega arith; few = omega arith }
+samples-within N k = let h = samples-by N (lineOf k) (rowOf k .writes) in record { left = h .0; right = h .1; some = h .2; few = h .3 }
 
 -- ---- lists
 

@@ -1,17 +1,16 @@
 -- Where the nodes' samples start, node by node.
 --     mapped-at                   a node's start, by its number
 --     starts-none, starts-more    an array filled from the front
---     starts-left                 with a block size of 0 the starts are those of channel 0
 -- Assumes nothing.
 use Prim.Native.Nat.{ℕ, zero, suc, _+_, _-_, _*_, _≤_, _<_}
-use mathlib.Core.Path.{_≡_, refl, sym, ap, subst, fun-ext, _∙_}
+use mathlib.Core.Path.{_≡_, refl, sym, ap, _∙_}
 use mathlib.Core.List.{List, [], _∷_, _++_, map, map-append}
 use native.Mathlib.Numerals.{add-one}
 use native.Mathlib.Omega.{arith}
 use lib.ListN.{length, getD, set, take, length-set}
 use lib.Seq.{take-suc, take-suc-set}
 use Rattle.graph.specs.Board.{blank}
-use Rattle.context.specs.Memory.{nodeIn, leftStart, rightStart}
+use Rattle.context.specs.Memory.{nodeIn}
 use Rattle.nodes.specs.declared.kind.NodeRecord.{NodeRecord}
 use Rattle.context.specs.Parts.{Starts}
 
@@ -40,11 +39,3 @@ channel-start size zero h few = omega arith
 channel-start size (suc zero) h few = omega arith
 channel-start size (suc (suc zero)) h few = omega arith
 channel-start size (suc (suc (suc c))) h few = absurd (omega arith)
-
-pub starts-left : {nodes : List NodeRecord} {n : ℕ} {at : List ℕ} → Starts (rightStart 0) nodes n at → Starts leftStart nodes n at
-starts-left {nodes} {n} {at} s =
-    let same : rightStart 0 ≡ leftStart = fun-ext (λ r. none r) in
-    subst (λ (f : NodeRecord → ℕ). Starts f nodes n at) same s
-  where
-    none : (r : NodeRecord) → rightStart 0 r ≡ leftStart r
-    none r = omega arith

@@ -4,8 +4,8 @@
 --     demand          the theorem; board-claim, the same where what is read is at hand
 --     message-value   a value of 32 bits is the value of its bits; so, message-call, every message call is a message of the claim
 -- Assumes nothing.
-use Prim.Native.Nat.{ℕ, suc, _/_, _%_}
-use mathlib.Core.Path.{_≡_, refl, sym, ap, subst, _∙_}
+use Prim.Native.Nat.{ℕ}
+use mathlib.Core.Path.{_≡_, refl, sym, ap, _∙_}
 use mathlib.Core.Bool.{Bool, cond}
 use mathlib.Core.List.{List, []}
 use native.Mathlib.Omega.{arith}
@@ -16,110 +16,84 @@ use lib.Ieee.{Float, binary32, fits, toBits}
 use lib.Ieee.Bits.{ofBits-toBits}
 use Rattle.leaves.specs.Words.{Bytes, unwords}
 use Rattle.nodes.specs.Rule.{Frame}
-use Rattle.nodes.specs.History.{Heard, stateOf}
+use Rattle.nodes.specs.History.{Heard}
 use Rattle.reading.specs.Order.{Reorders}
-use Rattle.reading.specs.Board as theory
 use Rattle.reading.specs.Visit.{start}
 use Rattle.reading.specs.Calls.{replies, afterCalls}
-use Rattle.reading.specs.Blocks.{freshCells}
-use Rattle.reading.specs.Time as time
-use Rattle.reading.specs.Flat.{IsFlat, flatCells}
-use Rattle.reading.specs.Encode.{encCells}
+use Rattle.reading.specs.Effect.{Effect}
+use Rattle.reading.specs.Time.{Timed}
+use Rattle.reading.specs.Memory.{Keeps-promise}
 use Rattle.reading.proofs.Order.{reorders-self}
-use Rattle.reading.proofs.Time as solution
-use Rattle.reading.proofs.Flat as flat
-use Rattle.reading.proofs.Memory.{memory-claim}
 use Rattle.graph.specs.Answer.{answer}
-use Rattle.graph.specs.Board.{Parsed, Reading, going, refused, whole, memoryLength}
+use Rattle.graph.specs.Board.{Parsed, Progress, going, refused, whole, memoryLength}
 use Rattle.graph.specs.Judge.{readBoard, answerBy, judgeOf}
 use Rattle.context.specs.Memory.{kindAt, passed, freshValues}
 use Rattle.context.specs.Calls.{checkLength, changeBy, freshOf, messageOf, listed}
-use Rattle.context.specs.Reading.{Call, message, valueOf, Timed, IsReading, accepted}
+use Rattle.context.specs.Reading.{Call, message, valueOf, Fixed, effects, accepted, IsReading, replyTo}
 use Rattle.context.specs.Claim.{callIn, freshMemory, AsRead, Claim, Demand}
-use Rattle.context.specs.Instance.{boardOf, memoryRules, readingRules, memoryOf}
+use Rattle.context.specs.Instance.{memoryWith, Held, freshCells, memoryOf}
 use Rattle.context.specs.Fine.{Fine}
-use Rattle.context.specs.Instance.{Held}
 use Rattle.graph.specs.declared.answer.Answer.{Answer}
 use Rattle.graph.proofs.Ending.{Ended, board-ends}
 use Rattle.context.proofs.FineBoard.{fine-board, lists}
-use Rattle.context.proofs.Lawful.{board-sound, rules-encode, rules-lawful}
-use Rattle.context.proofs.Told.{heard-sent}
+use Rattle.context.proofs.Lawful.{net-orderly, Setting, boardOf}
 use Rattle.context.proofs.ShownBlock.{reordered}
-use Rattle.context.proofs.ShownCall.{replyFor, call-shown}
+use Rattle.context.proofs.ShownCall.{effects-fit, effects-leave, call-shown}
 use Rattle.context.proofs.ShownFresh.{fresh-shown}
+use Rattle.context.proofs.DemandOn as theorem
 use Rattle.context.proofs.DemandReading as reading
-use Rattle.context.proofs.DemandAfter.{accepted-whole, memory-shown, replies-shown}
+use Rattle.context.proofs.DemandAfter.{accepted-whole, memory-shown, replies-same, replies-shown}
 
 -- ---- the claim about a list of calls
 
 module _ (bytes : List ℕ) (p : Parsed) (reads : readBoard bytes ≡ whole p) (fine : Fine p) (cs : List Call) where
-  abbrev es : List Call
+  -- there is one wiring, and the calls leave it
+  abbrev stays : Setting Call Fixed p
+  stays = record {
+    first = tt;
+    wires = λ w. p .wires;
+    does = λ w c. effects p c;
+    Ok = λ w. Unit {0};
+    fine = λ w h. fine;
+    start = tt;
+    leaves = λ w c h. effects-leave p (λ v. Unit {0}) c;
+    in-range = λ w c h. effects-fit Fixed p c;
+  }
+
+  abbrev es : List (Effect Fixed ℕ ℕ)
   es = accepted p cs
-
-  abbrev heard : List (theory.Call Frame ℕ)
-  heard = time.heard (boardOf p) cs
-
-  -- ---- there is a reading
-
-  abbrev samples : time.Samples Frame
-  samples = solution.samplesOf (boardOf p) (readingRules p) (board-sound p fine) heard
-
-  abbrev states : ℕ → ℕ → ℕ → Heard
-  states = solution.statesOf (boardOf p) (readingRules p) (board-sound p fine) heard
-
-  abbrev before : Timed Heard
-  before t = states (t / p .size) (t % p .size)
-
-  abbrev after : Timed Heard
-  after t = states (t / p .size) (suc (t % p .size))
-
-  there-is : IsReading p es (time.flat (p .size) samples) before
-  there-is =
-      reading.flat-reading p fine es (time.flat (p .size) samples) before after
-      (subst (λ (l : List (theory.Call Frame ℕ)). IsFlat (boardOf p) (readingRules p) l (time.flat (p .size) samples) before after) (heard-sent p cs)
-      (flat.reading-flat (boardOf p) (readingRules p) (fine .least-size) heard samples states
-      (solution.reading-is (boardOf p) (readingRules p) (board-sound p fine) heard)))
-
-  -- ---- and the calls are what any reading says, in any order
 
   module _ (s : Timed Frame) (u : Timed Heard) (r : IsReading p es s u)
       (order : Parsed → List ℕ) (fit : Reorders (p .wires) (listed p) (order p)) where
     abbrev full : Timed Frame
     full = reading.whole p fine es s
 
-    abbrev known : Timed Heard
-    known = reading.before p fine es s u
-
-    abbrev left : Timed Heard
-    left = reading.after p fine es s u
-
-    solves : IsFlat (boardOf p) (readingRules p) heard full known left
-    solves =
-        subst (λ (l : List (theory.Call Frame ℕ)). IsFlat (boardOf p) (readingRules p) l full known left) (sym (heard-sent p cs))
-        (reading.reading-flat p fine es s u r)
-
-    abbrev G : Frame → Type 0
-    G f = Unit {0}
+    promise : Keeps-promise (boardOf p stays) (memoryWith p (stays .wires)) (stays .Ok) (λ k. Held (kindAt p k)) (λ w. order p) (λ m. memoryOf p (m .1))
+        (λ w c fs. replyTo p c fs) (callIn order bytes)
+    promise c w m h kept =
+        call-shown p tt (stays .wires) (stays .does) order bytes w reads fine (reordered p fine (order p) fit) m
+        (λ k. record { samples = kept .size k; line = kept .state k .long }) (kept .state) c
 
     as-read : AsRead bytes p cs s u order
     as-read =
-        let main =
-        memory-claim (boardOf p) (memoryRules p) G (Held p) (board-sound p fine) (rules-lawful p fine) (order p) (memoryOf p) (replyFor p)
-        (callIn order bytes) (call-shown bytes p reads fine G order (reordered p fine (order p) fit))
-        (fine .least-size) fit (readingRules p) (λ k. stateOf (kindAt p k)) (rules-encode p fine) cs full known left solves in
-        let fresh : freshMemory p ≡ memoryOf p (freshCells (boardOf p) (memoryRules p)) = ap unwords (fresh-shown p) in
+        let main = theorem.as-read p stays cs order (λ w h. fit) (λ m. memoryOf p (m .1)) (λ w c fs. replyTo p c fs) (callIn order bytes) promise full
+        (reading.before p fine es s u) (reading.with-others p fine es s u r) in
+        let fresh : freshMemory p ≡ memoryOf p (freshCells p) = ap unwords (fresh-shown p) in
         record {
           replies = ap (replies (callIn order bytes) cs) fresh
               ∙ main .0
-              ∙ replies-shown p full s (λ t. reading.whole-reached p fine es s t 0 (lists p fine .all 0 start)) cs 0;
-          memory = ap (afterCalls (callIn order bytes) cs) fresh
-              ∙ main .1
-              ∙ ap (λ (l : List (theory.Call Frame ℕ)). memoryOf p (encCells (λ k. stateOf (kindAt p k)) (flatCells (boardOf p) l full known))) (heard-sent p cs)
-              ∙ memory-shown p fine es s u r (accepted-whole p cs);
+              ∙ replies-shown p full cs tt 0
+              ∙ replies-same p full s (λ t. reading.whole-reached p fine es s t 0 (lists p fine .all 0 start)) cs 0;
+          memory = ap (afterCalls (callIn order bytes) cs) fresh ∙ main .1 ∙ memory-shown p fine es s u r (accepted-whole p cs);
         }
 
   claim-fine : Claim bytes p cs
-  claim-fine = record { samples = time.flat (p .size) samples; known = before; reads = there-is; as-read = as-read }
+  claim-fine = record {
+    samples = theorem.samples p stays cs;
+    known = theorem.known p stays cs;
+    reads = reading.on-reached p es (theorem.samples p stays cs) (theorem.known p stays cs) (theorem.there-is p stays cs);
+    as-read = as-read;
+  }
 
 -- ---- the theorem
 
@@ -128,7 +102,7 @@ pub board-claim : (bytes : List ℕ) → Bytes bytes → (p : Parsed) → readBo
 board-claim bytes b p e cs = claim-fine bytes p e (fine-board bytes b p e) cs
 
 pub own-order : (bytes : List ℕ) → Bytes bytes → (p : Parsed) → readBoard bytes ≡ whole p → Reorders (p .wires) (listed p) (listed p)
-own-order bytes b p e = reorders-self (p .wires) (listed p) (board-sound p (fine-board bytes b p e) .once)
+own-order bytes b p e = reorders-self (p .wires) (listed p) (net-orderly p (fine-board bytes b p e) .once)
 
 -- the fresh call on memory of the right length
 pub fresh-call : (bytes : List ℕ) (p : Parsed) → readBoard bytes ≡ whole p → (m : List ℕ) → length m ≡ memoryLength p
@@ -146,7 +120,7 @@ pub demand : (board : List ℕ) → Bytes board → (judgeOf board) .number ≡ 
 unfolding judgeOf
 demand board b = go (readBoard board) refl (board-ends board)
   where
-    go : (r : Reading) → readBoard board ≡ r → Ended r → (answerBy memoryLength r) .number ≡ 0 → Demand board
+    go : (r : Progress) → readBoard board ≡ r → Ended r → (answerBy memoryLength r) .number ≡ 0 → Demand board
     go (going at last p) e n z = absurd (omega arith)
     go (refused k w) e n z = absurd (omega arith)
     go (whole p) e n z = record {

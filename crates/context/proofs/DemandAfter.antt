@@ -1,43 +1,41 @@
 -- What a list of calls leaves and answers, by the theory, is what the reading by samples says:
---     memory-shown     the theory's cells afterwards show every byte of the memory
---     reply-shown, replies-shown    what its calls wrote are the replies
+--     accepted-whole, accepted-fit    the blocks that accepted calls run are whole, and the numbers that they set in range
+--     memory-shown     the cells of every node afterwards show every byte of the memory
+--     replies-shown    what the calls wrote are the replies
 -- Assumes nothing.
-use Prim.Native.Nat.{ℕ, suc, _+_, _-_, _*_, _/_, _%_, _<_}
+use Prim.Native.Nat.{ℕ, zero, suc, _+_, _-_, _*_, _/_, _%_, _<_}
 use mathlib.Core.Path.{_≡_, refl, sym, ap, _∙_}
-use mathlib.Core.List.{List, [], _∷_, map}
-use mathlib.Core.Option.{Option, none, some}
+use mathlib.Core.List.{List, [], _∷_, _++_, map}
 use mathlib.Core.Bool.{Bool, true, false, cond}
+use native.Mathlib.Nat.{mul-div-cancel}
 use native.Mathlib.Omega.{arith}
 use borrow.Author.Tests.{eqb-true, leb-true, le-leb, lt-leb}
 use lib.Dec.{eqb, leb}
 use lib.Arith.{digits-div, digits-mod}
 use lib.ListN.{length, getD, replicate, length-replicate}
+use lib.Ieee.{binary32, toBits}
 use lib.Seq.{ext-getD}
 use Rattle.leaves.specs.Words.{unwords}
 use Rattle.nodes.specs.Kind.{channelsOf}
 use Rattle.nodes.specs.Rule.{Frame}
-use Rattle.nodes.specs.Cell.{Cell, valuesOf, freshCell}
-use Rattle.nodes.specs.History.{Heard, freshHeard, stateOf}
+use Rattle.nodes.specs.Cell.{Cell, valuesOf, numberOf, freshCell}
+use Rattle.nodes.specs.History.{Heard, freshHeard, setNumber, stateOf}
 use Rattle.nodes.proofs.HistoryFrames.{map-tab}
-use Rattle.reading.specs.Table.{tab}
-use Rattle.reading.specs.Board as theory
-use Rattle.reading.specs.Time.{timeReply, nextBlock, timeReplies}
-use Rattle.reading.specs.Flat.{byBlock, flatCells}
-use Rattle.reading.specs.Encode.{encCells}
+use Rattle.reading.specs.Table.{tab, joined, All}
+use Rattle.reading.specs.Effect.{Effect, run, set, rewire, inputs, blocks, wiringAfter, toldBy, heard}
+use Rattle.reading.specs.Time.{Timed, lastBlock}
+use Rattle.reading.specs.Solution.{outputsBy}
 use Rattle.reading.specs.Memory.{answers}
-use Rattle.reading.specs.Keeps.{All}
 use Rattle.reading.proofs.Table.{joined-agree, tab-agree, tab-constant, length-tab, getD-tab}
 use Rattle.graph.specs.Board.{Parsed}
 use Rattle.context.specs.Memory.{kindAt}
-use Rattle.context.specs.Reading.{mono, Call, block, message, Timed, silence, reached, accepts, accepted, inputs, answerTo, end, inputAt, numberAt, earlier, IsReading, samplesOf, lastOf, withNumber, reachedCell, otherCell, cellAfter, memoryAfter, outputs, replyTo, blocksAfter, repliesTo}
-use Rattle.context.specs.Instance.{Cells, sent, asks, boardOf, memoryRules, readingRules, cellIn, memoryOf}
+use Rattle.context.specs.Reading.{mono, Call, silence, reached, Fixed, effects, accepted, end, inputAt, agoN, IsReading, samplesOf, lastOf, withNumber, lastNumber, reachedCell, otherCell, cellAfter, memoryAfter, Reply, replyTo, repliesTo}
+use Rattle.context.specs.Instance.{boardWith, memoryRules, readingRules}
 use Rattle.context.specs.Fine.{Fine}
-use Rattle.graph.specs.declared.answer.Answer.{Answer}
-use Rattle.context.proofs.Lawful.{rules-encode}
-use Rattle.context.proofs.Told.{end-sent}
-use Rattle.context.proofs.ShownCall.{block-whole, replyFor}
+use Rattle.context.proofs.Lawful.{encodes}
+use Rattle.context.proofs.ShownCall.{NumberFits, Whole, effects-fit, effects-whole}
 use Rattle.context.proofs.ShownFresh.{fresh-cell}
-use Rattle.context.proofs.DemandReading.{still, whole, whole-other, earlier-reached, input-whole, before}
+use Rattle.context.proofs.DemandReading.{still, whole, whole-reached, whole-other, ago-reached, input-whole, before}
 
 -- ---- the last block
 
@@ -45,20 +43,30 @@ use Rattle.context.proofs.DemandReading.{still, whole, whole-other, ear
 abbrev pub Blocks : ℕ → List (List ℕ) → Type 0
 Blocks n bs = All (λ (x : List ℕ). length x ≡ n) bs
 
+-- what holds of the effects of every call holds of all
+pub heard-all : (p : Parsed) (P : Effect Fixed ℕ ℕ → Type 0) → ((c : Call) → All P (effects p c)) → (cs : List Call) → All P (accepted p cs)
+unfolding heard
+heard-all p P each = go tt
+  where
+    both : (es fs : List (Effect Fixed ℕ ℕ)) → All P es → All P fs → All P (es ++ fs)
+    both [] fs a b = b
+    both (e ∷ es) fs a b = (a .0, both es fs (a .1) b)
+
+    go : (w : Fixed) (cs : List Call) → All P (heard (λ v c. effects p c) w cs)
+    go w [] = tt
+    go w (c ∷ cs) = both (effects p c) _ (each c) (go (wiringAfter w (effects p c)) cs)
+
+inputs-whole : (n : ℕ) (es : List (Effect Fixed ℕ ℕ)) → All (Whole n) es → Blocks n (inputs es)
+inputs-whole n [] a = tt
+inputs-whole n (run xs ∷ es) a = (a .0, inputs-whole n es (a .1))
+inputs-whole n (set k v ∷ es) a = inputs-whole n es (a .1)
+inputs-whole n (rewire w ∷ es) a = inputs-whole n es (a .1)
+
 pub accepted-whole : (p : Parsed) (cs : List Call) → Blocks (p .size) (inputs (accepted p cs))
-unfolding accepted inputs
-accepted-whole p [] = tt
-accepted-whole p (block x l r ∷ cs) = go (accepts p (block x l r)) refl (accepted-whole p cs)
-  where
-    go : (b : Bool) → accepts p (block x l r) ≡ b → Blocks (p .size) (inputs (accepted p cs))
-        → Blocks (p .size) (inputs (cond b (block x l r ∷ accepted p cs) (accepted p cs)))
-    go true e ih = (block-whole p x l r e, ih)
-    go false e ih = ih
-accepted-whole p (message k w ∷ cs) = go (accepts p (message k w)) (accepted-whole p cs)
-  where
-    go : (b : Bool) → Blocks (p .size) (inputs (accepted p cs)) → Blocks (p .size) (inputs (cond b (message k w ∷ accepted p cs) (accepted p cs)))
-    go true ih = ih
-    go false ih = ih
+accepted-whole p cs = inputs-whole (p .size) (accepted p cs) (heard-all p (Whole (p .size)) (λ c. effects-whole Fixed p c) cs)
+
+pub accepted-fit : (p : Parsed) (cs : List Call) → All (NumberFits p) (accepted p cs)
+accepted-fit p cs = heard-all p (NumberFits p) (λ c. effects-fit Fixed p c) cs
 
 last-get : (z : List ℕ) (x : List ℕ) (xs : List (List ℕ)) → lastOf z (x ∷ xs) ≡ getD (x ∷ xs) (length xs) []
 unfolding lastOf
@@ -104,19 +112,32 @@ last-block n (x ∷ xs) w =
         ∙ (λ j. getD (getD (x ∷ xs) (digits-div (length xs) h j) []) (digits-mod (length xs) h j) 0)
         ∙ ap (λ (l : List ℕ). getD l i 0) (sym (last-get (replicate n 0) x xs))
 
-module _ (p : Parsed) (fine : Fine p) (es : List Call) (s : Timed Frame) (u : Timed Heard) (f : IsReading p es s u)
-    (blocks : Blocks (p .size) (inputs es)) where
-  -- the samples and states with those of the nodes that are not reached
+-- ---- a node that hears its messages alone
+
+number-alone : {W : Type 0} (es : List (Effect W ℕ ℕ)) (b k : ℕ) (h : Heard)
+    → toldBy (λ j. setNumber) es b k h ≡ setNumber (toldBy (λ j v n. v) es b k (h .number)) h
+unfolding setNumber
+number-alone [] b k h = refl
+number-alone (run xs ∷ es) zero k h = refl
+number-alone (run xs ∷ es) (suc b) k h = number-alone es b k h
+number-alone (set j v ∷ es) b k h = go (eqb k j) (number-alone es b k)
+  where
+    go : (q : Bool) → ((g : Heard) → toldBy (λ i. setNumber) es b k g ≡ setNumber (toldBy (λ i x n. x) es b k (g .number)) g)
+        → toldBy (λ i. setNumber) es b k (cond q (setNumber v h) h) ≡ setNumber (toldBy (λ i x n. x) es b k (cond q v (h .number))) h
+    go true ih = ih (setNumber v h)
+    go false ih = ih h
+number-alone (rewire w ∷ es) b k h = number-alone es b k h
+
+module _ (p : Parsed) (fine : Fine p) (es : List (Effect Fixed ℕ ℕ)) (s : Timed Frame) (u : Timed Heard) (f : IsReading p es s u)
+    (whole-blocks : Blocks (p .size) (inputs es)) where
+  -- the samples and what is known with those of the nodes that are not reached
   abbrev full : Timed Frame
   full = whole p fine es s
 
-  abbrev states : Timed Heard
-  states = before p fine es s u
+  abbrev known : Timed Heard
+  known = before p fine es s u
 
   -- ---- the memory afterwards
-
-  abbrev after : Cells
-  after = encCells (λ k. stateOf (kindAt p k)) (flatCells (boardOf p) (map sent es) full states)
 
   module _ (k : ℕ) where
     abbrev channels : ℕ
@@ -124,18 +145,21 @@ module _ (p : Parsed) (fine : Fine p) (es : List Call) (s : Timed Frame) (u : Ti
 
     -- the frames of the last block
     abbrev frames : List Frame
-    frames = tab (p .size) (λ i. earlier p full (end p es + i) k)
+    frames = lastBlock (p .size) silence full (blocks es) k
 
     -- the state, by whether the node is reached
-    state-after : stateOf (kindAt p k) (states (end p es) k) ≡ (cond (reached p k) (reachedCell p es s u k) (otherCell p es s u k)) .state
+    state-after : stateOf (kindAt p k) (known (end p es) k) ≡ (cond (reached p k) (reachedCell p es s u k) (otherCell p es s u k)) .state
     unfolding memoryRules readingRules freshCell freshHeard
     state-after = go (reached p k)
       where
         other : stateOf (kindAt p k) (still p fine es (end p es) k) ≡ otherCell p es s u k .state
         other =
-            let n : ℕ = numberAt p es (end p es) k in
-            let enc = rules-encode p fine in
-            sym (enc .set k n (freshHeard (kindAt p k))) ∙ ap (withNumber n) (sym (enc .fresh k))
+            let n : ℕ = lastNumber p es k in
+            let enc = encodes p fine in
+            ap (λ (b : ℕ). stateOf (kindAt p k) (toldBy (λ j. setNumber) es b k (freshHeard (kindAt p k)))) (mul-div-cancel (blocks es) (fine .least-size))
+            ∙ ap (stateOf (kindAt p k)) (number-alone es (blocks es) k (freshHeard (kindAt p k)))
+            ∙ sym (enc .set k n (freshHeard (kindAt p k)))
+            ∙ ap (withNumber n) (sym (enc .fresh k))
 
         go : (b : Bool) → stateOf (kindAt p k) (cond b (u (end p es) k) (still p fine es (end p es) k)) ≡ (cond b (reachedCell p es s u k) (otherCell p es s u k)) .state
         go true = refl
@@ -150,7 +174,7 @@ module _ (p : Parsed) (fine : Fine p) (es : List Call) (s : Timed Frame) (u : Ti
         quiet r t false = refl
 
         go : (b : Bool) → reached p k ≡ b → samplesOf channels frames ≡ (cond b (reachedCell p es s u k) (otherCell p es s u k)) .samples
-        go true r = ap (samplesOf channels) (tab-agree (p .size) _ _ (λ j h. earlier-reached p fine es s (end p es + j) k r))
+        go true r = ap (samplesOf channels) (tab-agree (p .size) _ _ (λ j h. ago-reached p fine es s (end p es + j) k r))
         go false r =
             ap (samplesOf channels)
             (tab-agree (p .size) _ _ (λ i h. quiet r (end p es + i - p .size) (leb (p .size) (end p es + i))) ∙ tab-constant (p .size) silence)
@@ -160,9 +184,9 @@ module _ (p : Parsed) (fine : Fine p) (es : List Call) (s : Timed Frame) (u : Ti
     samples-input : k ≡ p .input → samplesOf channels frames ≡ lastOf (replicate (p .size) 0) (inputs es)
     samples-input e =
         ap (λ (c : ℕ). samplesOf c frames) (ap channelsOf (ap (kindAt p) e ∙ fine .input-pass))
-        ∙ map-tab (λ f. f .left) (p .size) (λ i. earlier p full (end p es + i) k)
+        ∙ map-tab (λ f. f .left) (p .size) (λ i. agoN p full (end p es + i) k)
         ∙ tab-agree (p .size) _ _ (λ i h. go (end p es + i) (leb (p .size) (end p es + i)) refl (omega arith))
-        ∙ last-block (p .size) (inputs es) blocks
+        ∙ last-block (p .size) (inputs es) whole-blocks
       where
         go : (t : ℕ) (b : Bool) → leb (p .size) t ≡ b → t < end p es + p .size
             → (cond b (full (t - p .size) k) silence) .left ≡ cond b (inputAt p es (t - p .size)) 0
@@ -180,53 +204,30 @@ module _ (p : Parsed) (fine : Fine p) (es : List Call) (s : Timed Frame) (u : Ti
         go true e = samples-input (eqb-true k (p .input) e)
         go false e = samples-other e
 
-    -- the cell, where the time after the last block is e
-    abbrev cellAt : ℕ → Cell
-    cellAt e = record { state = stateOf (kindAt p k) (states e k); samples = samplesOf channels (tab (p .size) (λ i. earlier p full (e + i) k)) }
+    cell-after : reachedCell p es full known k ≡ cellAfter p es s u k
+    cell-after = λ i. record { state = state-after i; samples = samples-after i }
 
-    cell-after : cellIn p after k ≡ cellAfter p es s u k
-    cell-after = ap cellAt (end-sent p es) ∙ (λ i. record { state = state-after i; samples = samples-after i })
-
-  pub memory-shown : memoryOf p (encCells (λ k. stateOf (kindAt p k)) (flatCells (boardOf p) (map sent es) (whole p fine es s) (before p fine es s u)))
-      ≡ memoryAfter p es s u
+  pub memory-shown : unwords (joined (length (p .nodes)) (λ k. valuesOf (reachedCell p es (whole p fine es s) (before p fine es s u) k))) ≡ memoryAfter p es s u
   memory-shown = ap unwords (joined-agree (length (p .nodes)) _ _ (λ k h. ap valuesOf (cell-after k)))
 
--- ---- the replies, where node 0 has the samples of s
+-- ---- the replies
 
-module _ (p : Parsed) (played s : Timed Frame) (same : (t : ℕ) → played t 0 ≡ s t 0) where
-  -- one channel of node 0's block b
-  out-block : (b : ℕ) (channel : Frame → ℕ)
-      → map channel (tab (p .size) (λ i. played (b * p .size + i) 0)) ≡ tab (p .size) (λ i. channel (s (b * p .size + i) 0))
-  out-block b channel =
-      map-tab channel (p .size) (λ i. played (b * p .size + i) 0) ∙ tab-agree (p .size) _ _ (λ i h. ap channel (same (b * p .size + i)))
+-- they look at node 0's samples alone
+pub replies-same : (p : Parsed) (r s : Timed Frame) → ((t : ℕ) → r t 0 ≡ s t 0) → (cs : List Call) (b : ℕ) → repliesTo p r b cs ≡ repliesTo p s b cs
+unfolding repliesTo
+replies-same p r s same [] b = refl
+replies-same p r s same (c ∷ cs) b =
+    let n : ℕ = b + blocks {W = Fixed} (effects p c) in
+    let last : lastBlock (p .size) silence r n 0 ≡ lastBlock (p .size) silence s n 0 =
+    tab-agree (p .size) _ _ (λ i h. ap (λ (x : Frame). cond (leb (p .size) (n * p .size + i)) x silence) (same (n * p .size + i - p .size))) in
+    λ i. replyTo p c (last i) ∷ replies-same p r s same cs n i
 
-  -- a call's reply, and how many blocks have been accepted after it
-  pub reply-shown : (c : Call) (b : ℕ)
-      → (replyFor p c (timeReply (boardOf p) (byBlock (p .size) played) b (asks p c)) ≡ replyTo p s b c) × (nextBlock b (asks p c) ≡ blocksAfter p b c)
-  reply-shown (block x l r) b = go (accepts p (block x l r))
-    where
-      a : Answer
-      a = answerTo p (block x l r)
-
-      asked : Bool → Option (theory.Call Frame ℕ)
-      asked q = cond q (some (sent (block x l r))) none
-
-      go : (q : Bool)
-          → (replyFor p (block x l r) (timeReply (boardOf p) (byBlock (p .size) played) b (asked q))
-          ≡ cond q (outputs p s b a) (record { answer = a; left = l; right = r })) × (nextBlock b (asked q) ≡ cond q (suc b) b)
-      go true = (λ i. record { answer = a; left = unwords (out-block b (λ f. f .left) i); right = unwords (out-block b (λ f. f .right) i) }, refl)
-      go false = (refl, refl)
-  reply-shown (message k w) b = (refl, go (accepts p (message k w)))
-    where
-      go : (q : Bool) → nextBlock b (cond q (some (sent (message k w))) none) ≡ b
-      go true = refl
-      go false = refl
-
-  pub replies-shown : (cs : List Call) (b : ℕ)
-      → answers (replyFor p) cs (timeReplies (boardOf p) (byBlock (p .size) played) b cs) ≡ repliesTo p s b cs
-  unfolding repliesTo
-  replies-shown [] b = refl
-  replies-shown (c ∷ cs) b =
-      let one = reply-shown c b in
-      λ i. one .0 i ∷ (ap (λ (n : ℕ). answers (replyFor p) cs (timeReplies (boardOf p) (byBlock (p .size) played) n cs)) (one .1)
-      ∙ replies-shown cs (blocksAfter p b c)) i
+-- and are what the theory's calls answer
+pub replies-shown : (p : Parsed) (s : Timed Frame) (cs : List Call) (w : Fixed) (b : ℕ)
+    → answers (boardWith p tt (λ v. p .wires) (λ v c. effects p c)) (λ v c fs. replyTo p c fs) w cs
+    (outputsBy (boardWith p tt (λ v. p .wires) (λ v c. effects p c)) s w b cs) ≡ repliesTo p s b cs
+unfolding repliesTo
+replies-shown p s [] w b = refl
+replies-shown p s (c ∷ cs) w b =
+    let n : ℕ = b + blocks {W = Fixed} (effects p c) in
+    ap (λ (rs : List Reply). replyTo p c (lastBlock (p .size) silence s n 0) ∷ rs) (replies-shown p s cs (wiringAfter w (effects p c)) n)

@@ -12,6 +12,7 @@ use Rattle.nodes.specs.History.{Heard}
 use Rattle.nodes.specs.Rule.{Frame, total, leftOf, rightOf, keeps, carryAfter, get, xLine, yLine, placeAfter, lineAfter, sampleBy, stateBy}
 use Rattle.nodes.specs.Cell.{valuesOf, cellOf, numberOf, freshCell, numberFits, carryFits, placeFits, frameAt, putFrame, stepCell, runCell}
 use Rattle.nodes.specs.Node.{nodeRun}
+use Rattle.reading.specs.Time.{Timed}
 use Rattle.reading.specs.Calls.{replies}
 use Rattle.graph.specs.Answer.{answer}
 use Rattle.graph.specs.Record.{foundOf, foundAt}
@@ -21,7 +22,7 @@ use Rattle.graph.specs.Judge.{checkSources, readBoard}
 use Rattle.graph.specs.Visit.{visitingList}
 use Rattle.context.specs.Memory.{freshValues, checkCells, runNode, runNodes, putInput}
 use Rattle.context.specs.Calls.{freshOf, checkSamples, blockIn, listed}
-use Rattle.context.specs.Reading.{Call, block, Reply, Timed, IsReading, accepted, repliesTo}
+use Rattle.context.specs.Reading.{Call, block, Reply, IsReading, accepted, repliesTo}
 use Rattle.context.specs.Claim.{callIn}
 use Rattle.graph.specs.Write.{kindOf, asRead, writeBoard}
 use Rattle.graph.proofs.RoundBytes.{board-bytes}
@@ -51,8 +52,8 @@ said x = record { answer = answer 0 0; left = x; right = x }
 abbrev pub p : Parsed
 p = asRead feedback
 
-reads : readBoard (writeBoard feedback) ≡ whole p
-unfolding writeBoard kindOf readBoard readRecords run stepOf takeFound foundAt foundOf ruleOf checkSources distinct
+pub reads : readBoard (writeBoard feedback) ≡ whole p
+unfolding writeBoard kindOf readBoard readRecords run stepOf takeFound foundAt foundOf ruleOf ofBits checkSources distinct
 reads = refl
 
 -- fresh memory, as the fresh call leaves it

@@ -19,6 +19,7 @@ pub mod ShownCall
 pub mod ShownFresh
 pub mod Lawful
 pub mod Told
+pub mod DemandOn
 pub mod DemandReading
 pub mod DemandAfter
 pub mod Demand

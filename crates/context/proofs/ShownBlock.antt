@@ -6,7 +6,7 @@
 --     message-shown        a number message
 --     put-long, order-long, input-long    the cells keep their lengths
 -- Assumes nothing.
-use Prim.Native.Nat.{ℕ, _+_, _*_, _<_}
+use Prim.Native.Nat.{ℕ, zero, suc, _+_, _*_, _<_}
 use mathlib.Core.Path.{_≡_, refl, sym, ap, subst⁻¹, _∙_}
 use mathlib.Core.Bool.{true}
 use mathlib.Core.List.{List, [], _∷_, _++_, map, append-assoc}
@@ -14,23 +14,22 @@ use native.Mathlib.Omega.{arith}
 use native.Mathlib.Decide.{ℕ-discrete}
 use lib.Dec.{eqb}
 use lib.Ieee.{Float, binary32, toBits}
-use lib.ListN.{length, set, length-append, length-map}
+use lib.ListN.{length, getD, set, length-append, length-map}
 use lib.Seq.{paste, set-at}
 use Rattle.leaves.specs.Parts.{part}
 use Rattle.nodes.specs.Kind.{channelsOf}
 use Rattle.nodes.specs.Rule.{Frame, State}
 use Rattle.nodes.specs.Cell.{valuesOf}
 use Rattle.nodes.specs.declared.kind.NodeKind.{NodeKind}
-use Rattle.reading.specs.Table.{put, mem}
+use Rattle.reading.specs.Table.{put, tab, mem}
 use Rattle.reading.specs.Order.{Reorders}
-use Rattle.reading.specs.Board as theory
 use Rattle.reading.specs.Blocks as blocks
-use Rattle.reading.proofs.Table.{put-same, put-other, mem-head, or-right}
+use Rattle.reading.proofs.Table.{put-same, put-other, length-tab, mem-head, or-right}
 use Rattle.graph.specs.Board.{Parsed}
 use Rattle.context.specs.Memory.{nodeAt, kindAt, runNodes, putInput}
 use Rattle.context.specs.Calls.{listed, setNumber}
 use Rattle.context.specs.Reading.{mono, samplesOf}
-use Rattle.context.specs.Instance.{Cells, boardOf, memoryRules, cellIn, shown}
+use Rattle.context.specs.Instance.{Cells, netOf, memoryRules, cellIn, shown}
 use Rattle.context.specs.Fine.{Fine}
 use Rattle.context.proofs.FineBoard.{listed-there}
 use Rattle.context.proofs.ShownCells.{leftsOf, rightsOf, samples-length, part-mid, paste-mid, LongCell, Long, Around, around}
@@ -54,17 +53,17 @@ put-long p c k d long h j = go (ℕ-discrete j k)
 -- ---- the nodes of an order
 
 module _ (p : Parsed) where
-  pub order-long : (o : List ℕ) (c : Cells) → Long p c → Long p (blocks.runNodes (boardOf p) (memoryRules p) o c)
+  pub order-long : (o : List ℕ) (c : Cells) → Long p c → Long p (blocks.runNodes (netOf p) (memoryRules p) o c)
   order-long [] c long = long
-  order-long (k ∷ o) c long = order-long o (blocks.runNode (boardOf p) (memoryRules p) k (p .size) c) (run-long p k c long (p .size))
+  order-long (k ∷ o) c long = order-long o (blocks.runNode (netOf p) (memoryRules p) k (p .size) c) (run-long p k c long (p .size))
 
   pub order-shown : Fine p → (o : List ℕ) → OfBoard p o → (c : Cells) → Long p c
-      → runNodes p o (shown p c) ≡ shown p (blocks.runNodes (boardOf p) (memoryRules p) o c)
+      → runNodes p o (shown p c) ≡ shown p (blocks.runNodes (netOf p) (memoryRules p) o c)
   unfolding runNodes
   order-shown fine [] there c long = refl
   order-shown fine (k ∷ o) there c long =
       ap (runNodes p o) (run-shown p fine c long k (there k (mem-head k o)))
-      ∙ order-shown fine o (λ j e. there j (or-right (eqb j k) e)) (blocks.runNode (boardOf p) (memoryRules p) k (p .size) c) (run-long p k c long (p .size))
+      ∙ order-shown fine o (λ j e. there j (or-right (eqb j k) e)) (blocks.runNode (netOf p) (memoryRules p) k (p .size) c) (run-long p k c long (p .size))
 
 -- ---- a cell's samples between the values before and after them
 
@@ -111,10 +110,10 @@ module _ (p : Parsed) (fine : Fine p) (c : Cells) (long : Long p c) (k : ℕ) (t
       ∙ sym (here .then _)
 
 -- a number message to a node of the board
-pub message-shown : (p : Parsed) → Fine p → (c : Cells) → Long p c → (k : ℕ) → k < length (p .nodes) → (o : List ℕ) (x : Float)
-    → setNumber p k x (shown p c) ≡ shown p (blocks.runCall (boardOf p) (memoryRules p) o (theory.message k (toBits binary32 x)) c)
+pub message-shown : (p : Parsed) → Fine p → (c : Cells) → Long p c → (k : ℕ) → k < length (p .nodes) → (x : Float)
+    → setNumber p k x (shown p c) ≡ shown p (put c k (record { state = (memoryRules p) .set k (toBits binary32 x) (c k .state); samples = c k .samples }))
 unfolding memoryRules
-message-shown p fine c long k there o x = number-shown p fine c long k there (toBits binary32 x)
+message-shown p fine c long k there x = number-shown p fine c long k there (toBits binary32 x)
 
 -- ---- the input block
 
@@ -122,13 +121,24 @@ lefts-mono : (xs : List ℕ) → leftsOf (map mono xs) ≡ xs
 lefts-mono [] = refl
 lefts-mono (x ∷ xs) = ap (λ (l : List ℕ). x ∷ l) (lefts-mono xs)
 
-module _ (p : Parsed) (fine : Fine p) (c : Cells) (long : Long p c) (xs : List ℕ) (whole : length xs ≡ p .size) where
-  pub input-long : Long p (blocks.putInput (boardOf p) (map mono xs) c)
-  input-long =
-      put-long p c (p .input) (record { state = c (p .input) .state; samples = map mono xs }) long
-      (record { samples = length-map xs mono ∙ whole; line = long (p .input) .line })
+-- a list of n entries, place by place
+tab-get : {A B : Type 0} (f : A → B) (d : A) (xs : List A) (n : ℕ) → length xs ≡ n → tab n (λ i. f (getD xs i d)) ≡ map f xs
+tab-get f d [] zero e = refl
+tab-get f d [] (suc n) e = absurd (omega arith)
+tab-get f d (x ∷ xs) zero e = absurd (omega arith)
+tab-get {B = B} f d (x ∷ xs) (suc n) e = ap (λ (l : List B). f x ∷ l) (tab-get f d xs n (omega arith))
 
-  pub input-shown : putInput p xs (shown p c) ≡ shown p (blocks.putInput (boardOf p) (map mono xs) c)
+module _ (p : Parsed) (fine : Fine p) (c : Cells) (long : Long p c) (xs : List ℕ) (whole : length xs ≡ p .size) where
+  -- the input node's frames
+  abbrev pub framesOf : ℕ → Frame
+  framesOf i = mono (getD xs i 0)
+
+  pub input-long : Long p (blocks.putInput (netOf p) framesOf c)
+  input-long =
+      put-long p c (p .input) (record { state = c (p .input) .state; samples = tab (p .size) framesOf }) long
+      (record { samples = length-tab (p .size) framesOf; line = long (p .input) .line })
+
+  pub input-shown : putInput p xs (shown p c) ≡ shown p (blocks.putInput (netOf p) framesOf c)
   unfolding putInput
   input-shown =
       let k : ℕ = p .input in
@@ -145,6 +155,7 @@ module _ (p : Parsed) (fine : Fine p) (c : Cells) (long : Long p c) (xs : List �
       ∙ paste-mid a old b (nodeAt p k .cell + 3) (p .size) (front-long p fine c long k t) old-long xs whole
       ∙ ap (λ (l : List ℕ). a ++ (l ++ b)) new
       ∙ sym (samples-then p fine c long k t (map mono xs))
+      ∙ ap (λ (fs : List Frame). shown p (put c k (record { state = c k .state; samples = fs }))) (sym (tab-get mono 0 xs (p .size) whole))
 
 -- ---- the output blocks: node 0's channels
 

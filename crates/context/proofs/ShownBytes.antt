@@ -1,27 +1,20 @@
 -- Memory that shows cells, as bytes.
---     kept-long        cells of which `Held` holds all along have their lengths
 --     memory-passes    checks 7 and 8 pass
 -- Assumes nothing.
 use Prim.Native.Nat.{ℕ, _*_}
 use mathlib.Core.Path.{_≡_, ap, subst⁻¹, _∙_}
 use Rattle.leaves.specs.Words.{words-unwords, length-unwords}
-use Rattle.nodes.specs.Rule.{Frame}
 use Rattle.nodes.specs.Cell.{cellFits}
 use Rattle.nodes.proofs.Kept.{judged-fits}
-use Rattle.reading.specs.Keeps.{Kept}
 use Rattle.graph.specs.Board.{Parsed}
 use Rattle.context.specs.Fine.{Fine}
 use Rattle.context.specs.Memory.{kindAt, passed}
 use Rattle.context.specs.Calls.{checkMemory}
-use Rattle.context.specs.Instance.{Held, Cells, boardOf, memoryRules, cellIn, shown, memoryOf}
+use Rattle.context.specs.Instance.{Held, Cells, cellIn, shown, memoryOf}
 use Rattle.context.proofs.CallLaws.{Judged, memory-passed}
 use Rattle.context.proofs.ShownCells.{Long, shown-long, shown-part}
 
-module _ (p : Parsed) (G : Frame → Type 0) (c : Cells) (kept : Kept (boardOf p) (memoryRules p) G (Held p) c) where
-  pub kept-long : Long p c
-  kept-long k = record { samples = kept .size k; line = kept .state k .long }
-
-pub memory-passes : (p : Parsed) → Fine p → (c : Cells) → Long p c → ((k : ℕ) → Held p k (c k .state)) → checkMemory p (memoryOf p c) ≡ passed
+pub memory-passes : (p : Parsed) → Fine p → (c : Cells) → Long p c → ((k : ℕ) → Held (kindAt p k) (c k .state)) → checkMemory p (memoryOf p c) ≡ passed
 memory-passes p fine c long held =
     memory-passed p (memoryOf p c) (length-unwords (shown p c) ∙ ap (λ (n : ℕ). 4 * n) (shown-long p c long))
     (subst⁻¹ (Judged p) (words-unwords (shown p c)) (λ k there.

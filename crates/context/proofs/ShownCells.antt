@@ -18,11 +18,11 @@ use lib.Dec.{eqb}
 use lib.ListN.{length, getD, take, drop, length-append, length-map, List·getD-append, List·getD-map}
 use lib.Seq.{paste, getD-append-add, take-at, drop-at, drop-drop, take-all, take-length}
 use Rattle.leaves.specs.Parts.{part}
-use Rattle.nodes.specs.Kind.{channelsOf, lineOf, cellSize}
+use Rattle.nodes.specs.Row.{Writes, mono, keeping, stereo, rowOf}
+use Rattle.nodes.specs.Kind.{channelsBy, channelsOf, lineOf, cellSize}
 use Rattle.nodes.specs.Rule.{Frame, State}
 use Rattle.nodes.specs.Cell.{Cell, valuesOf}
 use Rattle.nodes.specs.declared.kind.NodeKind.{NodeKind}
-use Rattle.nodes.specs.declared.kind.NodeKind.the-variants.{Pass, Sum, Destination, Balance, Mul, Add, Delay, AllPass, OnePole, Sine}
 use Rattle.nodes.specs.declared.kind.NodeRecord.{NodeRecord}
 use Rattle.nodes.proofs.Cells.{length-values, get-sample}
 use Rattle.reading.specs.Table.{put}
@@ -43,18 +43,14 @@ abbrev pub rightsOf : List Frame → List ℕ
 rightsOf fs = map (λ f. f .right) fs
 
 -- a kind has one channel or two
+channels-by : (w : Writes) (b : Bool) → eqb (channelsBy w) 2 ≡ b → channelsBy w ≡ cond b 2 1
+channels-by w true e = eqb-true (channelsBy w) 2 e
+channels-by (mono l) false e = refl
+channels-by (keeping l) false e = refl
+channels-by (stereo l r) false e = absurd (true≢false e)
+
 pub channels-are : (k : NodeKind) (b : Bool) → eqb (channelsOf k) 2 ≡ b → channelsOf k ≡ cond b 2 1
-channels-are k true e = eqb-true (channelsOf k) 2 e
-channels-are Pass false e = refl
-channels-are Sum false e = refl
-channels-are Destination false e = absurd (true≢false e)
-channels-are Balance false e = absurd (true≢false e)
-channels-are (Mul f) false e = refl
-channels-are (Add f) false e = refl
-channels-are (Delay n) false e = refl
-channels-are (AllPass n f) false e = refl
-channels-are (OnePole f) false e = refl
-channels-are (Sine f) false e = refl
+channels-are k = channels-by (rowOf k .writes)
 
 module _ (k : NodeKind) (fs : List Frame) (N : ℕ) (long : length fs ≡ N) where
   pub samples-length : length (samplesOf (channelsOf k) fs) ≡ N * channelsOf k

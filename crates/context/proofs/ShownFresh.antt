@@ -13,11 +13,10 @@ use Rattle.nodes.specs.Rule.{Frame}
 use Rattle.nodes.specs.Cell.{valuesOf, freshCell}
 use Rattle.nodes.specs.declared.kind.NodeKind.{NodeKind}
 use Rattle.nodes.specs.declared.kind.NodeRecord.{NodeRecord}
-use Rattle.reading.specs.Blocks as blocks
 use Rattle.graph.specs.Board.{blank, Parsed}
 use Rattle.context.specs.Memory.{kindAt, freshFrom, freshValues}
 use Rattle.context.specs.Reading.{silence, samplesOf}
-use Rattle.context.specs.Instance.{Cells, boardOf, memoryRules, cellIn, shownTo, shown}
+use Rattle.context.specs.Instance.{memoryRules, freshCells, cellIn, shownTo, shown}
 use Rattle.context.proofs.ShownCells.{channels-are}
 
 -- ---- a fresh cell
@@ -54,22 +53,19 @@ fresh-append N (r ∷ rs) ts =
     ∙ sym (append-assoc (valuesOf (freshCell N (r .kind))) (freshFrom N rs) (freshFrom N ts))
 
 module _ (p : Parsed) where
-  abbrev fresh : Cells
-  fresh = blocks.freshCells (boardOf p) (memoryRules p)
-
-  pub fresh-cell : (k : ℕ) → freshCell (p .size) (kindAt p k) ≡ cellIn p fresh k
+  pub fresh-cell : (k : ℕ) → freshCell (p .size) (kindAt p k) ≡ cellIn p (freshCells p) k
   unfolding freshCell memoryRules
   fresh-cell k = λ i. record { state = freshCell (p .size) (kindAt p k) .state; samples = sym (silent (kindAt p k) (p .size)) i }
 
-  fresh-to : (m : ℕ) → m ≤ length (p .nodes) → freshFrom (p .size) (take m (p .nodes)) ≡ shownTo p fresh m
+  fresh-to : (m : ℕ) → m ≤ length (p .nodes) → freshFrom (p .size) (take m (p .nodes)) ≡ shownTo p (freshCells p) m
   fresh-to zero h = refl
   fresh-to (suc m) h =
       let r : NodeRecord = getD (p .nodes) m blank in
-      let cell : freshFrom (p .size) (r ∷ []) ≡ valuesOf (cellIn p fresh m) = append-nil (valuesOf (freshCell (p .size) (r .kind))) ∙ ap valuesOf (fresh-cell m) in
+      let cell : freshFrom (p .size) (r ∷ []) ≡ valuesOf (cellIn p (freshCells p) m) = append-nil (valuesOf (freshCell (p .size) (r .kind))) ∙ ap valuesOf (fresh-cell m) in
       ap (freshFrom (p .size)) (take-suc (p .nodes) m blank h)
       ∙ fresh-append (p .size) (take m (p .nodes)) (r ∷ [])
       ∙ (λ i. fresh-to m (omega arith) i ++ cell i)
 
-  pub fresh-shown : freshValues p ≡ shown p (blocks.freshCells (boardOf p) (memoryRules p))
+  pub fresh-shown : freshValues p ≡ shown p (freshCells p)
   unfolding freshValues
   fresh-shown = ap (freshFrom (p .size)) (sym (take-length (p .nodes))) ∙ fresh-to (length (p .nodes)) (omega arith)

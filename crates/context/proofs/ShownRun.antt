@@ -33,8 +33,8 @@ use Rattle.reading.proofs.Table.{put-same, put-other, map-agree, mem-at}
 use Rattle.graph.specs.Sources.{addAll, distinct, distinctSources, secondSource}
 use Rattle.graph.specs.Board.{blank, Parsed}
 use Rattle.context.specs.Memory.{nodeAt, kindAt, leftStart, rightStart, lefts, rights, broughtBy, runNode}
-use Rattle.context.specs.Reading.{Call, silence, rightSample, samplesOf}
-use Rattle.context.specs.Instance.{Cells, boardOf, memoryRules, frameOf, broughtFrom, cellIn, shown}
+use Rattle.context.specs.Reading.{silence, rightSample, samplesOf}
+use Rattle.context.specs.Instance.{Cells, netOf, memoryRules, frameOf, broughtFrom, cellIn, shown}
 use Rattle.context.specs.Fine.{Fine}
 use Rattle.graph.proofs.RoundSources.{mem-distinct}
 use Rattle.context.proofs.FineBoard.{source-there}
@@ -71,7 +71,7 @@ second-source ws k h = mem-at (sources ws k) 1 (omega (arith, all-fewer (sources
 
 -- the frames that stand at place i
 abbrev placeIn : Parsed → Cells → ℕ → ℕ → Frame
-placeIn p c i a = blocks.place (boardOf p) c a i
+placeIn p c i a = blocks.place (netOf p) c a i
 
 module _ (p : Parsed) (fine : Fine p) (k : ℕ) where
   abbrev srcs : List ℕ
@@ -208,8 +208,8 @@ cell-values N k d e =
 -- ---- one node
 
 module _ (p : Parsed) (k : ℕ) where
-  abbrev B : theory.Board Call Frame ℕ
-  B = boardOf p
+  abbrev B : theory.Net Frame
+  B = netOf p
 
   abbrev R : theory.Rules Frame State ℕ
   R = memoryRules p
@@ -233,7 +233,7 @@ module _ (p : Parsed) (k : ℕ) where
   abbrev ran : Cells → ℕ → Cells
   ran c i = blocks.runNode B R k i c
 
-  pub others-stay : (c : Cells) (i j : ℕ) → j ≢ k → blocks.runNode (boardOf p) (memoryRules p) k i c j ≡ c j
+  pub others-stay : (c : Cells) (i j : ℕ) → j ≢ k → blocks.runNode (netOf p) (memoryRules p) k i c j ≡ c j
   others-stay c zero j n = refl
   others-stay c (suc i) j n = put-other (ran c i) k (stepped (ran c i) i) n ∙ others-stay c i j n
 
@@ -241,7 +241,7 @@ module _ (p : Parsed) (k : ℕ) where
   own-long c h zero = h
   own-long c h (suc i) = step-long (ran c i) i (own-long c h i)
 
-  pub run-long : (c : Cells) → Long p c → (i : ℕ) → Long p (blocks.runNode (boardOf p) (memoryRules p) k i c)
+  pub run-long : (c : Cells) → Long p c → (i : ℕ) → Long p (blocks.runNode (netOf p) (memoryRules p) k i c)
   run-long c long i j = go (ℕ-discrete j k)
     where
       go : Dec (j ≡ k) → LongCell p j (ran c i j)
@@ -263,7 +263,7 @@ module _ (p : Parsed) (fine : Fine p) (c : Cells) (long : Long p c) (k : ℕ) (t
 
   -- one sample: d is the cells by then
   step-shown : (d : Cells) → LongCell p k (d k) → ((j : ℕ) → j ≢ k → d j ≡ c j) → (i : ℕ) → i < p .size
-      → cellHeld p k (blocks.runSample (boardOf p) (memoryRules p) k i d k) ≡ stepCell kind (p .size) bs i (cellIn p d k)
+      → cellHeld p k (blocks.runSample (netOf p) (memoryRules p) k i d k) ≡ stepCell kind (p .size) bs i (cellIn p d k)
   unfolding stepCell memoryRules
   step-shown d own others i small =
       let s : State = d k .state in
@@ -280,7 +280,7 @@ module _ (p : Parsed) (fine : Fine p) (c : Cells) (long : Long p c) (k : ℕ) (t
       ap (cellHeld p k) (step-own p k d i) ∙ (λ j. record { state = state j; samples = samples j })
 
   cell-shown : (i : ℕ) → i ≤ p .size
-      → cellHeld p k (blocks.runNode (boardOf p) (memoryRules p) k i c k) ≡ iter (stepCell kind (p .size) bs) i (cellIn p c k)
+      → cellHeld p k (blocks.runNode (netOf p) (memoryRules p) k i c k) ≡ iter (stepCell kind (p .size) bs) i (cellIn p c k)
   unfolding iter
   cell-shown zero h = refl
   cell-shown (suc i) h =
@@ -288,12 +288,12 @@ module _ (p : Parsed) (fine : Fine p) (c : Cells) (long : Long p c) (k : ℕ) (t
       ∙ ap (stepCell kind (p .size) bs i) (cell-shown i (omega arith))
 
   -- a node's block run
-  pub run-shown : runNode p k (shown p c) ≡ shown p (blocks.runNode (boardOf p) (memoryRules p) k (p .size) c)
+  pub run-shown : runNode p k (shown p c) ≡ shown p (blocks.runNode (netOf p) (memoryRules p) k (p .size) c)
   unfolding runNode nodeRun runCell
   run-shown =
       let at : ℕ = nodeAt p k .cell in
       let size : ℕ = cellSize (p .size) kind in
-      let after : Cells = blocks.runNode (boardOf p) (memoryRules p) k (p .size) c in
+      let after : Cells = blocks.runNode (netOf p) (memoryRules p) k (p .size) c in
       let cell : cellOf (p .size) kind (part (shown p c) at size) ≡ cellIn p c k =
       ap (cellOf (p .size) kind) (shown-part p fine c long k there)
       ∙ cell-values (p .size) kind (cellIn p c k) (samples-length kind (c k .samples) (p .size) (long k .samples)) in
@@ -303,6 +303,6 @@ module _ (p : Parsed) (fine : Fine p) (c : Cells) (long : Long p c) (k : ℕ) (t
       ∙ shown-agree p (put c k (after k)) after (length (p .nodes)) (λ j l. put-after j (ℕ-discrete j k))
     where
       put-after : (j : ℕ) → Dec (j ≡ k)
-          → put c k (blocks.runNode (boardOf p) (memoryRules p) k (p .size) c k) j ≡ blocks.runNode (boardOf p) (memoryRules p) k (p .size) c j
+          → put c k (blocks.runNode (netOf p) (memoryRules p) k (p .size) c k) j ≡ blocks.runNode (netOf p) (memoryRules p) k (p .size) c j
       put-after j (yes e) = put-same c k (ran p k c (p .size) k) e ∙ ap (ran p k c (p .size)) (sym e)
       put-after j (no n) = put-other c k (ran p k c (p .size) k) n ∙ sym (others-stay p k c (p .size) j n)

@@ -6,9 +6,9 @@
 -- Assumes nothing.
 use Prim.Native.Nat.{ℕ, suc, _+_, _*_, _/_, _%_, _≤_, _<_}
 use mathlib.Core.Path.{_≡_, refl, sym, ap, subst, _∙_}
-use mathlib.Core.Logic.{_≢_, inl}
+use mathlib.Core.Logic.{_≢_, inl, ⊎-elim}
 use mathlib.Core.Bool.{Bool, true, false, cond, _&&_, _||_, false≢true}
-use mathlib.Core.List.{List, [], _∷_, map}
+use mathlib.Core.List.{List, [], _∷_, _++_, map}
 use native.Mathlib.Nat.{div-add-mod', div-lt-iff-lt-mul, mod-lt, zero-add}
 use native.Mathlib.Omega.{arith}
 use borrow.Author.Tests.{eqb-true}
@@ -20,23 +20,27 @@ use Rattle.nodes.specs.Rule.{Frame}
 use Rattle.nodes.specs.History.{Heard}
 use Rattle.nodes.specs.declared.kind.NodeRecord.{NodeRecord}
 use Rattle.nodes.proofs.Kept.{both}
-use Rattle.reading.specs.Table.{mem, tab}
+use Rattle.nodes.proofs.HistoryFrames.{map-tab}
+use Rattle.reading.specs.Table.{mem, tab, All}
 use Rattle.reading.specs.Order.{Wire, Each, late}
 use Rattle.reading.specs.Visit.{start}
-use Rattle.reading.specs.Keeps.{All}
+use Rattle.reading.specs.Effect.{Effect, blocks, wiringAfter, heard}
+use Rattle.reading.specs.Time.{Timed, blockAgo, lastBlock}
 use Rattle.reading.specs.Tail.{sumOf, NoLate}
 use Rattle.reading.proofs.Table.{tab-agree, getD-tab}
 use Rattle.reading.proofs.Order.{each-source}
+use Rattle.reading.proofs.Effect.{blocks-append}
+use Rattle.reading.proofs.Solution.{earlier-block}
 use Rattle.reading.proofs.Tail.{tail}
 use Rattle.graph.specs.Answer.{answer}
-use Rattle.graph.specs.Board.{Parsed, Reading, blank, going, refused, whole}
+use Rattle.graph.specs.Board.{Parsed, Progress, blank, going, refused, whole}
 use Rattle.graph.specs.Judge.{readBoard, answerBy}
 use Rattle.graph.specs.Late.{isLate, lateWires}
 use Rattle.context.specs.Memory.{kindAt}
 use Rattle.context.specs.Calls.{listed}
-use Rattle.context.specs.Reading.{Call, block, message, Reply, Timed, silence, reached, IsReading, answerTo, accepts, accepted, inputs, end, outputs, repliesTo}
+use Rattle.context.specs.Reading.{Call, Reply, answerTo, effects, Fixed, accepted, outputs, replyTo, mono, silence, reached, end, inputAt, IsReading, repliesTo}
 use Rattle.context.specs.Claim.{Claim}
-use Rattle.context.specs.Instance.{sent, boardOf}
+use Rattle.context.specs.Instance.{netOf}
 use Rattle.context.specs.Fine.{Fine}
 use Rattle.graph.specs.Tail.{delays, onlyDelays, listedLines, endless, tailOf, tailAnswer}
 use Rattle.context.specs.Silence.{QuietInput, played, outputAt, Silent, Tailed}
@@ -44,11 +48,12 @@ use Rattle.graph.specs.declared.answer.Answer.{Answer}
 use Rattle.graph.proofs.Ending.{Ended, board-ends}
 use Rattle.graph.proofs.Lines.{tail-late, tail-on-time}
 use Rattle.context.proofs.FineBoard.{fine-board, lists}
-use Rattle.context.proofs.Lawful.{board-sound}
-use Rattle.context.proofs.Told.{end-sent, input-sent}
+use Rattle.context.proofs.Lawful.{net-orderly}
+use Rattle.context.proofs.ShownCall.{NumberFits, call-writes}
+use Rattle.context.proofs.DemandAfter.{accepted-fit}
 use Rattle.context.proofs.Demand.{board-claim}
 use Rattle.context.proofs.SilenceNodes.{ZeroFrame}
-use Rattle.context.proofs.SilenceLags.{Fits, accepted-fit, node-lags, sink-silent}
+use Rattle.context.proofs.SilenceLags.{node-lags, sink-silent}
 
 -- ---- a tail that is a figure
 
@@ -102,24 +107,21 @@ figure p other = go (eqb (length (lateWires (listed p) (p .wires))) 0) (onlyDela
 -- ---- node 0's samples, in every reading
 
 module _ (p : Parsed) (fine : Fine p) (f : Figure p) where
-  wires-in-time : NoLate (boardOf p)
+  wires-in-time : NoLate (netOf p)
   unfolding isLate
   wires-in-time k a m e =
       let w = each-source (λ w. isLate (listed p) w ≡ false) (p .wires) (none-late (listed p) (p .wires) (f .in-time)) k a e in
       ap (λ (b : Bool). b && late (listed p) a k) (sym (ap (λ (b : Bool). b && mem k (listed p)) (lists p fine .closed k a m e) ∙ m))
       ∙ (λ i. mem (sym (w .2) i) (listed p) && mem (sym (w .3) i) (listed p) && late (listed p) (sym (w .2) i) (sym (w .3) i)) ∙ w .1
 
-  module _ (es : List Call) (fit : All (Fits p) es) (s : Timed Frame) (u : Timed Heard) (reads : IsReading p es s u) (since : ℕ)
+  module _ (es : List (Effect Fixed ℕ ℕ)) (fit : All (NumberFits p) es) (s : Timed Frame) (u : Timed Heard) (reads : IsReading p es s u) (since : ℕ)
       (input : QuietInput p es since) where
     -- every listed node
     listed-zero : (k : ℕ) → reached p k ≡ true → (t : ℕ) → since + tailOf p ≤ t → t < end p es → ZeroFrame (s t k)
     listed-zero k there t l h =
-        tail (boardOf p) (map sent es) s ZeroFrame (λ j. lineOf (kindAt p j)) wires-in-time
+        tail (netOf p) (λ r. mono (inputAt p es r)) (end p es) s ZeroFrame (λ j. lineOf (kindAt p j)) wires-in-time
         (λ j m. node-lags p fine es fit s u reads j m (each-delays (p .nodes) (listed p) (f .only) j m) (λ a e. wires-in-time j a m e))
-        (board-sound p fine) since
-        (λ r m e. subst ZeroFrame (sym (input-sent p es r)) (input r m (subst (λ (n : ℕ). r < n) (end-sent p es) e), inl refl))
-        k there t (omega (arith, f .lines, lines-sum p (listed p)))
-        (subst (λ (n : ℕ). t < n) (sym (end-sent p es)) h)
+        (net-orderly p fine) since (λ r m e. (input r m e, inl refl)) k there t (omega (arith, f .lines, lines-sum p (listed p))) h
 
     -- and so node 0, whose zeros are +0
     sink-zero : (t : ℕ) → since + tailOf p ≤ t → t < end p es → s t 0 ≡ silence
@@ -131,51 +133,68 @@ module _ (p : Parsed) (fine : Fine p) (f : Figure p) where
 -- ---- the output blocks that the calls write
 
 -- g takes a reply's block of one channel, and w is the reading's samples of that channel
-module _ (p : Parsed) (s : Timed Frame) (g : Reply → List ℕ) (w : ℕ → ℕ)
-    (writes : (b : ℕ) (a : Answer) → g (outputs p s b a) ≡ unwords (tab (p .size) (λ i. w (b * p .size + i)))) where
+module _ (p : Parsed) (s : Timed Frame) (g : Reply → List ℕ) (channel : Frame → ℕ)
+    (writes : (a : Answer) (fs : List Frame) → g (outputs a fs) ≡ unwords (map channel fs)) where
   abbrev blockAt : ℕ → List ℕ
-  blockAt b = unwords (tab (p .size) (λ i. w (b * p .size + i)))
+  blockAt b = unwords (tab (p .size) (λ i. channel (s (b * p .size + i) 0)))
+
+  -- node 0's last block after b + 1 blocks is block b
+  last-at : (b : ℕ) → map channel (lastBlock (p .size) silence s (suc b) 0) ≡ tab (p .size) (λ i. channel (s (b * p .size + i) 0))
+  last-at b =
+      map-tab channel (p .size) (λ i. blockAgo (p .size) silence s (suc b * p .size + i) 0)
+      ∙ tab-agree (p .size) _ _ (λ i h. ap channel (earlier-block (p .size) silence s (suc b) i 0 h))
 
   -- the blocks that the accepted block runs write, where b have been accepted before
-  pub played-is : (cs : List Call) (b : ℕ) → map g (played p cs (repliesTo p s b cs)) ≡ tab (length (inputs (accepted p cs))) (λ j. blockAt (b + j))
-  unfolding played repliesTo accepted inputs
-  played-is [] b = refl
-  played-is (block x l r ∷ cs) b = go (accepts p (block x l r)) (played-is cs)
+  played-from : (v : Fixed) (cs : List Call) (b : ℕ)
+      → map g (played p cs (repliesTo p s b cs)) ≡ tab (blocks (heard (λ x c. effects p c) v cs)) (λ j. blockAt (b + j))
+  unfolding played repliesTo heard
+  played-from v [] b = refl
+  played-from v (c ∷ cs) b =
+      ⊎-elim
+      (λ z.
+      let n : b + 0 ≡ b = omega arith in
+      let m : 0 + blocks rest ≡ blocks rest = omega arith in
+      ap (λ (m : ℕ). shape m (b + m)) z
+      ∙ ap (λ (x : ℕ). map g (played p cs (repliesTo p s x cs))) n
+      ∙ played-from (wiringAfter v (effects p c)) cs b
+      ∙ ap (λ (x : ℕ). tab x (λ j. blockAt (b + j))) (sym (total z ∙ m)))
+      (λ w.
+      let n : b + 1 ≡ suc b = omega arith in
+      let m : 1 + blocks rest ≡ suc (blocks rest) = omega arith in
+      let z : b ≡ b + 0 = omega arith in
+      let head = ap g (w .1) ∙ writes (answerTo p c) (lastBlock (p .size) silence s (b + 1) 0)
+      ∙ ap (λ (x : ℕ). unwords (map channel (lastBlock (p .size) silence s x 0))) n ∙ ap unwords (last-at b) ∙ ap blockAt z in
+      let others = tab-agree (blocks rest) (λ j. blockAt (b + 1 + j)) (λ j. blockAt (b + suc j)) (λ j _. let e : b + 1 + j ≡ b + suc j = omega arith in ap blockAt e) in
+      ap (λ (m : ℕ). shape m (b + m)) (w .0)
+      ∙ (λ i. head i ∷ (played-from (wiringAfter v (effects p c)) cs (b + 1) ∙ others) i)
+      ∙ ap (λ (x : ℕ). tab x (λ j. blockAt (b + j))) (sym (total (w .0) ∙ m)))
+      (call-writes p c (lastBlock (p .size) silence s (b + 1) 0))
     where
-      a : Answer
-      a = answerTo p (block x l r)
+      rest : List (Effect Fixed ℕ ℕ)
+      rest = heard (λ x d. effects p d) (wiringAfter v (effects p c)) cs
 
-      reply : Bool → Reply
-      reply q = cond q (outputs p s b a) (record { answer = a; left = l; right = r })
+      -- where m blocks are run, and n have been run after the call
+      shape : ℕ → ℕ → List (List ℕ)
+      shape m n =
+          map g (cond (eqb m 0) (played p cs (repliesTo p s n cs)) (replyTo p c (lastBlock (p .size) silence s n 0) ∷ played p cs (repliesTo p s n cs)))
 
-      rest : ℕ → List Reply
-      rest n = played p cs (repliesTo p s n cs)
+      total : {n : ℕ} → blocks {W = Fixed} (effects p c) ≡ n → blocks (effects p c ++ rest) ≡ n + blocks rest
+      total e = blocks-append (effects p c) rest ∙ ap (λ (m : ℕ). m + blocks rest) e
 
-      go : (q : Bool) → ((n : ℕ) → map g (rest n) ≡ tab (length (inputs (accepted p cs))) (λ j. blockAt (n + j)))
-          → map g (cond q (reply q ∷ rest (cond q (suc b) b)) (rest (cond q (suc b) b)))
-          ≡ tab (length (inputs (cond q (block x l r ∷ accepted p cs) (accepted p cs)))) (λ j. blockAt (b + j))
-      go true ih =
-          let first : b ≡ b + 0 = omega arith in
-          let others = tab-agree (length (inputs (accepted p cs))) (λ j. blockAt (suc b + j)) (λ j. blockAt (b + suc j))
-          (λ j _. let e : suc b + j ≡ b + suc j = omega arith in ap blockAt e) in
-          λ i. (writes b a ∙ ap blockAt first) i ∷ (ih (suc b) ∙ others) i
-      go false ih = ih b
-  played-is (message k v ∷ cs) b = played-is cs b ∙ ap (λ (n : ℕ). tab n (λ j. blockAt (b + j))) (go (accepts p (message k v)))
-    where
-      go : (q : Bool) → length (inputs (accepted p cs)) ≡ length (inputs (cond q (message k v ∷ accepted p cs) (accepted p cs)))
-      go true = refl
-      go false = refl
+  pub played-is : (cs : List Call) (b : ℕ) → map g (played p cs (repliesTo p s b cs))
+      ≡ tab (blocks (accepted p cs)) (λ j. unwords (tab (p .size) (λ i. channel (s ((b + j) * p .size + i) 0))))
+  played-is cs b = played-from tt cs b
 
   -- so the output sample of a time is the reading's
-  output-is : 0 < p .size → (cs : List Call) (t : ℕ) → t < end p (accepted p cs) → outputAt p (map g (played p cs (repliesTo p s 0 cs))) t ≡ w t
+  output-is : 0 < p .size → (cs : List Call) (t : ℕ) → t < end p (accepted p cs) → outputAt p (map g (played p cs (repliesTo p s 0 cs))) t ≡ channel (s t 0)
   output-is pos cs t h =
       let N : ℕ = p .size in
       let b : ℕ = 0 + t / N in
       ap (λ (bs : List (List ℕ)). getD (words (getD bs (t / N) [])) (t % N) 1) (played-is cs 0)
-      ∙ ap (λ (l : List ℕ). getD (words l) (t % N) 1) (getD-tab (length (inputs (accepted p cs))) (λ j. blockAt (0 + j)) (t / N) [] (div-lt-iff-lt-mul pos .1 h))
-      ∙ ap (λ (l : List ℕ). getD l (t % N) 1) (words-unwords (tab N (λ i. w (b * N + i))))
-      ∙ getD-tab N (λ i. w (b * N + i)) (t % N) 1 (mod-lt t pos)
-      ∙ ap w (rw zero-add (div-add-mod' t N))
+      ∙ ap (λ (l : List ℕ). getD (words l) (t % N) 1) (getD-tab (blocks (accepted p cs)) (λ j. blockAt (0 + j)) (t / N) [] (div-lt-iff-lt-mul pos .1 h))
+      ∙ ap (λ (l : List ℕ). getD l (t % N) 1) (words-unwords (tab N (λ i. channel (s (b * N + i) 0))))
+      ∙ getD-tab N (λ i. channel (s (b * N + i) 0)) (t % N) 1 (mod-lt t pos)
+      ∙ ap (λ (r : ℕ). channel (s r 0)) (rw zero-add (div-add-mod' t N))
 
 -- ---- the theorem
 
@@ -189,8 +208,8 @@ falls-silent bytes b p e other cs since input = record {
       let same = claim .as-read s (claim .known) (claim .reads) order fit .replies in
       let zero-frame = quiet s (claim .known) (claim .reads) t l m in
       rw same (
-        output-is p s (λ r. r .left) (λ r. s r 0 .left) (λ n a. refl) (fine .least-size) cs t m ∙ ap (λ (f : Frame). f .left) zero-frame,
-        output-is p s (λ r. r .right) (λ r. s r 0 .right) (λ n a. refl) (fine .least-size) cs t m ∙ ap (λ (f : Frame). f .right) zero-frame,
+        output-is p s (λ r. r .left) (λ f. f .left) (λ a fs. refl) (fine .least-size) cs t m ∙ ap (λ (f : Frame). f .left) zero-frame,
+        output-is p s (λ r. r .right) (λ f. f .right) (λ a fs. refl) (fine .least-size) cs t m ∙ ap (λ (f : Frame). f .right) zero-frame,
       );
 }
   where
@@ -209,7 +228,7 @@ pub tail-holds : (bytes : List ℕ) → Bytes bytes → (n : ℕ) → tailAnswer
 unfolding tailAnswer
 tail-holds bytes b n = go (readBoard bytes) refl (board-ends bytes)
   where
-    go : (r : Reading) → readBoard bytes ≡ r → Ended r → answerBy tailOf r ≡ answer 0 n → n ≢ endless → Tailed bytes n
+    go : (r : Progress) → readBoard bytes ≡ r → Ended r → answerBy tailOf r ≡ answer 0 n → n ≢ endless → Tailed bytes n
     go (going at last p) e d a other = absurd (omega (arith, ap (λ (x : Answer). x .number) a))
     go (refused k w) e d a other = absurd (omega (arith, ap (λ (x : Answer). x .number) a))
     go (whole p) e d a other =

@@ -15,9 +15,9 @@ use lib.Dec.{lit<}
 use lib.Ieee.{Float, nan, inf, fin, binary32, unlike, ofBits, toBits, round, add, mul}
 use lib.Ieee.Fits.{down-pos}
 use lib.Ieee.Scale.{round-same}
+use Rattle.reading.specs.Table.{All}
 use Rattle.leaves.specs.Floors.{zeroF, finiteF}
 use Rattle.nodes.specs.Rule.{addTo, total}
-use Rattle.reading.specs.Keeps.{All}
 use Rattle.context.specs.Silence.{Zero}
 
 -- a zero of either sign

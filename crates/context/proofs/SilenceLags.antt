@@ -1,86 +1,49 @@
 -- In every reading of accepted calls a node of type 1 to 5 or 7 without late wires in turns zero at most its line's length after its sources
 -- and the input have.
---     accepted-fit    accepted messages bring numbers in range
---     number-fits     so a node's number is in range all along
+--     number-fits     a node's number is in range all along
 --     past-zero       what its line holds, once its sources are zero
 --     node-lags       the node
 --     sink-silent     a destination is then +0
 -- Assumes nothing.
 use Prim.Native.Nat.{ℕ, zero, suc, _+_, _-_, _/_, _%_, _≤_, _<_}
-use mathlib.Core.Path.{_≡_, refl, sym, ap, subst, _∙_}
+use mathlib.Core.Path.{_≡_, refl, sym, ap, _∙_}
 use mathlib.Core.Logic.{_≢_, inl}
 use mathlib.Core.Bool.{Bool, true, false, cond, false≢true}
-use mathlib.Core.List.{List, [], _∷_, map}
+use mathlib.Core.List.{List, [], _∷_}
 use native.Mathlib.Nat.{zero-mod}
 use native.Mathlib.Omega.{arith}
-use borrow.Author.Tests.{ltb-true, eqb-true, eqb-false}
+use borrow.Author.Tests.{ltb-true, eqb-true, eqb-false, ne-eqb}
 use lib.Dec.{eqb, ltb, leb}
 use lib.ListN.{length, getD, length-map}
 use lib.Ieee.{binary32, toBits}
-use lib.Ieee.Bits.{ofBits-fits}
 use Rattle.nodes.specs.Kind.{channelsOf, lineOf, sourcesFit}
 use Rattle.nodes.specs.Rule.{Brought, Frame, first, two, keeps}
-use Rattle.nodes.specs.Cell.{numberOf, numberFits}
-use Rattle.nodes.specs.History.{Heard, xs, freshHeard, setNumber, agoBy, lengthOf, sampleHeard, heardAfter}
+use Rattle.nodes.specs.Cell.{numberFits}
+use Rattle.nodes.specs.History.{Heard, xs, freshHeard, agoBy, lengthOf, sampleHeard, heardAfter}
 use Rattle.nodes.specs.declared.kind.NodeKind.{NodeKind}
 use Rattle.nodes.specs.declared.kind.NodeKind.the-variants.{Pass, Sum, Destination, Balance, Mul, Add, Delay, AllPass, OnePole, Sine}
-use Rattle.nodes.proofs.Kept.{value-number}
-use Rattle.reading.specs.Table.{mem}
+use Rattle.reading.specs.Table.{mem, All}
 use Rattle.reading.specs.Order.{sources, late}
-use Rattle.reading.specs.Keeps.{All}
-use Rattle.reading.specs.Flat as flat
+use Rattle.reading.specs.Effect.{Effect}
+use Rattle.reading.specs.Time.{Timed}
 use Rattle.reading.specs.Tail.{Lags}
-use Rattle.reading.proofs.Table.{mem-head}
-use Rattle.reading.proofs.Tail.{all-map, pass-silent}
+use Rattle.reading.proofs.Tail.{all-map, keeps-silent}
 use Rattle.graph.specs.Sources.{distinctSources, secondSource}
 use Rattle.graph.specs.Board.{blank, Parsed}
 use Rattle.context.specs.Memory.{kindAt}
 use Rattle.context.specs.Calls.{listed}
-use Rattle.context.specs.Reading.{mono, Call, block, message, valueOf, Timed, silence, reached, rightSample, accepts, accepted, numberIn, end, inputAt, numberAt, earlier, brings, broughtTo, heldAt, IsReading}
-use Rattle.context.specs.Instance.{sent, boardOf, broughtFrom, readingRules}
+use Rattle.context.specs.Reading.{mono, Fixed, silence, reached, rightSample, end, inputAt, agoN, brings, broughtTo, heldAt, IsReading}
+use Rattle.context.specs.Instance.{netOf}
 use Rattle.context.specs.Fine.{Fine}
 use Rattle.graph.specs.Tail.{delays}
 use Rattle.context.specs.Silence.{Zero, QuietInput}
 use Rattle.graph.proofs.RoundSources.{mem-distinct}
 use Rattle.context.proofs.FineBoard.{listed-there}
 use Rattle.context.proofs.ShownRun.{second-source}
-use Rattle.context.proofs.ShownCall.{message-given}
-use Rattle.context.proofs.Told.{end-sent, input-sent}
-use Rattle.context.proofs.DemandReading as reading
+use Rattle.context.proofs.ShownCall.{NumberFits}
+use Rattle.context.proofs.Told.{told-fits, told-xs, told-at-fits, told-at-xs}
 use Rattle.context.proofs.SilenceFloats.{ZeroFloat, zero-float, zero-pattern}
 use Rattle.context.proofs.SilenceNodes.{ZeroFrame, Quiet, at-least, line-wired, line-length, first-zero, sample-zero, destination-silent}
-
--- ---- messages
-
--- a message's value is in the range of its node's number
-abbrev pub Fits : Parsed → Call → Type 0
-Fits p (block x l r) = Unit {0}
-Fits p (message k w) = numberFits (kindAt p k) (toBits binary32 (valueOf w)) ≡ true
-
-call-fits : (p : Parsed) (c : Call) → accepts p c ≡ true → Fits p c
-call-fits p (block x l r) e = tt
-call-fits p (message k w) e = value-number (kindAt p k) (valueOf w) (ofBits-fits binary32 w) (message-given p k w e .1)
-
-pub accepted-fit : (p : Parsed) (cs : List Call) → All (Fits p) (accepted p cs)
-unfolding accepted
-accepted-fit p [] = tt
-accepted-fit p (c ∷ cs) = go (accepts p c) refl (accepted-fit p cs)
-  where
-    go : (b : Bool) → accepts p c ≡ b → All (Fits p) (accepted p cs) → All (Fits p) (cond b (c ∷ accepted p cs) (accepted p cs))
-    go true e rest = (call-fits p c e, rest)
-    go false e rest = rest
-
-number-in-fits : (p : Parsed) (es : List Call) → All (Fits p) es → (b k n : ℕ) → numberFits (kindAt p k) n ≡ true
-    → numberFits (kindAt p k) (numberIn es b k n) ≡ true
-unfolding numberIn
-number-in-fits p [] a b k n e = e
-number-in-fits p (block x l r ∷ es) a zero k n e = e
-number-in-fits p (block x l r ∷ es) a (suc b) k n e = number-in-fits p es (a .1) b k n e
-number-in-fits p (message j w ∷ es) a b k n e = number-in-fits p es (a .1) b k _ (go (eqb k j) refl)
-  where
-    go : (q : Bool) → eqb k j ≡ q → numberFits (kindAt p k) (cond q (toBits binary32 (valueOf w)) n) ≡ true
-    go true i = rw (eqb-true k j i) (a .0)
-    go false i = e
 
 -- ---- small facts
 
@@ -102,14 +65,9 @@ pass-keeps : (h : Heard) (held : Frame) (b : Brought) → length (b .left) ≡ 0
 unfolding sampleHeard keeps
 pass-keeps h held b e = rw e
 
-none-distinct : (l once : List ℕ) → ((a : ℕ) → mem a once ≡ mem a l) → length once ≡ 0 → l ≡ []
-none-distinct [] once same e = refl
-none-distinct (x ∷ l) [] same e = absurd (false≢true (same x ∙ mem-head x l))
-none-distinct (x ∷ l) (y ∷ once) same e = absurd (omega arith)
-
 -- ---- a reading
 
-module _ (p : Parsed) (fine : Fine p) (es : List Call) (fit : All (Fits p) es) (s : Timed Frame) (u : Timed Heard) (reads : IsReading p es s u)
+module _ (p : Parsed) (fine : Fine p) (es : List (Effect Fixed ℕ ℕ)) (fit : All (NumberFits p) es) (s : Timed Frame) (u : Timed Heard) (reads : IsReading p es s u)
     (k : ℕ) (there : reached p k ≡ true) where
   abbrev kind : NodeKind
   kind = kindAt p k
@@ -118,38 +76,33 @@ module _ (p : Parsed) (fine : Fine p) (es : List Call) (fit : All (Fits p) es) (
   inside = listed-there p fine k there
 
   -- the number is in range all along
-  number-at-fits : (t : ℕ) → numberFits kind (numberAt p es t k) ≡ true
-  number-at-fits t = number-in-fits p es fit (t / p .size) k (toBits binary32 (numberOf kind)) (fine .nodes k inside .number)
-
   number-fits : (t : ℕ) → t ≤ end p es → numberFits kind (u t k .number) ≡ true
-  unfolding setNumber
-  number-fits zero h = rw (reads .first k there) (number-at-fits 0)
-  number-fits (suc t) h = rw (reads .next t k h there) (number-at-fits (suc t))
+  unfolding freshHeard heardAfter
+  number-fits zero h = rw (reads .first k there) (told-fits p es fit 0 k (freshHeard kind) (fine .nodes k inside .number))
+  number-fits (suc t) h =
+      rw (reads .next t k h there) (told-at-fits p es (suc t) k (heardAfter kind (u t k) (broughtTo p s t k)) fit (number-fits t (omega arith)))
 
   -- what the node took
   xs-first : xs (u 0 k) ≡ []
-  unfolding freshHeard setNumber
-  xs-first = ap xs (reads .first k there)
+  unfolding freshHeard
+  xs-first = ap xs (reads .first k there) ∙ told-xs es 0 k (freshHeard kind)
 
   xs-next : (t : ℕ) → t < end p es → xs (u (suc t) k) ≡ toBits binary32 (first (broughtTo p s t k)) ∷ xs (u t k)
-  unfolding heardAfter setNumber
-  xs-next t h = ap xs (reads .next t k h there)
+  unfolding heardAfter
+  xs-next t h = ap xs (reads .next t k h there) ∙ told-at-xs p es (suc t) k (heardAfter kind (u t k) (broughtTo p s t k))
 
   -- ---- without late wires in
 
   module _ (in-time : (a : ℕ) → mem a (sources (p .wires) k) ≡ true → late (listed p) a k ≡ false) where
     -- a pass without sources that is not the input node is silent
     silent : kind ≡ Pass → length (distinctSources (p .wires) k) ≡ 0 → k ≢ p .input → (t : ℕ) → t < end p es → s t k ≡ silence
-    unfolding readingRules
-    silent pass bare other t h =
-        sym (reading.whole-reached p fine es s t k there)
-        ∙ pass-silent (boardOf p) (readingRules p) (map sent es) (reading.whole p fine es s) (reading.before p fine es s u) (reading.after p fine es s u)
-        (reading.reading-flat p fine es s u reads) k there (fine .least-size) other
-        (none-distinct (sources (p .wires) k) (distinctSources (p .wires) k) (λ a. mem-distinct a (sources (p .wires) k)) bare)
-        (λ i x held.
-        ap (λ (n : NodeKind). sampleHeard n x held (broughtFrom p k [])) pass
-        ∙ pass-keeps x held (broughtFrom p k []) (length-map (distinctSources (p .wires) k) _ ∙ bare))
-        t (subst (λ (n : ℕ). t < n) (sym (end-sent p es)) h)
+    silent pass bare other =
+        keeps-silent (p .size) silence s (end p es) k (fine .least-size)
+        (λ t h.
+        reads .sample t k h there
+        ∙ ap (λ (n : NodeKind). sampleHeard n (u t k) (heldAt p es s t k) (broughtTo p s t k)) pass
+        ∙ pass-keeps (u t k) (heldAt p es s t k) (broughtTo p s t k) (length-map (distinctSources (p .wires) k) _ ∙ bare)
+        ∙ ap (λ (b : Bool). cond b (mono (inputAt p es t)) (agoN p s t k)) (ne-eqb k (p .input) other))
 
   -- ---- once the input and the node's sources are zero
 
@@ -209,7 +162,7 @@ module _ (p : Parsed) (fine : Fine p) (es : List Call) (fit : All (Fits p) es) (
             rw (silent in-time (pass .0) bare other (t - p .size) (omega arith)) (inl refl, inl refl)
         before other false = (inl refl, inl refl)
 
-        go : (b : Bool) → eqb k (p .input) ≡ b → ZeroFrame (cond b (mono (inputAt p es t)) (earlier p s t k))
+        go : (b : Bool) → eqb k (p .input) ≡ b → ZeroFrame (cond b (mono (inputAt p es t)) (agoN p s t k))
         go true e = (input t l h, inl refl)
         go false e = before (eqb-false k (p .input) e) (leb (p .size) t)
 
@@ -236,10 +189,5 @@ module _ (p : Parsed) (fine : Fine p) (es : List Call) (fit : All (Fits p) es) (
 
   -- as the theory of the tail says it
   pub node-lags : delays kind ≡ true → ((a : ℕ) → mem a (sources (p .wires) k) ≡ true → late (listed p) a k ≡ false)
-      → Lags (boardOf p) (map sent es) s ZeroFrame (lineOf kind) k
-  node-lags only in-time since input zeros t l h =
-      node-zero in-time since (λ r m e. rw input-sent at (input r m (in-theory r e) .0)) (λ a w r m e. zeros a w r m (in-theory r e)) only t l
-      (subst (λ (n : ℕ). t < n) (end-sent p es) h)
-    where
-      in-theory : (r : ℕ) → r < end p es → r < flat.end (boardOf p) (map sent es)
-      in-theory r e = subst (λ (n : ℕ). r < n) (sym (end-sent p es)) e
+      → Lags (netOf p) (λ r. mono (inputAt p es r)) (end p es) s ZeroFrame (lineOf kind) k
+  node-lags only in-time since input zeros t l h = node-zero in-time since (λ r m e. input r m e .0) zeros only t l h

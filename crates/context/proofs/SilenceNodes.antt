@@ -4,7 +4,7 @@
 --     destination-silent    of a destination it is +0
 -- Assumes nothing.
 use Prim.Native.Nat.{ℕ, _≤_, _<_}
-use mathlib.Core.Path.{_≡_, refl, _∙_}
+use mathlib.Core.Path.{_≡_, refl}
 use mathlib.Core.Bool.{Bool, true, false, cond, false≢true}
 use mathlib.Core.List.{List, [], _∷_}
 use native.Mathlib.Omega.{arith}
@@ -12,8 +12,8 @@ use borrow.Author.Tests.{leb-true, lt-ltb, eqb-false}
 use lib.Dec.{leb}
 use lib.ListN.{length, getD}
 use lib.Ieee.{Float, nan, binary32, ofBits, toBits}
+use Rattle.reading.specs.Table.{All}
 use Rattle.leaves.specs.Floors.{finiteF}
-use Rattle.leaves.proofs.Patterns.{finite-pattern}
 use Rattle.nodes.specs.Kind.{lineOf, fewest, most, sourcesFit}
 use Rattle.nodes.specs.Node.{LineFits}
 use Rattle.nodes.specs.Rule.{Brought, Frame, first, two, operand, leftOf, rightOf, keeps}
@@ -22,7 +22,7 @@ use Rattle.nodes.specs.History.{Heard, xs, agoBy, lengthOf, leftHeard, sampleHe
 use Rattle.nodes.specs.declared.kind.NodeKind.{NodeKind}
 use Rattle.nodes.specs.declared.kind.NodeKind.the-variants.{Pass, Sum, Destination, Balance, Mul, Add, Delay, AllPass, OnePole, Sine}
 use Rattle.nodes.proofs.Kept.{both}
-use Rattle.reading.specs.Keeps.{All}
+use Rattle.nodes.proofs.Rows.{row-laws}
 use Rattle.graph.specs.Tail.{delays}
 use Rattle.context.specs.Reading.{silence}
 use Rattle.context.specs.Silence.{Zero}
@@ -54,16 +54,7 @@ at-least k n e = leb-true (fewest k) n (both (leb (fewest k) n) (leb n (most k))
 
 -- a node with a line has a source
 pub line-wired : (k : NodeKind) → 0 < lengthOf k → 0 < fewest k
-line-wired Pass h = h
-line-wired Sum h = h
-line-wired Destination h = h
-line-wired Balance h = omega arith
-line-wired (Mul f) h = omega arith
-line-wired (Add f) h = omega arith
-line-wired (Delay n) h = omega arith
-line-wired (AllPass n f) h = omega arith
-line-wired (OnePole f) h = omega arith
-line-wired (Sine f) h = h
+line-wired k = row-laws k .wired
 
 -- its line is as long as it reads back
 pub line-length : (k : NodeKind) → delays k ≡ true → lineOf k ≡ lengthOf k
@@ -103,7 +94,7 @@ module _ (h : Heard) (b : Brought) where
   left-zero Balance n e = first-zero b (n .brought) (omega (arith, at-least Balance (length (b .left)) (n .sources)))
   left-zero (Mul f) n e =
       product-zero (first b) (operand (ofBits binary32 (h .number)) b) (first-zero b (n .brought) (at-least (Mul f) (length (b .left)) (n .sources)))
-      (operand-finite b (n .brought) (ofBits binary32 (h .number)) (finite-pattern (h .number) ∙ n .number))
+      (operand-finite b (n .brought) (ofBits binary32 (h .number)) (n .number))
   left-zero (Add f) n e = absurd (false≢true (n .only))
   left-zero (Delay m) n e = n .oldest (n .line .0)
   left-zero (AllPass m f) n e = absurd (false≢true (n .only))

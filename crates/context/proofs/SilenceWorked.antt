@@ -51,7 +51,7 @@ abbrev said : List ℕ → Reply
 said x = record { answer = answer 0 0; left = x; right = x }
 
 pub echo-tail : tailAnswer (writeBoard echo) ≡ answer 0 3
-unfolding tailAnswer tailOf tailBy lateWires isLate visitingList writeBoard kindOf readBoard readRecords run stepOf takeFound foundAt foundOf ruleOf checkSources distinct
+unfolding tailAnswer tailOf tailBy lateWires isLate visitingList writeBoard kindOf readBoard readRecords run stepOf takeFound foundAt foundOf ruleOf ofBits checkSources distinct
 echo-tail = refl
 
 pub echo-blocks : replies (callIn listed (writeBoard echo)) three (freshMemory p)

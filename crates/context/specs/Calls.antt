@@ -7,12 +7,13 @@ use lib.ListN.{length, set}
 use lib.Dec.{eqb, ltb}
 use lib.Ieee.{Float, binary32, toBits}
 use Rattle.leaves.specs.Words.{words, unwords}
+use Rattle.leaves.specs.Floats.{finiteBits}
 use Rattle.leaves.specs.Parts.{part}
-use Rattle.nodes.specs.Kind.{finite}
 use Rattle.graph.specs.Answer.{answer}
-use Rattle.graph.specs.Board.{Parsed, Reading, going, refused, whole, memoryLength}
+use Rattle.graph.specs.Board.{Parsed, Progress, going, refused, whole, memoryLength}
 use Rattle.graph.specs.Judge.{readBoard}
 use Rattle.graph.specs.Visit.{visitingList}
+use Rattle.nodes.specs.Kind.{samplesFrom}
 use Rattle.nodes.specs.Cell.{takesNumber, valueFits}
 use Rattle.context.specs.Memory.{passed, nodeAt, kindAt, freshValues, checkCells, runBlock}
 use Rattle.graph.specs.declared.answer.Answer.{Answer}
@@ -57,19 +58,19 @@ checkBlocks p x l r = checkSizes (p .size) (length x) (length l) (length r)
 -- 10: the first infinite or NaN sample
 unfoldable pub checkSamples : ℕ → List ℕ → Answer
 checkSamples i [] = passed
-checkSamples i (w ∷ ws) = cond (finite w) (checkSamples (suc i) ws) (answer 10 i)
+checkSamples i (w ∷ ws) = cond (finiteBits w) (checkSamples (suc i) ws) (answer 10 i)
 
 -- ---- the calls
 
 -- a call on a board as it was read, which is never left going. The board's refusal is the answer, or that of the first check behind 6 that
 -- refuses, and every byte is as found (`found` of the answer); where all pass, the call has done its work
-abbrev pub callBy : {A : Type 0} → (Answer → A) → (Parsed → Answer) → (Parsed → A) → Reading → A
+abbrev pub callBy : {A : Type 0} → (Answer → A) → (Parsed → Answer) → (Parsed → A) → Progress → A
 callBy found check done (going at last p) = found (answer 1 at)
 callBy found check done (refused n w) = found (answer n w)
 callBy found check done (whole p) = cond (eqb (check p .number) 0) (done p) (found (check p))
 
 -- a call that changes the memory m only: where its checks pass, the memory has the values that `change` gives
-abbrev pub changeBy : List ℕ → (Parsed → Answer) → (Parsed → List ℕ) → Reading → Answer × List ℕ
+abbrev pub changeBy : List ℕ → (Parsed → Answer) → (Parsed → List ℕ) → Progress → Answer × List ℕ
 changeBy m check change = callBy (λ a. (a, m)) check (λ p. (passed, unwords (change p)))
 
 -- the fresh call writes the whole memory
@@ -89,8 +90,8 @@ ranBlock p o x m =
     record {
       answer = passed;
       memory = unwords ws;
-      left = unwords (part ws 3 (p .size));
-      right = unwords (part ws (3 + p .size) (p .size));
+      left = unwords (part ws samplesFrom (p .size));
+      right = unwords (part ws (samplesFrom + p .size) (p .size));
     }
 
 -- a block run in the order that `order` gives for a board

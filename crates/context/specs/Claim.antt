@@ -1,6 +1,6 @@
 -- Demand 3 as one claim: what the calls answer, write and leave, over every list of calls, is what the reading by samples says, in the
--- visiting list's order and in every other order that puts the source first on exactly the same wires. Definitions only; that `Demand`
--- holds of every board that the judge accepts is proved in proofs/Demand.antt.
+-- visiting list's order and in every other order that puts the source first on exactly the same wires. Part of what the statements
+-- say. Definitions only; that `Demand` holds of every board that the judge accepts is proved in proofs/Demand.antt.
 use Prim.Native.Nat.{ℕ}
 use mathlib.Core.Path.{_≡_}
 use mathlib.Core.List.{List, []}
@@ -9,13 +9,14 @@ use Rattle.leaves.specs.Words.{unwords}
 use Rattle.nodes.specs.Rule.{Frame}
 use Rattle.nodes.specs.History.{Heard}
 use Rattle.reading.specs.Order.{Reorders}
+use Rattle.reading.specs.Time.{Timed}
 use Rattle.reading.specs.Calls as calls
 use Rattle.graph.specs.Answer.{answer}
 use Rattle.graph.specs.Board.{Parsed, whole, memoryLength}
 use Rattle.graph.specs.Judge.{readBoard}
 use Rattle.context.specs.Memory.{freshValues}
 use Rattle.context.specs.Calls.{Outcome, freshOf, blockIn, messageOf, listed}
-use Rattle.context.specs.Reading.{Call, block, message, valueOf, Reply, Timed, IsReading, accepted, repliesTo, memoryAfter}
+use Rattle.context.specs.Reading.{Call, block, message, valueOf, Reply, IsReading, accepted, repliesTo, memoryAfter}
 
 -- ---- a call on a board's bytes and its memory
 

@@ -1,48 +1,49 @@
 -- A board's nodes as the general theory (crate reading) takes them: its `Board`, and its `Rules` twice, on what memory holds and on what the
--- reading knows. `shown` is the memory that cells stand for. Definitions only.
+-- reading knows. `shown` is the memory that cells stand for. Scaffolding, of which the statements say nothing. Definitions only.
 use Prim.Native.Nat.{ℕ}
 use mathlib.Core.Path.{_≡_}
 use mathlib.Core.Bool.{true, cond}
-use mathlib.Core.Option.{Option, none, some}
 use mathlib.Core.List.{List, [], _∷_, map}
-use lib.ListN.{length}
+use lib.ListN.{length, replicate}
 use lib.Dec.{eqb, ltb}
-use lib.Ieee.{nan, binary32, ofBits, toBits}
-use Rattle.leaves.specs.Words.{words, unwords}
+use lib.Ieee.{nan, binary32, ofBits}
+use Rattle.leaves.specs.Words.{unwords}
 use Rattle.nodes.specs.Kind.{channelsOf, lineOf}
+use Rattle.nodes.specs.declared.kind.NodeKind.{NodeKind}
 use Rattle.nodes.specs.Rule.{Brought, Frame, State, sampleBy, stateBy}
 use Rattle.nodes.specs.Cell.{Cell, valuesOf, freshCell, numberFits, carryFits, placeFits}
 use Rattle.nodes.specs.History.{Heard, freshHeard, setNumber, sampleHeard, heardAfter}
 use Rattle.reading.specs.Table.{joined}
-use Rattle.reading.specs.Order.{sources}
+use Rattle.reading.specs.Order.{Wire, sources}
+use Rattle.reading.specs.Effect.{Effect}
 use Rattle.reading.specs.Board as theory
 use Rattle.reading.specs.Blocks as blocks
 use Rattle.graph.specs.Sources.{distinctSources, secondSource}
 use Rattle.graph.specs.Board.{Parsed}
+use Rattle.graph.specs.Parts.{wired as withWires}
+use Rattle.graph.specs.Visit.{visitingList}
 use Rattle.context.specs.Memory.{kindAt}
 use Rattle.context.specs.Calls.{listed}
-use Rattle.context.specs.Reading.{Call, block, message, valueOf, accepts, mono, silence, rightSample, samplesOf, withNumber}
+use Rattle.context.specs.Reading.{mono, silence, rightSample, samplesOf, withNumber}
 
 -- ---- the board
 
--- what an accepted call asks
-abbrev pub sent : Call → theory.Call Frame ℕ
-sent (block x l r) = theory.block (map mono (words x))
-sent (message k w) = theory.message k (toBits binary32 (valueOf w))
+-- under the wiring that p has
+abbrev pub netOf : Parsed → theory.Net Frame
+netOf p = record { size = p .size; wires = p .wires; input = p .input; visit = listed p; silence = silence }
 
--- what a call asks, if it is accepted
-abbrev pub asks : Parsed → Call → Option (theory.Call Frame ℕ)
-asks p c = cond (accepts p c) (some (sent c)) none
-
-abbrev pub boardOf : Parsed → theory.Board Call Frame ℕ
-boardOf p = record {
+-- with p's nodes, and a wiring W that calls C may change
+abbrev pub boardWith : {C W : Type 0} → Parsed → W → (W → List Wire) → (W → C → List (Effect W ℕ ℕ)) → theory.Board C W ℕ Frame ℕ
+boardWith p first wires does = record {
   size = p .size;
-  wires = p .wires;
   input = p .input;
-  visit = listed p;
   sink = 0;
-  silence = silence;
-  accepts = asks p;
+  enter = mono;
+  quiet = 0;
+  first = first;
+  wires = wires;
+  visit = λ w. visitingList (wires w);
+  effects = does;
 }
 
 -- ---- the rules
@@ -80,19 +81,29 @@ readingRules p = record {
   set = λ k v h. setNumber v h;
 }
 
+-- under each wiring
+abbrev pub memoryWith : {W : Type 0} → Parsed → (W → List Wire) → W → theory.Rules Frame State ℕ
+memoryWith p wires w = memoryRules (withWires p (wires w))
+
+abbrev pub readingWith : {W : Type 0} → Parsed → (W → List Wire) → W → theory.Rules Frame Heard ℕ
+readingWith p wires w = readingRules (withWires p (wires w))
+
 -- ---- what holds all along
 
--- of node k's state: its line's length, and that its judged values are as they must be
-pub record Held (p : Parsed) (k : ℕ) (s : State) : Type 0 where
-  pub long : length (s .line) ≡ lineOf (kindAt p k)
-  pub number : numberFits (kindAt p k) (s .number) ≡ true
-  pub carry : carryFits (kindAt p k) (s .carry) ≡ true
-  pub place : placeFits (kindAt p k) (s .place) ≡ true
+-- of the state of a node: its line's length, and that its judged values are as they must be
+pub record Held (k : NodeKind) (s : State) : Type 0 where
+  pub long : length (s .line) ≡ lineOf k
+  pub number : numberFits k (s .number) ≡ true
+  pub carry : carryFits k (s .carry) ≡ true
+  pub place : placeFits k (s .place) ≡ true
 
 -- ---- the memory that cells stand for
 
 abbrev pub Cells : Type 0
 Cells = blocks.Cells Frame State
+
+abbrev pub freshCells : Parsed → Cells
+freshCells p k = record { state = (memoryRules p) .fresh k; samples = replicate (p .size) silence }
 
 abbrev pub cellIn : Parsed → Cells → ℕ → Cell
 cellIn p c k = record { state = c k .state; samples = samplesOf (channelsOf (kindAt p k)) (c k .samples) }

@@ -1,4 +1,5 @@
--- What the contracts of the calls cite, the reading by samples, and the claims.
+-- Memory and Calls: what the contracts of the calls say. Reading, Claim and Silence: what the theorems say. Fine, Parts and Instance: scaffolding
+-- of the code's inner contracts and of the proofs.
 pub mod Memory
 pub mod Fine
 pub mod Parts

@@ -4,6 +4,7 @@ use mathlib.Core.Bool.{cond}
 use mathlib.Core.List.{List, [], _∷_, _++_, map}
 use lib.ListN.{getD, drop}
 use lib.Seq.{paste}
+use Rattle.nodes.specs.Kind.{samplesFrom}
 use Rattle.nodes.specs.Rule.{Brought}
 use Rattle.nodes.specs.Cell.{valuesOf, freshCell, cellFits}
 use Rattle.nodes.specs.Node.{broughtAt, nodeRun}
@@ -29,10 +30,10 @@ kindAt p k = nodeAt p k .kind
 -- the value at which a node's samples start, and at which starts what the destination's channel 1 reads of it: a stereo node's channel 1,
 -- else channel 0
 abbrev pub leftStart : NodeRecord → ℕ
-leftStart r = r .cell + 3
+leftStart r = r .cell + samplesFrom
 
 abbrev pub rightStart : ℕ → NodeRecord → ℕ
-rightStart N r = r .cell + 3 + N * (r .channels - 1)
+rightStart N r = r .cell + samplesFrom + N * (r .channels - 1)
 
 abbrev pub lefts : Parsed → List ℕ
 lefts p = map leftStart (p .nodes)
@@ -76,7 +77,7 @@ runNodes p (k ∷ o) ws = runNodes p o (runNode p k ws)
 
 -- the input block goes into the input node's samples, listed or not
 unfoldable pub putInput : Parsed → List ℕ → List ℕ → List ℕ
-putInput p xs ws = paste ws (nodeAt p (p .input) .cell + 3) xs (p .size)
+putInput p xs ws = paste ws (nodeAt p (p .input) .cell + samplesFrom) xs (p .size)
 
 -- a block run with the nodes taken in the order o
 abbrev pub runBlock : Parsed → List ℕ → List ℕ → List ℕ → List ℕ

@@ -4,6 +4,7 @@ use mathlib.Core.Path.{_≡_}
 use mathlib.Core.List.{List, [], _∷_, map}
 use lib.ListN.{length, take}
 use Rattle.leaves.specs.Floats.{setFloat}
+use Rattle.nodes.specs.Kind.{samplesFrom}
 use Rattle.nodes.specs.Cell.{numberOf}
 use Rattle.nodes.specs.declared.kind.NodeRecord.{NodeRecord}
 use Rattle.graph.specs.Board.{memoryLength}
@@ -18,7 +19,7 @@ use Rattle.graph.specs.declared.graph.Order.{Order}
 
 -- the judged values of each of the first n nodes lie within so many bytes
 abbrev pub CellsIn : List NodeRecord → ℕ → ℕ → Type 0
-CellsIn nodes n long = (k : ℕ) → k < n → 4 * (nodeIn nodes k .cell + 3) ≤ long
+CellsIn nodes n long = (k : ℕ) → k < n → 4 * (nodeIn nodes k .cell + samplesFrom) ≤ long
 
 -- the start of a node's samples fits: it has one channel or two, and its cell starts among the values of the largest memory,
 -- 64 × (3 + 2 × 128) + 262,144

@@ -2,31 +2,34 @@
 -- good". Of a list of calls only the accepted block runs count time, block b the times b × N to b × N + N − 1; refused calls and number messages
 -- may stand anywhere among them. If the input samples from time `since` on are zeros, of either sign, then the outputs from time `since` plus
 -- the tail on are 0: those of every reading of the calls, and those that the calls write. They are +0, since a destination's sum starts at +0.
--- Definitions only; the theorem is in proofs/Silence.antt.
+-- Part of what the statements say. Definitions only; the theorem is in proofs/Silence.antt.
 use Prim.Native.Nat.{ℕ, _+_, _/_, _%_, _≤_, _<_}
 use mathlib.Core.Path.{_≡_}
 use mathlib.Core.Logic.{_⊎_}
 use mathlib.Core.Bool.{cond}
 use mathlib.Core.List.{List, [], _∷_, map}
 use lib.ListN.{getD}
+use lib.Dec.{eqb}
 use Rattle.leaves.specs.Words.{words}
 use Rattle.nodes.specs.Rule.{Frame}
 use Rattle.nodes.specs.History.{Heard}
 use Rattle.reading.specs.Order.{Reorders}
+use Rattle.reading.specs.Effect.{Effect, blocks}
+use Rattle.reading.specs.Time.{Timed}
 use Rattle.reading.specs.Calls.{replies}
 use Rattle.graph.specs.Board.{Parsed, whole}
 use Rattle.graph.specs.Judge.{readBoard}
 use Rattle.context.specs.Calls.{listed}
-use Rattle.context.specs.Reading.{Call, block, message, Reply, Timed, silence, IsReading, accepts, accepted, end, inputAt}
+use Rattle.context.specs.Reading.{Call, Reply, silence, IsReading, effects, Fixed, accepted, end, inputAt}
 use Rattle.context.specs.Claim.{callIn, freshMemory}
 
 -- the pattern of a zero, of either sign
 abbrev pub Zero : ℕ → Type 0
 Zero w = (w ≡ 0) ⊎ (w ≡ 0x8000_0000)
 
--- the input of the accepted calls cs is zero from time `since` on
-abbrev pub QuietInput : Parsed → List Call → ℕ → Type 0
-QuietInput p cs since = (t : ℕ) → since ≤ t → t < end p cs → Zero (inputAt p cs t)
+-- the input of accepted calls is zero from time `since` on
+abbrev pub QuietInput : Parsed → List (Effect Fixed ℕ ℕ) → ℕ → Type 0
+QuietInput p es since = (t : ℕ) → since ≤ t → t < end p es → Zero (inputAt p es t)
 
 -- ---- what the calls write
 
@@ -34,8 +37,7 @@ QuietInput p cs since = (t : ℕ) → since ≤ t → t < end p cs → Zero (inp
 unfoldable pub played : Parsed → List Call → List Reply → List Reply
 played p [] rs = []
 played p (c ∷ cs) [] = []
-played p (block x l r ∷ cs) (d ∷ rs) = cond (accepts p (block x l r)) (d ∷ played p cs rs) (played p cs rs)
-played p (message k w ∷ cs) (d ∷ rs) = played p cs rs
+played p (c ∷ cs) (d ∷ rs) = cond (eqb (blocks {W = Fixed} (effects p c)) 0) (played p cs rs) (d ∷ played p cs rs)
 
 -- the output sample of a time, of the blocks that they wrote on one channel; where there is none it is 1, and no zero
 abbrev pub outputAt : Parsed → List (List ℕ) → ℕ → ℕ

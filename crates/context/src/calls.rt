@@ -5,7 +5,7 @@ ghost use Prim.Native.Nat.{_+_, _*_, _≤_};
 ghost use lib.ListN.{length, take, drop, replicate};
 ghost use lib.Seq.{paste};
 ghost use Rattle.leaves.specs.Words.{words};
-ghost use Rattle.context.specs.Memory.{rightStart, checkCells, runNodes};
+ghost use Rattle.context.specs.Memory.{leftStart, rightStart, checkCells, runNodes};
 ghost use Rattle.context.specs.Calls.{andThen, checkNeeded, checkMemory, checkSizes, checkSamples, asLeft, listed, freshOf, blockOf};
 ghost use Rattle.graph.specs.Read.{parsedOf, Sound};
 ghost use Rattle.context.specs.Fine.{Fine};
@@ -17,6 +17,7 @@ use graph::graph::visiting_list;
 use graph::judge::read_board;
 use leaves::bytes::wide;
 use leaves::bytes::word_at;
+use leaves::float::finite_bits;
 use leaves::float::store;
 use nodes::cell::cell_fits;
 use nodes::cell::number_of;
@@ -46,7 +47,7 @@ fn cells_judged(nodes: [NodeRecord; 64], count: usize, memory: &[u8]) -> Answer
     while i < count {
         let node = nodes[i];
         let kind = node.kind;
-        if cell_fits(memory, node.cell, kind) {
+        if cell_fits(memory, node.cell as usize, kind) {
             i += 1;
         } else {
             return Answer::new(8, i);
@@ -62,7 +63,7 @@ fn samples_judged(input: &[u8], size: usize) -> Answer
 {
     let mut i = 0;
     while i < size {
-        if word_at(input, i) % 2147483648 < 2139095040 {
+        if finite_bits(word_at(input, i)) {
             i += 1;
         } else {
             return Answer::new(10, i);
@@ -132,7 +133,7 @@ fn put_numbers(nodes: [NodeRecord; 64], count: usize, memory: &mut [u8])
     while i < count {
         let node = nodes[i];
         let kind = node.kind;
-        store(memory, node.cell, number_of(kind));
+        store(memory, node.cell as usize, number_of(kind));
         i += 1;
     }
 }
@@ -173,20 +174,26 @@ fn copy(from: &[u8], start: usize, to: &mut [u8], at: usize, count: usize)
     }
 }
 
-// Where what the destination's channel 1 reads of each node starts; for a size of 0, where its
-// channel 0 does.
-fn starts(nodes: [NodeRecord; 64], count: usize, size: usize) -> [usize; 64]
+// Where each node's samples start, and where what the destination's channel 1 reads of it does.
+fn starts(
+    nodes: [NodeRecord; 64],
+    count: usize,
+    size: usize,
+    lefts: &mut [usize; 64],
+    rights: &mut [usize; 64],
+)
     requires { ⌜ (length nodes ≡ 64) × (count ≤ 64) × (size ≤ 128) × StartsFit nodes count ⌝ }
-    ensures { λ r. ⌜ Starts (rightStart size) nodes count r ⌝ }
+    requires { ⌜ (length (now lefts) ≡ 64) × (length (now rights) ≡ 64) ⌝ }
+    ensures { λ _. ⌜ Starts leftStart nodes count (now (lefts .exit)) × Starts (rightStart size) nodes count (now (rights .exit)) ⌝ }
 {
-    let mut at = [0usize; 64];
     let mut i = 0;
     while i < count {
         let node = nodes[i];
-        at[i] = node.cell + 3 + size * (node.channels - 1);
+        let left = node.cell as usize + 3;
+        lefts[i] = left;
+        rights[i] = left + size * (wide(node.channels) - 1);
         i += 1;
     }
-    at
 }
 
 // The listed nodes, in order.
@@ -199,8 +206,9 @@ fn run(board: Board, order: Order, memory: &mut [u8])
     let lists = board.lists;
     let seconds = board.seconds;
     let listed = order.nodes;
-    let lefts = starts(nodes, board.count, 0);
-    let rights = starts(nodes, board.count, board.size);
+    let mut lefts = [0usize; 64];
+    let mut rights = [0usize; 64];
+    starts(nodes, board.count, board.size, &mut lefts, &mut rights);
     let mut x = [0.0f32; 128];
     let mut m = [0.0f32; 128];
     let mut i = 0;
@@ -245,7 +253,7 @@ pub fn block(s: &[u8], memory: &mut [u8], input: &[u8], out0: &mut [u8], out1: &
     let size = board.size;
     let k = board.input;
     let node = board.nodes[k];
-    copy(input, 0, memory, 4 * (node.cell + 3), 4 * size);
+    copy(input, 0, memory, 4 * (node.cell as usize + 3), 4 * size);
     let counts = board.counts;
     let lists = board.lists;
     run(board, visiting_list(&counts, &lists), memory);

@@ -44,7 +44,7 @@ pub fn put_number(board: Board, k: usize, value: f32, memory: &mut [u8])
     ensures { λ _. ⌜ words (now (memory .exit)) ≡ setNumber (parsedOf board) k value (words (now (memory .entry))) ⌝ }
 {
     let node = board.nodes[k];
-    store(memory, node.cell, value);
+    store(memory, node.cell as usize, value);
 }
 
 // The number message. Every check comes first, so a refusal leaves every byte as found.

@@ -18,6 +18,7 @@ use Rattle.nodes.specs.History.{Heard}
 use Rattle.nodes.specs.Rule.{Frame, total, leftOf, rightOf, keeps, carryAfter, get, xLine, yLine, placeAfter, lineAfter, sampleBy, stateBy}
 use Rattle.nodes.specs.Cell.{valuesOf, cellOf, numberOf, freshCell, numberFits, carryFits, placeFits, frameAt, putFrame, stepCell, runCell}
 use Rattle.nodes.specs.Node.{nodeRun}
+use Rattle.reading.specs.Time.{Timed}
 use Rattle.reading.specs.Calls.{replies, afterCalls}
 use Rattle.graph.specs.Record.{foundOf, foundAt}
 use Rattle.graph.specs.Sources.{distinct}
@@ -29,11 +30,11 @@ use Rattle.graph.specs.Write.{kindOf}
 use Rattle.wiring.specs.Rewire.{wiring, refusal, addedBoard, pulledBoard, addOf, pullOf}
 use Rattle.context.specs.Memory.{freshValues, checkCells, runNode, runNodes, putInput}
 use Rattle.context.specs.Calls.{checkSamples, blockIn, listed}
-use Rattle.context.specs.Reading.{Timed, block}
+use Rattle.context.specs.Reading.{block}
 use Rattle.context.specs.Claim.{freshMemory}
 use Rattle.context.proofs.DemandWorked.{one, ahead, half, quiet, said, p}
-use Rattle.demand.specs.Reading.{Lent, boardIn, Request, call, pull, accepted, IsReading, Said, replied, wired, repliesTo}
-use Rattle.demand.specs.Reading as request
+use Rattle.demand.specs.Requests.{Lent, boardIn, Request, call, pull, requested, IsRewired, Said, replied, wired, saidBy}
+use Rattle.demand.specs.Requests as request
 use Rattle.demand.specs.Claim.{requestIn}
 use Rattle.demand.proofs.Claim.{board-claim, own-order}
 
@@ -130,8 +131,8 @@ unfolding small
 lent-bytes = small-bytes (lent .bytes) refl
 
 reads : readBoard (boardIn lent) ≡ whole p
-unfolding kindOf readBoard readRecords run stepOf takeFound foundAt foundOf ruleOf checkSources distinct
+unfolding kindOf readBoard readRecords run stepOf takeFound foundAt foundOf ruleOf ofBits checkSources distinct
 reads = refl
 
-pub reading-says : (s : Timed Frame) (u : Timed Heard) → IsReading p lent (accepted p lent again) s u → repliesTo p s lent 0 again ≡ written
+pub reading-says : (s : Timed Frame) (u : Timed Heard) → IsRewired p lent (requested p lent again) s u → saidBy p s lent 0 again ≡ written
 reading-says s u r = sym (board-claim lent lent-bytes p reads again .as-read s u r listed (own-order p) .replies) ∙ answered

@@ -1,6 +1,7 @@
 -- Demand 3 with changes in its lists, as one claim: what the calls on the lent bytes answer, write and leave, over every list of requests, is
 -- what the reading by samples says, in the visiting lists' order and in every other, chosen for each board, that puts the source first on
--- exactly the same wires. Definitions only; that `Demand` holds of every board that the judge accepts is proved in proofs/Claim.antt.
+-- exactly the same wires. Part of what the statements say. Definitions only; that `RewiredDemand` holds of every board that the judge accepts is
+-- proved in proofs/Claim.antt.
 use Prim.Native.Nat.{ℕ, _+_, _-_}
 use mathlib.Core.Path.{_≡_}
 use mathlib.Core.Bool.{cond}
@@ -11,6 +12,8 @@ use Rattle.leaves.specs.Words.{Bytes}
 use Rattle.nodes.specs.Rule.{Frame}
 use Rattle.nodes.specs.History.{Heard}
 use Rattle.reading.specs.Order.{Wire, Reorders}
+use Rattle.reading.specs.Effect.{wiringAfter}
+use Rattle.reading.specs.Time.{Timed}
 use Rattle.reading.specs.Calls as calls
 use Rattle.graph.specs.Answer.{answer}
 use Rattle.graph.specs.Board.{Parsed, whole, memoryLength}
@@ -20,9 +23,8 @@ use Rattle.graph.specs.Visit.{visitingList}
 use Rattle.wiring.specs.Rewire.{addOf, pullOf}
 use Rattle.wiring.specs.declared.rewire.Wiring.{Wiring}
 use Rattle.context.specs.Calls.{freshOf, listed}
-use Rattle.context.specs.Reading.{Timed}
 use Rattle.context.specs.Claim.{callIn, freshMemory}
-use Rattle.demand.specs.Reading.{Lent, boardIn, Request, call, add, pull, accepted, IsReading, memoryAfter, lentLast, Said, replied, wired, repliesTo}
+use Rattle.demand.specs.Requests.{Lent, boardIn, Request, call, add, pull, requested, IsRewired, memoryThen, Said, replied, wired, saidBy}
 
 -- ---- a request on what is lent, board and memory
 
@@ -40,27 +42,27 @@ requestIn order (pull s t) (l, m) = ((lentBy l (pullOf (l .bytes) (l .used) s t)
 
 -- From fresh memory, each request on what the one before left, they do as the reading s, u says: every answer, visiting list and output block,
 -- and every byte of the memory and of what is lent.
-pub record AsRead (p : Parsed) (l : Lent) (cs : List Request) (s : Timed Frame) (u : Timed Heard) (order : Parsed → List ℕ) : Type 0 where
-  pub replies : calls.replies (requestIn order) cs (l, freshMemory p) ≡ repliesTo p s l 0 cs
-  pub left : calls.afterCalls (requestIn order) cs (l, freshMemory p) ≡ (lentLast l (accepted p l cs), memoryAfter p (accepted p l cs) s u)
+pub record AsRewired (p : Parsed) (l : Lent) (cs : List Request) (s : Timed Frame) (u : Timed Heard) (order : Parsed → List ℕ) : Type 0 where
+  pub replies : calls.replies (requestIn order) cs (l, freshMemory p) ≡ saidBy p s l 0 cs
+  pub left : calls.afterCalls (requestIn order) cs (l, freshMemory p) ≡ (wiringAfter l (requested p l cs), memoryThen p (requested p l cs) s u)
 
 -- an order for each accepted board with p's nodes
 abbrev pub Orders : Parsed → (Parsed → List ℕ) → Type 0
 Orders p order = (board : List ℕ) → Bytes board → (ws : List Wire) → readBoard board ≡ whole (withWires p ws)
     → Reorders ws (visitingList ws) (order (withWires p ws))
 
-pub record Claim (p : Parsed) (l : Lent) (cs : List Request) : Type 0 where
+pub record RewiredClaim (p : Parsed) (l : Lent) (cs : List Request) : Type 0 where
   -- there is a reading
   pub samples : Timed Frame
   pub known : Timed Heard
-  pub reads : IsReading p l (accepted p l cs) samples known
+  pub reads : IsRewired p l (requested p l cs) samples known
   -- and the calls do as any reading says, in whatever orders the block runs take the nodes
-  pub as-read : (s : Timed Frame) (u : Timed Heard) → IsReading p l (accepted p l cs) s u
-      → (order : Parsed → List ℕ) → Orders p order → AsRead p l cs s u order
+  pub as-read : (s : Timed Frame) (u : Timed Heard) → IsRewired p l (requested p l cs) s u
+      → (order : Parsed → List ℕ) → Orders p order → AsRewired p l cs s u order
 
 -- ---- demand 3 of what is lent
 
-pub record Demand (l : Lent) : Type 0 where
+pub record RewiredDemand (l : Lent) : Type 0 where
   -- the board is read
   pub parsed : Parsed
   pub reads : readBoard (boardIn l) ≡ whole parsed
@@ -69,4 +71,4 @@ pub record Demand (l : Lent) : Type 0 where
   -- the visiting lists are one choice of orders
   pub own : Orders parsed listed
   -- the claim holds of every list of requests
-  pub claim : (cs : List Request) → Claim parsed l cs
+  pub claim : (cs : List Request) → RewiredClaim parsed l cs

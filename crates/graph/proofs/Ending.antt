@@ -9,11 +9,11 @@ use lib.ListN.{length}
 use Rattle.leaves.specs.Bytes.{u16At, u32At}
 use Rattle.nodes.specs.Kind.{ruleOf, sourcesFit}
 use Rattle.nodes.specs.declared.kind.NodeRecord.{NodeRecord}
-use Rattle.nodes.specs.declared.kind.Rule.{Rule}
-use Rattle.nodes.specs.declared.kind.Rule.the-variants as rule
+use Rattle.nodes.specs.declared.kind.Fields.{Fields}
+use Rattle.nodes.specs.declared.kind.Fields.the-variants as fields
 use Rattle.graph.specs.Record.{foundAt}
 use Rattle.graph.specs.Sources.{distinctSources}
-use Rattle.graph.specs.Board.{Parsed, Reading, going, refused, whole, headed, linesOf, sizeFits, nodeFits, wireFits, nodeBy, takeFound, stepOf, run, readRecords}
+use Rattle.graph.specs.Board.{Parsed, Progress, going, refused, whole, headed, linesOf, sizeFits, nodeFits, wireFits, nodeBy, takeFound, stepOf, run, readRecords}
 use Rattle.graph.specs.Judge.{inputFits, checkSources, thenSix, readBoard}
 use Rattle.graph.specs.declared.record.Found.{Found}
 use Rattle.graph.specs.declared.record.Found.the-variants as found
@@ -21,21 +21,21 @@ use Rattle.graph.proofs.Choice.{pick}
 use Rattle.graph.proofs.Found.{Room, found-room}
 use Rattle.graph.proofs.Run.{run-done}
 
-abbrev pub Ended : Reading → Type 0
+abbrev pub Ended : Progress → Type 0
 Ended (going at last p) = ⊥
 Ended (refused n w) = 0 < n
 Ended (whole p) = Unit {0}
 
 module _ (s : List ℕ) where
   -- from an offset: on to a later one within the bytes, or to an end
-  abbrev Moves : ℕ → Reading → Type 0
+  abbrev Moves : ℕ → Progress → Type 0
   Moves at (going next last p) = (at < next) × (next ≤ length s)
   Moves at (refused n w) = 0 < n
   Moves at (whole p) = Unit {0}
 
-  node-moves : (at : ℕ) (p : Parsed) (r : Rule) → at + 14 ≤ length s → Moves at (nodeBy at p r)
-  node-moves at p rule.Broken h = omega arith
-  node-moves at p (rule.Is k) h = pick (Moves at) (nodeFits (length (p .nodes)) (linesOf (p .nodes)) k) _ _ (λ _. (omega arith, h)) (λ _. omega arith)
+  node-moves : (at : ℕ) (p : Parsed) (r : Fields) → at + 14 ≤ length s → Moves at (nodeBy at p r)
+  node-moves at p fields.Broken h = omega arith
+  node-moves at p (fields.Is k) h = pick (Moves at) (nodeFits (length (p .nodes)) (linesOf (p .nodes)) k) _ _ (λ _. (omega arith, h)) (λ _. omega arith)
 
   found-moves : (at last : ℕ) (p : Parsed) (f : Found) → Room (length s) at last f → Moves at (takeFound s at p f)
   unfolding takeFound
@@ -48,7 +48,7 @@ module _ (s : List ℕ) where
 
   -- what a step leads to ends, if every reading at a later offset does
   moved-ends : (n at : ℕ) → ((next last : ℕ) (p : Parsed) → at < next → next ≤ length s → Ended (run n s (going next last p)))
-      → (r : Reading) → Moves at r → Ended (run n s r)
+      → (r : Progress) → Moves at r → Ended (run n s r)
   moved-ends n at later (going next last p) m = later next last p (m .0) (m .1)
   moved-ends n at later (refused k w) m = subst Ended (sym (run-done s n (refused k w) tt)) m
   moved-ends n at later (whole p) m = subst Ended (sym (run-done s n (whole p) tt)) tt
@@ -69,7 +69,7 @@ module _ (s : List ℕ) where
   walk-ends p i [] = tt
   walk-ends p i (r ∷ rs) = pick Ended (sourcesFit (r .kind) (length (distinctSources (p .wires) i))) _ _ (λ _. walk-ends p (suc i) rs) (λ _. omega arith)
 
-  six-ends : (r : Reading) → Ended r → Ended (thenSix r)
+  six-ends : (r : Progress) → Ended r → Ended (thenSix r)
   six-ends (going at last p) d = d
   six-ends (refused n w) d = d
   six-ends (whole p) d =

@@ -11,12 +11,12 @@ use lib.ListN.{length, getD, length-append}
 use Rattle.leaves.specs.Bytes.{u16At, u32At}
 use Rattle.nodes.specs.Kind.{ruleOf, sourcesFit}
 use Rattle.nodes.specs.declared.kind.NodeRecord.{NodeRecord}
-use Rattle.nodes.specs.declared.kind.Rule.{Rule}
-use Rattle.nodes.specs.declared.kind.Rule.the-variants as rule
+use Rattle.nodes.specs.declared.kind.Fields.{Fields}
+use Rattle.nodes.specs.declared.kind.Fields.the-variants as fields
 use Rattle.reading.specs.Order.{Wire, Each}
 use Rattle.graph.specs.Record.{foundAt}
 use Rattle.graph.specs.Sources.{distinctSources}
-use Rattle.graph.specs.Board.{Parsed, Reading, going, refused, whole, wire, linesOf, headed, sizeFits, nodeFits, wireFits, nodeBy, wireBy, takeFound, stepOf, run, readRecords}
+use Rattle.graph.specs.Board.{Parsed, Progress, going, refused, whole, wire, linesOf, headed, sizeFits, nodeFits, wireFits, nodeBy, wireBy, takeFound, stepOf, run, readRecords}
 use Rattle.graph.specs.Judge.{inputFits, checkSources, checkSix, thenSix, readBoard}
 use Rattle.graph.specs.Write.{WireObeys}
 use Rattle.graph.specs.Formed.{Formed}
@@ -47,15 +47,15 @@ record Records (p : Parsed) : Type 0 where
 headed-formed : (N i : ℕ) → Records (headed N i)
 headed-formed N i = record { few-lines = omega arith; joins = tt }
 
-abbrev Good : Reading → Type 0
+abbrev Good : Progress → Type 0
 Good (going at last p) = Records p
 Good (refused n w) = Unit {0}
 Good (whole p) = Records p
 
 module _ (at : ℕ) (p : Parsed) (h : Records p) where
-  node-good : (r : Rule) → Good (nodeBy at p r)
-  node-good rule.Broken = tt
-  node-good (rule.Is k) =
+  node-good : (r : Fields) → Good (nodeBy at p r)
+  node-good fields.Broken = tt
+  node-good (fields.Is k) =
       let i = length (p .nodes) in
       let lines = linesOf (p .nodes) in
       pick Good (nodeFits i lines k) _ _
@@ -84,13 +84,13 @@ module _ (s : List ℕ) where
   found-good at p found.End h = pick Good (eqb (at + 4) (length s)) _ _ (λ _. h) (λ _. tt)
   found-good at p (found.Refused n) h = tt
 
-  step-good : (r : Reading) → Good r → Good (stepOf s r)
+  step-good : (r : Progress) → Good r → Good (stepOf s r)
   unfolding stepOf
   step-good (going at last p) g = found-good at p (foundAt s at last) g
   step-good (refused n w) g = tt
   step-good (whole p) g = g
 
-  run-good : (n : ℕ) (r : Reading) → Good r → Good (run n s r)
+  run-good : (n : ℕ) (r : Progress) → Good r → Good (run n s r)
   unfolding run
   run-good zero r g = g
   run-good (suc n) r g = run-good n (stepOf s r) (step-good r g)
@@ -102,11 +102,11 @@ module _ (s : List ℕ) where
 -- ---- check 6
 
 -- a choice that is not the refusal
-choice : (b : Bool) (n w : ℕ) {x : Reading} {p : Parsed} → cond b x (refused n w) ≡ whole p → (b ≡ true) × (x ≡ whole p)
+choice : (b : Bool) (n w : ℕ) {x : Progress} {p : Parsed} → cond b x (refused n w) ≡ whole p → (b ≡ true) × (x ≡ whole p)
 choice true n w e = (refl, e)
 choice false n w {x} {p} e = refused-is-not-whole n w p e
 
-other : (b : Bool) (n w : ℕ) {x : Reading} {p : Parsed} → cond b (refused n w) x ≡ whole p → (b ≡ false) × (x ≡ whole p)
+other : (b : Bool) (n w : ℕ) {x : Progress} {p : Parsed} → cond b (refused n w) x ≡ whole p → (b ≡ false) × (x ≡ whole p)
 other true n w {x} {p} e = refused-is-not-whole n w p e
 other false n w e = (refl, e)
 
@@ -143,7 +143,7 @@ six-formed q p h e =
       sources-fit = λ d i l. rw (zero-add i) at (all .1 d i l);
     })
 
-reading-formed : (r : Reading) (p : Parsed) → Good r → thenSix r ≡ whole p → Formed p
+reading-formed : (r : Progress) (p : Parsed) → Good r → thenSix r ≡ whole p → Formed p
 reading-formed (going at last q) p g e = going-is-not-whole at last q p e
 reading-formed (refused n w) p g e = refused-is-not-whole n w p e
 reading-formed (whole q) p g e = six-formed q p g e

@@ -3,16 +3,18 @@ use Prim.Native.Nat.{ℕ, suc, _+_, _≤_, _<_}
 use mathlib.Core.Path.{_≡_, refl, sym, ap, _∙_}
 use mathlib.Core.List.{List}
 use native.Mathlib.Nat.{suc-add}
+use native.Mathlib.Decide.{ℕ-discrete}
 use native.Mathlib.Omega.{arith}
 use lib.Dec.{eqb}
 use lib.ListN.{length, take, replicate}
-use lib.Seq.{length-take-le}
+use lib.Seq.{length-take-le, getD-take}
 use Rattle.nodes.specs.declared.kind.NodeRecord.{NodeRecord}
 use Rattle.graph.specs.Record.{foundAt}
 use Rattle.graph.specs.Sources.{Tabled}
 use Rattle.graph.specs.Wires.{wiresOf}
-use Rattle.graph.specs.Board.{Parsed, Reading, going, refused, whole, headed, endBy, takeFound, stepOf, run, readRecords}
-use Rattle.graph.specs.Parts.{orRefused, noded, madeOf, HeadRead, NodesRead, WiresRead}
+use Rattle.reading.specs.Order.{Wire}
+use Rattle.graph.specs.Board.{Parsed, Progress, going, refused, whole, blank, headed, endBy, takeFound, stepOf, run, readRecords}
+use Rattle.graph.specs.Parts.{orRefused, noded, madeOf, HeadRead, NodesRead, WiresRead, Counts}
 use Rattle.graph.specs.Read.{Sound, Read}
 use Rattle.graph.specs.declared.answer.Answer.{Answer}
 use Rattle.graph.specs.declared.record.Found.{Found}
@@ -29,10 +31,10 @@ use Rattle.graph.proofs.Parts.{step-one}
 use Rattle.graph.proofs.Tabling.{tabled-none}
 
 -- the same reading, written another way
-pub read-as : {v w : Reading} {b : Board} → w ≡ v → Read v b → Read w b
+pub read-as : {v w : Progress} {b : Board} → w ≡ v → Read v b → Read w b
 read-as e r = record { reading = e ∙ r .reading; sound = r .sound }
 
-abbrev start : Reading
+abbrev start : Progress
 start = going 0 0 (headed 0 0)
 
 -- an accepted head has its bytes
@@ -68,7 +70,7 @@ module _ (s : List ℕ) (h : Head) (head : HeadRead (stepOf s (going 0 0 (headed
           run-ends s (suc (suc (n .count))) _ (omega (arith, nodes .inside, nodes .next-is)) tt
           (after-head (n .count) ∙ nodes .reads (h .input) ∙ or-refuses (n .refused) _ other)
 
-      module _ (through : n .refused .number ≡ 0) (w : Wires) (wires : WiresRead s (n .next) (n .count) w) where
+      module _ (through : n .refused .number ≡ 0) (w : Wires) (ss ts : List ℕ) (wires : WiresRead s (n .next) (n .count) w ss ts) where
         board : Parsed
         board = noded (h .size) (h .input) (take (n .count) (n .nodes))
 
@@ -81,7 +83,7 @@ module _ (s : List ℕ) (h : Head) (head : HeadRead (stepOf s (going 0 0 (headed
             ∙ ap (run m s) (nodes .reads (h .input) ∙ or-accepts (n .refused) _ through)
             ∙ sym (run-suc s m (going (n .next) 3 board))
 
-        wires-read : run (suc (suc (n .count + w .count))) s start ≡ orRefused (w .refused) (endBy s (w .next) (madeOf h n w))
+        wires-read : run (suc (suc (n .count + w .count))) s start ≡ orRefused (w .refused) (endBy s (w .next) (madeOf h n (wiresOf ss ts (w .count))))
         unfolding board
         wires-read =
             let counted : length (take (n .count) (n .nodes)) ≡ n .count = length-take-le (n .count) (n .nodes) (omega (arith, nodes .few, nodes .long)) in
@@ -90,13 +92,22 @@ module _ (s : List ℕ) (h : Head) (head : HeadRead (stepOf s (going 0 0 (headed
         few : suc (suc (n .count + w .count)) ≤ suc (length s)
         few = omega (arith, nodes .next-is, wires .next-is, wires .inside)
 
-        pub wires-refuse : (w .refused .number ≡ 0 → ⊥) → readRecords s ≡ refused (w .refused .number) (w .refused .place)
+        wires-refuse : (w .refused .number ≡ 0 → ⊥) → readRecords s ≡ refused (w .refused .number) (w .refused .place)
         wires-refuse other = run-ends s (suc (suc (n .count + w .count))) _ few tt (wires-read ∙ or-refuses (w .refused) _ other)
 
-        pub ends : w .refused .number ≡ 0 → readRecords s ≡ endBy s (w .next) (madeOf h n w)
+        ends : w .refused .number ≡ 0 → readRecords s ≡ endBy s (w .next) (madeOf h n (wiresOf ss ts (w .count)))
         ends e =
             run-ends s (suc (suc (n .count + w .count))) _ few (pick Done (eqb (w .next + 4) (length s)) _ _ (λ _. tt) (λ _. tt))
             (wires-read ∙ or-accepts (w .refused) _ e)
+
+        -- what the records come to, with the answer of the end record or the refusal before it
+        pub made : (a : Answer) → ((p : Parsed) → orRefused (w .refused) (endBy s (w .next) p) ≡ orRefused a (whole p))
+            → readRecords s ≡ orRefused a (whole (madeOf h n (wiresOf ss ts (w .count))))
+        made a e = go (ℕ-discrete (w .refused .number) 0) ∙ e (madeOf h n (wiresOf ss ts (w .count)))
+          where
+            go : Dec (w .refused .number ≡ 0) → readRecords s ≡ orRefused (w .refused) (endBy s (w .next) (madeOf h n (wiresOf ss ts (w .count))))
+            go (yes q) = ends q ∙ sym (or-accepts (w .refused) _ q)
+            go (no q) = wires-refuse q ∙ sym (or-refuses (w .refused) _ q)
 
 -- a refused board, empty
 pub refusal-read : (a : Answer) (nodes : List NodeRecord) → length nodes ≡ 64 → 0 < a .number
@@ -133,10 +144,9 @@ refusal-read a nodes long h = record {
 }
 
 -- the board that the parts make
-pub made-read : (s : List ℕ) (h : Head) (n : Nodes) (w : Wires) (counts lists seconds : List ℕ) (a : Answer)
-    → (h .size ≤ 128) × (h .input < 65536) → NodesRead s (h .size) n → WiresRead s (n .next) (n .count) w
-    → Tabled (wiresOf (w .sources) (w .targets) (w .count)) counts lists seconds → endBy s (w .next) (madeOf h n w) ≡ orRefused a (whole (madeOf h n w))
-    → Read (endBy s (w .next) (madeOf h n w)) (record {
+pub made-sound : (s : List ℕ) (h : Head) (n : Nodes) (w : Wires) (ss ts counts lists seconds : List ℕ) (a : Answer)
+    → (h .size ≤ 128) × (h .input < 65536) → NodesRead s (h .size) n → WiresRead s (n .next) (n .count) w ss ts → Tabled (wiresOf ss ts (w .count)) counts lists seconds
+    → Sound (record {
       refused = a;
       size = h .size;
       input = h .input;
@@ -144,57 +154,35 @@ pub made-read : (s : List ℕ) (h : Head) (n : Nodes) (w : Wires) (counts lists 
       nodes = n .nodes;
       values = n .values;
       wires = w .count;
-      sources = w .sources;
-      targets = w .targets;
+      sources = ss;
+      targets = ts;
       counts = counts;
       lists = lists;
       seconds = seconds;
     })
-made-read s h n w counts lists seconds a small nodes wires table e = record {
-  reading = e;
-  sound = record {
-    nodes-long = nodes .long;
-    sources-long = wires .sources-long;
-    targets-long = wires .targets-long;
-    few-nodes = nodes .few;
-    few-wires = wires .few;
-    small-size = small .0;
-    small-input = small .1;
-    values-sum = nodes .sum;
-    few-values = nodes .small;
-    sources-in = wires .sources-in;
-    targets-in = wires .targets-in;
-    table = table;
-  };
+made-sound s h n w ss ts counts lists seconds a small nodes wires table = record {
+  nodes-long = nodes .long;
+  sources-long = wires .sources-long;
+  targets-long = wires .targets-long;
+  few-nodes = nodes .few;
+  few-wires = wires .few;
+  small-size = small .0;
+  small-input = small .1;
+  values-sum = nodes .sum;
+  few-values = nodes .small;
+  sources-in = wires .sources-in;
+  targets-in = wires .targets-in;
+  table = table;
 }
 
--- a board with another answer
-pub sound-answered : (b : Board) (a : Answer) → Sound b
-    → Sound (record {
-      refused = a;
-      size = b .size;
-      input = b .input;
-      count = b .count;
-      nodes = b .nodes;
-      values = b .values;
-      wires = b .wires;
-      sources = b .sources;
-      targets = b .targets;
-      counts = b .counts;
-      lists = b .lists;
-      seconds = b .seconds;
-    })
-sound-answered b a h = record {
-  nodes-long = h .nodes-long;
-  sources-long = h .sources-long;
-  targets-long = h .targets-long;
-  few-nodes = h .few-nodes;
-  few-wires = h .few-wires;
-  small-size = h .small-size;
-  small-input = h .small-input;
-  values-sum = h .values-sum;
-  few-values = h .few-values;
-  sources-in = h .sources-in;
-  targets-in = h .targets-in;
-  table = h .table;
-}
+-- what check 6 is given of it
+pub made-counts : (s : List ℕ) (h : Head) (n : Nodes) (ws : List Wire) (counts lists seconds : List ℕ) → NodesRead s (h .size) n → Tabled ws counts lists seconds
+    → Counts (madeOf h n ws) (n .fewest) (n .most) counts
+made-counts s h n ws counts lists seconds nodes table =
+    let long : length (take (n .count) (n .nodes)) ≡ n .count = length-take-le (n .count) (n .nodes) (omega (arith, nodes .few, nodes .long)) in
+    record {
+      bounds = λ i b.
+          let below : i < n .count = omega (arith, long) in
+          rw (getD-take (n .count) (n .nodes) i blank below) (nodes .bounds i below);
+      counted = λ i b. table .counted i (omega (arith, long, nodes .few));
+    }

@@ -4,6 +4,7 @@ pub mod Stores
 pub mod Sums
 pub mod Fits
 pub mod Found
+pub mod Lending
 pub mod Run
 pub mod Wiring
 pub mod Answers

@@ -2,28 +2,28 @@
 use Prim.Native.Nat.{ℕ, suc, _+_, _*_, _≤_, _<_}
 use mathlib.Core.Path.{_≡_, refl, sym, ap, subst, _∙_}
 use mathlib.Core.List.{List, [], _∷_, _++_}
+use native.Mathlib.Decide.{ℕ-discrete}
 use native.Mathlib.Numerals.{add-one}
 use native.Mathlib.Omega.{arith}
-use lib.ListN.{length, take, set, length-set}
-use lib.Seq.{length-take-le, take-suc-set}
-use Rattle.nodes.specs.Kind.{lineOf, channelsOf}
+use lib.ListN.{length, getD, take, set, length-set}
+use lib.Seq.{length-take-le, take-suc-set, getD-set-same, getD-set-other}
+use Rattle.leaves.specs.Bytes.{u16At}
+use Rattle.nodes.specs.Kind.{lineOf, channelsOf, fewest, most}
 use Rattle.nodes.specs.declared.kind.NodeKind.{NodeKind}
 use Rattle.nodes.specs.declared.kind.NodeRecord.{NodeRecord}
 use Rattle.reading.specs.Order.{Wire}
 use Rattle.graph.specs.Answer.{answer}
 use Rattle.graph.specs.Record.{foundAt}
-use Rattle.graph.specs.Board.{Parsed, going, refused, headed, linesOf, cellsOf, stepOf, run}
+use Rattle.graph.specs.Board.{Parsed, going, refused, blank, headed, linesOf, cellsOf, stepOf, run}
 use Rattle.graph.specs.Wires.{Within, wiresOf}
-use Rattle.graph.specs.Parts.{noded, wired, nodeRead, wireRead, NodesRead, WiresRead}
+use Rattle.graph.specs.Parts.{noded, wired, nodeRead, Bounds, NodesRead, WiresRead}
 use Rattle.graph.specs.declared.answer.Answer.{Answer}
 use Rattle.graph.specs.declared.board.NodeRead.{NodeRead}
 use Rattle.graph.specs.declared.board.NodeRead.the-variants as node
-use Rattle.graph.specs.declared.board.WireRead.{WireRead}
-use Rattle.graph.specs.declared.board.WireRead.the-variants as wire
 use Rattle.graph.proofs.Sums.{lines-snoc, cells-snoc, samples-few}
 use Rattle.graph.proofs.Run.{run-next}
 use Rattle.graph.proofs.Wiring.{wires-length, wires-stored, within-more}
-use Rattle.graph.proofs.Parts.{NodeStep, node-step, WireStep, wire-step}
+use Rattle.graph.proofs.Parts.{NodeStep, node-step, WireHere, WireEnds}
 
 -- one element more in an array that is filled from the front
 filled : {A : Type 0} (l : List A) (i : ℕ) (a : A) → i < length l → take (i + 1) (set l i a) ≡ take i l ++ (a ∷ [])
@@ -31,10 +31,13 @@ filled l i a h = rw add-one (take-suc-set l i a h)
 
 -- ---- the nodes
 
-pub record NodesSoFar (s : List ℕ) (N : ℕ) (nodes : List NodeRecord) (count lines values next : ℕ) : Type 0 where
+pub record NodesSoFar (s : List ℕ) (N : ℕ) (nodes : List NodeRecord) (least top : List ℕ) (count lines values next : ℕ) : Type 0 where
   pub reads : (i : ℕ) → run count s (going 8 2 (headed N i)) ≡ going next 2 (noded N i (take count nodes))
   pub long : length nodes ≡ 64
+  pub least-long : length least ≡ 64
+  pub top-long : length top ≡ 64
   pub few : count ≤ 64
+  pub bounds : (i : ℕ) → i < count → Bounds (getD nodes i blank) (getD least i 0) (getD top i 0)
   pub lines-sum : lines ≡ linesOf (take count nodes)
   pub few-lines : lines ≤ 262144
   pub values-sum : values ≡ cellsOf N (take count nodes)
@@ -42,12 +45,16 @@ pub record NodesSoFar (s : List ℕ) (N : ℕ) (nodes : List NodeRecord) (count 
   pub next-is : next ≡ 8 + 14 * count
   pub inside : next ≤ length s
 
-pub nodes-start : (s : List ℕ) (N : ℕ) (nodes : List NodeRecord) → length nodes ≡ 64 → 8 ≤ length s → NodesSoFar s N nodes 0 0 0 8
+pub nodes-start : (s : List ℕ) (N : ℕ) (nodes : List NodeRecord) (least top : List ℕ) → length nodes ≡ 64 → length least ≡ 64 → length top ≡ 64 → 8 ≤ length s
+    → NodesSoFar s N nodes least top 0 0 0 8
 unfolding run
-nodes-start s N nodes l h = record {
+nodes-start s N nodes least top l ll tl h = record {
   reads = λ i. refl;
   long = l;
+  least-long = ll;
+  top-long = tl;
   few = omega arith;
+  bounds = λ i b. absurd (omega arith);
   lines-sum = refl;
   few-lines = omega arith;
   values-sum = refl;
@@ -56,7 +63,7 @@ nodes-start s N nodes l h = record {
   inside = h;
 }
 
-module _ (s : List ℕ) (N : ℕ) (nodes : List NodeRecord) (count lines values next : ℕ) (h : NodesSoFar s N nodes count lines values next) where
+module _ (s : List ℕ) (N : ℕ) (nodes : List NodeRecord) (least top : List ℕ) (count lines values next : ℕ) (h : NodesSoFar s N nodes least top count lines values next) where
   counted : length (take count nodes) ≡ count
   counted = length-take-le count nodes (omega (arith, h .long, h .few))
 
@@ -86,12 +93,33 @@ module _ (s : List ℕ) (N : ℕ) (nodes : List NodeRecord) (count lines values 
         ∙ ap (λ (v : ℕ). going (next + 14) 2 (noded N i (take count nodes ++ (last v ∷ [])))) (sym (h .values-sum))
         ∙ ap (λ (ns : List NodeRecord). going (next + 14) 2 (noded N i ns)) (sym nodes-filled)
 
-    pub nodes-more : N ≤ 128 → NodesSoFar s N (set nodes count (record { kind = k; channels = channelsOf k; cell = values })) (count + 1) (lines + lineOf k) (values + (3 + N * channelsOf k + lineOf k)) (next + 14)
+    -- the new node's bounds, and those of the nodes before it
+    more-bounds : (i : ℕ) → i < count + 1 → Bounds (getD more i blank) (getD (set least count (fewest k)) i 0) (getD (set top count (most k)) i 0)
+    unfolding last more
+    more-bounds i b = go (ℕ-discrete i count)
+      where
+        go : Dec (i ≡ count) → Bounds (getD (set nodes count (last values)) i blank) (getD (set least count (fewest k)) i 0) (getD (set top count (most k)) i 0)
+        go (yes e) =
+            rw (
+              e,
+              getD-set-same nodes count (last values) blank (omega (arith, h .long, here .1 .room)),
+              getD-set-same least count (fewest k) 0 (omega (arith, h .least-long, here .1 .room)),
+              getD-set-same top count (most k) 0 (omega (arith, h .top-long, here .1 .room)),
+            )
+            (refl, refl)
+        go (no other) =
+            rw (getD-set-other nodes count i (last values) blank other, getD-set-other least count i (fewest k) 0 other, getD-set-other top count i (most k) 0 other)
+            (h .bounds i (omega arith))
+
+    pub nodes-more : N ≤ 128 → NodesSoFar s N (set nodes count (record { kind = k; channels = channelsOf k; cell = values })) (set least count (fewest k)) (set top count (most k)) (count + 1) (lines + lineOf k) (values + (3 + N * channelsOf k + lineOf k)) (next + 14)
     unfolding last more
     nodes-more small = record {
       reads = more-reads;
       long = simp length-set (h .long);
+      least-long = simp length-set (h .least-long);
+      top-long = simp length-set (h .top-long);
       few = omega (arith, here .1 .room);
+      bounds = more-bounds;
       lines-sum = rw nodes-filled (omega (arith, h .lines-sum, lines-snoc (take count nodes) (last values)));
       few-lines = here .1 .few-lines;
       values-sum = rw nodes-filled (omega (arith, h .values-sum, cells-snoc N (take count nodes) (last values)));
@@ -101,11 +129,12 @@ module _ (s : List ℕ) (N : ℕ) (nodes : List NodeRecord) (count lines values 
     }
 
   -- the part ends
-  pub nodes-ended : {a : Answer} (n : ℕ) → a ≡ answer n next → NodeStep s next count lines (node.Ends n) → NodesRead s N (record { refused = a; count = count; nodes = nodes; values = values; next = next })
+  pub nodes-ended : {a : Answer} (n : ℕ) → a ≡ answer n next → NodeStep s next count lines (node.Ends n) → NodesRead s N (record { refused = a; count = count; nodes = nodes; fewest = least; most = top; values = values; next = next })
   nodes-ended n e here = record {
     reads = λ i. stepped i ∙ here (noded N i (take count nodes)) counted (sym (h .lines-sum)) ∙ rw e;
     long = h .long;
     few = h .few;
+    bounds = h .bounds;
     sum = h .values-sum;
     small = omega (arith, h .few-values, h .few, h .few-lines);
     next-is = h .next-is;
@@ -138,32 +167,28 @@ wires-start s start i ss ts l m h = record {
 }
 
 module _ (s : List ℕ) (start i : ℕ) (ss ts : List ℕ) (count next : ℕ) (h : WiresSoFar s start i ss ts count next) where
-  -- what the record at `next` says
-  pub wire-here : {x r : WireRead} → x ≡ wireRead s next i count (foundAt s next 3) → x ≡ r → WireStep s next i count r
-  wire-here e q = subst (WireStep s next i count) (sym e ∙ q) (wire-step s next i count)
-
   joined : (p : Parsed) → length (p .nodes) ≡ i → p .wires ≡ [] → run (suc count) s (going start 3 p) ≡ stepOf s (going next 3 (wired p (wiresOf ss ts count)))
   joined p n e = run-next s count (going start 3 p) ∙ ap (stepOf s) (h .reads p n e)
 
-  pub wires-more : (a t : ℕ) → WireStep s next i count (wire.Is a t) → WiresSoFar s start i (set ss count a) (set ts count t) (count + 1) (next + 8)
-  wires-more a t here =
+  pub wires-more : (a t : ℕ) → a ≡ u16At s (next + 4) → t ≡ u16At s (next + 6) → WireHere s next i count → WiresSoFar s start i (set ss count a) (set ts count t) (count + 1) (next + 8)
+  wires-more a t ea et here =
       let p : count < length ss = omega (arith, h .sources-long, here .1 .room) in
       let q : count < length ts = omega (arith, h .targets-long, here .1 .room) in
       record {
         reads = λ b n e.
-            ap (λ (m : ℕ). run m s (going start 3 b)) (add-one count) ∙ joined b n e ∙ here .0 (wired b (wiresOf ss ts count)) n (wires-length ss ts count)
+            ap (λ (m : ℕ). run m s (going start 3 b)) (add-one count) ∙ joined b n e ∙ rw (ea, et) (here .0 (wired b (wiresOf ss ts count)) n (wires-length ss ts count))
             ∙ ap (λ (ws : List Wire). going (next + 8) 3 (wired b ws)) (sym (wires-stored ss ts count a t p q));
         sources-long = simp length-set (h .sources-long);
         targets-long = simp length-set (h .targets-long);
         few = omega (arith, here .1 .room);
-        sources-in = within-more i ss count a p (here .1 .obeys .source-there) (h .sources-in);
-        targets-in = within-more i ts count t q (here .1 .obeys .target-there) (h .targets-in);
+        sources-in = within-more i ss count a p (rw ea (here .1 .obeys .source-there)) (h .sources-in);
+        targets-in = within-more i ts count t q (rw et (here .1 .obeys .target-there)) (h .targets-in);
         next-is = omega (arith, h .next-is);
         inside = here .2;
       }
 
   -- the part ends
-  pub wires-ended : {a : Answer} (n : ℕ) → a ≡ answer n next → WireStep s next i count (wire.Ends n) → WiresRead s start i (record { refused = a; count = count; sources = ss; targets = ts; next = next })
+  pub wires-ended : {a : Answer} (n : ℕ) → a ≡ answer n next → WireEnds s next i count n → WiresRead s start i (record { refused = a; count = count; next = next }) ss ts
   wires-ended n e here = record {
     reads = λ p m z. joined p m z ∙ here (wired p (wiresOf ss ts count)) m (wires-length ss ts count) ∙ rw e;
     sources-long = h .sources-long;

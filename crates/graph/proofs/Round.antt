@@ -13,7 +13,7 @@ use lib.Dec.{leb}
 use Rattle.leaves.specs.Words.{Bytes}
 use Rattle.reading.specs.Order.{Wire}
 use Rattle.graph.specs.Answer.{answer}
-use Rattle.graph.specs.Board.{Parsed, Reading, going, refused, whole, memoryLength, readRecords}
+use Rattle.graph.specs.Board.{Parsed, Progress, going, refused, whole, memoryLength, readRecords}
 use Rattle.graph.specs.Judge.{checkSix, thenSix, readBoard, answerBy, judgeOf}
 use Rattle.graph.specs.Write.{NodeCard, Card, writeBoard, asRead, NodeObeys, WireObeys, SourcesObey, noNode, noWire, Obeys}
 use Rattle.graph.specs.declared.answer.Answer.{Answer}
@@ -110,7 +110,7 @@ pub read-write : (s : List ℕ) → Bytes s → (p : Parsed) → readBoard s ≡
 unfolding readBoard
 read-write s h p = go (readRecords s) refl
   where
-    go : (r : Reading) → readRecords s ≡ r → thenSix r ≡ whole p → Accepted s p
+    go : (r : Progress) → readRecords s ≡ r → thenSix r ≡ whole p → Accepted s p
     go (going at last x) e q = going-is-not-whole at last x p q
     go (refused n w) e q = refused-is-not-whole n w p q
     go (whole x) e q = accepted s p x (records-written s h x e) q
@@ -124,7 +124,7 @@ judge-exact s h = (
   λ w. ap (λ (a : Answer). a .number) (ap judgeOf (w .2) ∙ judge-written (w .0) (w .1)),
 )
   where
-    go : (r : Reading) → readBoard s ≡ r → Ended r → (answerBy memoryLength r) .number ≡ 0 → (c : Card) × Obeys c × (s ≡ writeBoard c)
+    go : (r : Progress) → readBoard s ≡ r → Ended r → (answerBy memoryLength r) .number ≡ 0 → (c : Card) × Obeys c × (s ≡ writeBoard c)
     go (going at last p) e n z = absurd (omega arith)
     go (refused k w) e n z = absurd (omega arith)
     go (whole p) e n z = let a = read-write s h p e in (a .card, a .obeys, a .bytes)

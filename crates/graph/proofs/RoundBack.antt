@@ -13,8 +13,8 @@ use Rattle.leaves.specs.Bytes.{u16At, u32At, u16Bytes, u32Bytes}
 use Rattle.leaves.specs.Words.{Bytes}
 use Rattle.nodes.specs.Kind.{ruleOf}
 use Rattle.nodes.specs.declared.kind.NodeKind.{NodeKind}
-use Rattle.nodes.specs.declared.kind.Rule.{Rule}
-use Rattle.nodes.specs.declared.kind.Rule.the-variants.{Is, Broken}
+use Rattle.nodes.specs.declared.kind.Fields.{Fields}
+use Rattle.nodes.specs.declared.kind.Fields.the-variants.{Is, Broken}
 use Rattle.reading.specs.Order.{Wire}
 use Rattle.graph.specs.Record.{foundAt}
 use Rattle.graph.specs.Board.{Parsed, going, refused, whole, wire, headed, withNode, withWire, linesOf, sizeFits, nodeFits, wireFits, nodeBy, wireBy, endBy, headBy, takeFound, stepOf, run, readRecords}
@@ -182,7 +182,7 @@ module _ (s : List ℕ) (h : Bytes s) (q : Parsed) (n : ℕ) where
             fit k true e r = more k e (onward (at + 14) (withNode p (kindOf d)) r)
             fit k false e r = refused-for-good s n 4 at q r
 
-            rule : (r : Rule) → ruleOf (d .type) (d .n) (d .f) ≡ r → run n s (nodeBy at p r) ≡ whole q → Left s at p q
+            rule : (r : Fields) → ruleOf (d .type) (d .n) (d .f) ≡ r → run n s (nodeBy at p r) ≡ whole q → Left s at p q
             rule Broken e r = refused-for-good s n 4 at q r
             rule (Is k) e r =
                 let same = kind-told d k e .3 in

@@ -8,12 +8,12 @@ use native.Mathlib.Omega.{arith}
 use borrow.Author.Tests.{lt-ltb, le-leb, eqb-true, eqb-false, eq-eqb, ne-eqb, not-true}
 use lib.ListN.{length, getD}
 use lib.Dec.{ltb, leb, eqb}
+use Rattle.nodes.specs.Row.{Line, noLine, lineX, lineXY, rowOf}
 use Rattle.nodes.specs.Kind.{lineOf}
 use Rattle.nodes.specs.declared.kind.NodeKind.{NodeKind}
-use Rattle.nodes.specs.declared.kind.NodeKind.the-variants.{Pass, Sum, Destination, Balance, Mul, Add, Delay, AllPass, OnePole, Sine}
 use Rattle.reading.specs.Order.{Wire}
 use Rattle.graph.specs.Board.{placed}
-use Rattle.graph.specs.Write.{NodeCard, kindOf, FieldsObey, NodeObeys, WireObeys, EachAt, linesOfCards}
+use Rattle.graph.specs.Write.{NodeCard, kindOf, WholeObeys, FieldsObey, NodeObeys, WireObeys, EachAt, linesOfCards}
 use Rattle.graph.proofs.Fits as fits
 use Rattle.graph.proofs.RoundRule.{kind-kept, kind-told, destination-is}
 use Rattle.graph.proofs.RoundRun.{NodeFits, NodesFit, WireFits, WiresFit}
@@ -45,18 +45,14 @@ module _ {A : Type 0} (P : ℕ → A → Type 0) (z : A) where
 
 -- ---- nodes
 
+whole-small : (l : Line) (n : ℕ) → WholeObeys l n → n < 4294967296
+whole-small noLine n h = omega arith
+whole-small (lineX _) n h = omega arith
+whole-small (lineXY _) n h = omega arith
+
 fields-small : (k : NodeKind) (n f : ℕ) → FieldsObey k n f → n < 4294967296
 unfolding FieldsObey
-fields-small Pass n f h = omega arith
-fields-small Sum n f h = omega arith
-fields-small Destination n f h = omega arith
-fields-small Balance n f h = omega arith
-fields-small (Mul x) n f h = omega arith
-fields-small (Add x) n f h = omega arith
-fields-small (Delay m) n f h = omega arith
-fields-small (AllPass m x) n f h = omega arith
-fields-small (OnePole x) n f h = omega arith
-fields-small (Sine x) n f h = omega arith
+fields-small k n f h = whole-small (rowOf k .line) n (h .0)
 
 -- the place of the destination, by its type's number
 module _ (t i : ℕ) where

@@ -13,10 +13,10 @@ use Rattle.leaves.specs.Bytes.{u16At, u32At}
 use Rattle.leaves.specs.Words.{word-split}
 use Rattle.nodes.specs.Kind.{ruleOf, lineOf, channelsOf, cellSize}
 use Rattle.nodes.specs.declared.kind.NodeRecord.{NodeRecord}
-use Rattle.nodes.specs.declared.kind.Rule.the-variants.{Is}
+use Rattle.nodes.specs.declared.kind.Fields.the-variants.{Is}
 use Rattle.reading.specs.Order.{Wire}
 use Rattle.graph.specs.Record.{inOrder, foundOf, foundAt}
-use Rattle.graph.specs.Board.{Parsed, Reading, going, refused, whole, headed, withNode, withWire, linesOf, cellsOf, sizeFits, nodeFits, wireFits, nodeBy, wireBy, headBy, takeFound, stepOf, run, readRecords}
+use Rattle.graph.specs.Board.{Parsed, Progress, going, refused, whole, headed, withNode, withWire, linesOf, cellsOf, sizeFits, nodeFits, wireFits, nodeBy, wireBy, headBy, takeFound, stepOf, run, readRecords}
 use Rattle.graph.specs.Write.{NodeCard, Card, headBytes, nodeBytes, wireBytes, endBytes, nodesBytes, wiresBytes, writeBoard, kindOf, recordsFrom, asRead}
 use Rattle.graph.specs.declared.record.Found.the-variants.{Head, Node, End}
 use Rattle.graph.specs.declared.record.Found.the-variants as found
@@ -147,7 +147,7 @@ module _ (s : List ℕ) (at : ℕ) where
   after b rest z e q = sym (drop-drop z at s) ∙ ap (drop z) e ∙ q
 
 -- so many records on, the reading goes on at an offset, where `rest` stands, after a record of a kind from 1 to `most`, with the board q
-pub record Passes (s rest : List ℕ) (n : ℕ) (r : Reading) (at most : ℕ) (q : Parsed) : Type 0 where
+pub record Passes (s rest : List ℕ) (n : ℕ) (r : Progress) (at most : ℕ) (q : Parsed) : Type 0 where
   pub last : ℕ
   pub least-kind : 1 ≤ last
   pub most-kind : last ≤ most
@@ -256,7 +256,7 @@ module _ (c : Card) (h : Fits c) (rest : List ℕ) where
       }
 
   -- one step behind them is the last
-  front-then : (r : Reading) → Done r → 1 ≤ length rest
+  front-then : (r : Progress) → Done r → 1 ≤ length rest
       → ((last : ℕ) → 1 ≤ last → last ≤ 3 → drop (place c) (front c ++ rest) ≡ rest → stepOf (front c ++ rest) (going (place c) last (asRead c)) ≡ r)
       → readRecords (front c ++ rest) ≡ r
   front-then r done some step =

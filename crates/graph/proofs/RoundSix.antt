@@ -12,7 +12,7 @@ use lib.Dec.{leb, eqb}
 use Rattle.nodes.specs.Kind.{cellSize, fewest, most, sourcesFit}
 use Rattle.reading.specs.Order.{Wire, sources}
 use Rattle.graph.specs.Sources.{distinctSources}
-use Rattle.graph.specs.Board.{Parsed, Reading, refused, whole}
+use Rattle.graph.specs.Board.{Parsed, Progress, refused, whole}
 use Rattle.graph.specs.Judge.{passAt, inputFits, checkSources, checkSix}
 use Rattle.graph.specs.Write.{NodeCard, Card, kindOf, recordsFrom, asRead, NodeObeys, SourcesObey, noNode}
 use Rattle.graph.proofs.Run.{refused-is-not-whole}
@@ -85,7 +85,7 @@ module _ (p : Parsed) (N : ℕ) where
   each-told q (d ∷ ds) at i e =
       go (sourcesFit (kindOf d) (length (distinctSources (p .wires) i))) refl (rw (← add-one i) at e) (each-told q ds (at + cellSize N (kindOf d)) (i + 1))
     where
-      rest : Reading
+      rest : Progress
       rest = checkSources p (i + 1) (recordsFrom N (at + cellSize N (kindOf d)) ds)
 
       go : (b : Bool) → sourcesFit (kindOf d) (length (distinctSources (p .wires) i)) ≡ b → cond b rest (refused 6 i) ≡ whole q

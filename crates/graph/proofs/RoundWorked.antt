@@ -1,26 +1,13 @@
--- Document 01's printed board as a card: the bytes written for it are those of JudgeCases, and it obeys the rules. Assumes nothing.
-use Prim.Native.Nat.{ℕ}
+-- The card of document 01's printed board: the bytes written for it are those of JudgeCases, and it obeys the rules. Assumes nothing.
 use mathlib.Core.Path.{_≡_, refl, ap, _∙_}
-use mathlib.Core.List.{[], _∷_}
 use Rattle.graph.specs.Answer.{answer}
 use Rattle.graph.specs.Judge.{judgeOf}
-use Rattle.graph.specs.Walks.{printedWires}
-use Rattle.graph.specs.Write.{NodeCard, Card, writeBoard, Obeys}
+pub use Rattle.graph.specs.Walks.{feedback}
+use Rattle.graph.specs.Write.{Card, writeBoard, Obeys}
 use Rattle.graph.specs.declared.answer.Answer.{Answer}
 use Rattle.graph.proofs.RoundBytes.{board-bytes}
 use Rattle.graph.proofs.Round.{judge-exact}
 use Rattle.graph.specs.JudgeCases.{printed, printed-judged}
-
-abbrev node : ℕ → ℕ → ℕ → NodeCard
-node t n f = record { type = t; n = n; f = f }
-
-abbrev pub feedback : Card
-feedback = record {
-  size = 2;
-  input = 1;
-  nodes = node 3 0 0 ∷ node 1 0 0 ∷ node 6 0 0 ∷ node 7 1 0 ∷ node 5 0 0x3f00_0000 ∷ [];
-  wires = printedWires;
-}
 
 pub feedback-written : writeBoard feedback ≡ printed
 unfolding writeBoard

@@ -5,9 +5,9 @@ use mathlib.Core.List.{List}
 use native.Mathlib.Nat.{zero-add, suc-add}
 use native.Mathlib.Omega.{arith}
 use lib.ListN.{length}
-use Rattle.graph.specs.Board.{Parsed, Reading, going, refused, whole, headed, stepOf, run, readRecords}
+use Rattle.graph.specs.Board.{Parsed, Progress, going, refused, whole, headed, stepOf, run, readRecords}
 
-abbrev pub Done : Reading → Type 0
+abbrev pub Done : Progress → Type 0
 Done (going at last p) = ⊥
 Done (refused k w) = Unit {0}
 Done (whole p) = Unit {0}
@@ -19,27 +19,27 @@ pub going-is-not-whole : {A : Type 0} (at last : ℕ) (p q : Parsed) → going a
 going-is-not-whole at last p q e = let z : _≡_ {A = ℕ} 0 1 = cc in absurd (omega arith)
 
 module _ (s : List ℕ) where
-  pub run-one : (r : Reading) → run 1 s r ≡ stepOf s r
+  pub run-one : (r : Progress) → run 1 s r ≡ stepOf s r
   unfolding run
   run-one r = refl
 
-  pub run-suc : (n : ℕ) (r : Reading) → run (suc n) s r ≡ run n s (stepOf s r)
+  pub run-suc : (n : ℕ) (r : Progress) → run (suc n) s r ≡ run n s (stepOf s r)
   unfolding run
   run-suc n r = refl
 
-  pub run-add : (m n : ℕ) (r : Reading) → run (m + n) s r ≡ run n s (run m s r)
+  pub run-add : (m n : ℕ) (r : Progress) → run (m + n) s r ≡ run n s (run m s r)
   unfolding run
   run-add zero n r = rw zero-add
   run-add (suc m) n r = rw suc-add (run-add m n (stepOf s r))
 
   -- one step more, after the others
-  pub run-next : (n : ℕ) (r : Reading) → run (suc n) s r ≡ stepOf s (run n s r)
+  pub run-next : (n : ℕ) (r : Progress) → run (suc n) s r ≡ stepOf s (run n s r)
   unfolding run
   run-next zero r = refl
   run-next (suc n) r = run-next n (stepOf s r)
 
   -- a reading that is done stays as it is
-  pub run-done : (n : ℕ) (r : Reading) → Done r → run n s r ≡ r
+  pub run-done : (n : ℕ) (r : Progress) → Done r → run n s r ≡ r
   unfolding run stepOf
   run-done zero r d = refl
   run-done (suc n) (going at last p) d = absurd d
@@ -51,7 +51,7 @@ module _ (s : List ℕ) where
   refused-for-good n k w q e = refused-is-not-whole k w q (sym (run-done n (refused k w) tt) ∙ e)
 
   -- so many steps, and no more than there are, end the reading
-  pub run-ends : (n : ℕ) (r : Reading) → n ≤ suc (length s) → Done r → run n s (going 0 0 (headed 0 0)) ≡ r → readRecords s ≡ r
+  pub run-ends : (n : ℕ) (r : Progress) → n ≤ suc (length s) → Done r → run n s (going 0 0 (headed 0 0)) ≡ r → readRecords s ≡ r
   unfolding readRecords
   run-ends n r h d e =
       let rest = suc (length s) - n in

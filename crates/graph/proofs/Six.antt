@@ -1,38 +1,33 @@
 -- Check 6 against the arrays: the kind at an index, the counts of the table, and the walk over the nodes. Assumes nothing.
 use Prim.Native.Nat.{ℕ, zero, suc, _+_, min, _≤_, _<_}
+use native.Mathlib.Nat.{le-refl}
+use native.Mathlib.Decide.{ℕ-discrete}
 use mathlib.Core.Path.{_≡_, refl, sym, ap, _∙_}
 use mathlib.Core.List.{List, [], _∷_, _++_}
-use mathlib.Core.Bool.{Bool, true, false}
+use mathlib.Core.Bool.{Bool, true, false, _&&_, _||_}
 use native.Mathlib.Numerals.{add-one}
 use native.Mathlib.Omega.{arith}
-use borrow.Author.Tests.{leb-true, leb-false, le-leb, lt-leb, eq-eqb, ne-eqb}
-use lib.Dec.{leb, eqb}
+use borrow.Author.Tests.{leb-true, leb-false, le-leb, lt-leb, ltb-true, ltb-false, le-ltb, eq-eqb, ne-eqb}
+use lib.Dec.{ltb, leb, eqb}
 use lib.ListN.{length, getD, take, drop, length-append}
 use lib.Seq.{length-take-le, drop-cons, drop-length, getD-take}
 use Rattle.nodes.specs.Kind.{fewest, most, sourcesFit, isPass}
 use Rattle.nodes.specs.declared.kind.NodeKind.{NodeKind}
-use Rattle.nodes.specs.declared.kind.NodeKind.the-variants.{Pass, Sum, Destination, Balance, Mul, Add, Delay, AllPass, OnePole, Sine}
 use Rattle.nodes.specs.declared.kind.NodeRecord.{NodeRecord}
+use Rattle.reading.specs.Order.{sources}
 use Rattle.reading.specs.Table.{mem}
-use Rattle.graph.specs.Board.{Parsed, refused, whole, memoryLength, readRecords}
+use Rattle.nodes.proofs.Rows.{row-laws}
+use Rattle.graph.specs.Board.{Parsed, refused, whole, blank, memoryLength, readRecords}
 use Rattle.graph.specs.Answer.{answer}
+use Rattle.graph.specs.Parts.{Counts, AllFit}
 use Rattle.graph.specs.Sources.{addNew, addAll, distinct, distinctSources}
 use Rattle.graph.specs.Judge.{passAt, inputFits, checkSources, checkSix, thenSix, readBoard, answerBy, judgeOf}
-use Rattle.graph.proofs.Choice.{pick}
+use Rattle.graph.proofs.Choice.{pick, neither}
 
 -- ---- the counts of the table, nine standing for more than eight
 
 pub sources-few : (k : NodeKind) → (fewest k ≤ 9) × (most k ≤ 8)
-sources-few Pass = omega arith
-sources-few Sum = omega arith
-sources-few Destination = omega arith
-sources-few Balance = omega arith
-sources-few (Mul f) = omega arith
-sources-few (Add f) = omega arith
-sources-few (Delay n) = omega arith
-sources-few (AllPass n f) = omega arith
-sources-few (OnePole f) = omega arith
-sources-few (Sine f) = omega arith
+sources-few k = row-laws k .few
 
 -- two tests that say the same
 leb-same : (a b c d : ℕ) → (a ≤ b → c ≤ d) → (c ≤ d → a ≤ b) → leb a b ≡ leb c d
@@ -95,22 +90,61 @@ module _ (nodes : List NodeRecord) (n : ℕ) (fits : n ≤ length nodes) where
     pub node-here : drop i (take n nodes) ≡ getD nodes i d ∷ drop (suc i) (take n nodes)
     node-here = drop-cons (take n nodes) i d inside ∙ ap (λ (r : NodeRecord). r ∷ drop (suc i) (take n nodes)) (getD-take n nodes i d within)
 
-    -- ---- the walk over the nodes
-    module _ (p : Parsed) where
-      pub check-next : sourcesFit ((getD nodes i d) .kind) (length (distinctSources (p .wires) i)) ≡ true → checkSources p (i + 1) (drop (i + 1) (take n nodes)) ≡ checkSources p i (drop i (take n nodes))
-      unfolding checkSources
-      check-next e = rw (add-one, node-here, e)
+-- ---- the walk over the nodes
 
-      pub check-wrong : sourcesFit ((getD nodes i d) .kind) (length (distinctSources (p .wires) i)) ≡ false → checkSources p i (drop i (take n nodes)) ≡ refused 6 i
-      unfolding checkSources
-      check-wrong e = rw (node-here, e)
+module _ (p : Parsed) (least top counts : List ℕ) (h : Counts p least top counts) where
+  -- the count of node i fits as its sources do
+  fits : (i : ℕ) → i < length (p .nodes) → sourcesFit ((getD (p .nodes) i blank) .kind) (length (distinctSources (p .wires) i))
+      ≡ leb (getD least i 0) (getD counts i 0) && leb (getD counts i 0) (getD top i 0)
+  fits i b =
+      sym (rw (h .counted i b, h .bounds i b .0, h .bounds i b .1) (fits-nine ((getD (p .nodes) i blank) .kind) (length (distinctSources (p .wires) i))))
 
-  pub check-end : (p : Parsed) → checkSources p n (drop n (take n nodes)) ≡ whole p
+  fits-here : (i : ℕ) → i < length (p .nodes) → (getD least i 0 ≤ getD counts i 0) × (getD counts i 0 ≤ getD top i 0)
+      → sourcesFit ((getD (p .nodes) i blank) .kind) (length (distinctSources (p .wires) i)) ≡ true
+  fits-here i b q = fits i b ∙ rw (le-leb _ _ (q .0), le-leb _ _ (q .1))
+
+  -- the first i nodes fit, so what is left decides
+  pub check-next : (i : ℕ) → i < length (p .nodes) → (ltb (getD counts i 0) (getD least i 0) || ltb (getD top i 0) (getD counts i 0)) ≡ false
+      → checkSources p (i + 1) (drop (i + 1) (p .nodes)) ≡ checkSources p i (drop i (p .nodes))
   unfolding checkSources
-  check-end p = rw ends
+  check-next i b e =
+      let n = neither _ _ e in
+      rw (add-one, drop-cons (p .nodes) i blank b, fits-here i b (ltb-false _ _ (n .0), ltb-false _ _ (n .1)))
+
+  pub check-wrong : (i : ℕ) → i < length (p .nodes) → (ltb (getD counts i 0) (getD least i 0) || ltb (getD top i 0) (getD counts i 0)) ≡ true
+      → checkSources p i (drop i (p .nodes)) ≡ refused 6 i
+  unfolding checkSources
+  check-wrong i b e = rw (drop-cons (p .nodes) i blank b, fits i b ∙ go (ltb (getD counts i 0) (getD least i 0)) refl e)
     where
-      ends : drop n (take n nodes) ≡ []
-      ends = ap (λ (k : ℕ). drop k (take n nodes)) (sym counted) ∙ drop-length (take n nodes)
+      go : (t : Bool) → ltb (getD counts i 0) (getD least i 0) ≡ t → (t || ltb (getD top i 0) (getD counts i 0)) ≡ true
+          → leb (getD least i 0) (getD counts i 0) && leb (getD counts i 0) (getD top i 0) ≡ false
+      go true f _ = rw (lt-leb _ _ (ltb-true _ _ f))
+      go false f q = rw (le-leb _ _ (ltb-false _ _ f), lt-leb _ _ (ltb-true _ _ q))
+
+  pub check-end : checkSources p (length (p .nodes)) (drop (length (p .nodes)) (p .nodes)) ≡ whole p
+  unfolding checkSources
+  check-end = rw (drop-length (p .nodes))
+
+  -- all fit
+  pub check-all : AllFit least top counts (length (p .nodes)) → checkSources p 0 (p .nodes) ≡ whole p
+  check-all all = go (length (p .nodes)) (le-refl _) ∙ check-end
+    where
+      go : (i : ℕ) → i ≤ length (p .nodes) → checkSources p 0 (p .nodes) ≡ checkSources p i (drop i (p .nodes))
+      go zero b = refl
+      go (suc i) b =
+          let q = all i (omega arith) in
+          go i (omega arith) ∙ sym (rw (add-one i) at (check-next i (omega arith) (rw (le-ltb _ _ (q .0), le-ltb _ _ (q .1)))))
+
+-- one node more that fits
+pub all-more : (least top counts : List ℕ) (i : ℕ) (wrong : Bool) → (wrong ≡ false → AllFit least top counts i)
+    → ((wrong || ltb (getD counts i 0) (getD least i 0)) || ltb (getD top i 0) (getD counts i 0)) ≡ false → AllFit least top counts (i + 1)
+all-more least top counts i wrong before e j b = go (ℕ-discrete j i)
+  where
+    go : Dec (j ≡ i) → (getD least j 0 ≤ getD counts j 0) × (getD counts j 0 ≤ getD top j 0)
+    go (yes q) =
+        let two = neither (wrong || ltb (getD counts i 0) (getD least i 0)) _ e in
+        rw q (ltb-false _ _ (neither wrong _ (two .0) .1), ltb-false _ _ (two .1))
+    go (no other) = before (neither wrong _ (neither (wrong || ltb (getD counts i 0) (getD least i 0)) _ e .0) .0) j (omega arith)
 
 -- ---- the three cases of check 6
 
@@ -124,6 +158,21 @@ module _ (p : Parsed) where
 
     pub six-input : inputFits p ≡ false → checkSix p ≡ refused 6 (p .input)
     six-input e = rw (ne-eqb (length (p .nodes)) 0 some, e)
+
+    -- the same from the arrays: the input node is no pass, has a wire in, or is as it must be
+    pub six-no-pass : passAt (p .nodes) (p .input) ≡ false → checkSix p ≡ refused 6 (p .input)
+    six-no-pass e = six-input (rw e)
+
+    module _ (pass : passAt (p .nodes) (p .input) ≡ true) (counts : List ℕ)
+        (counted : getD counts (p .input) 0 ≡ min 9 (length (distinctSources (p .wires) (p .input)))) where
+      free : inputFits p ≡ eqb (getD counts (p .input) 0) 0
+      free = rw (pass, counted, none-nine (sources (p .wires) (p .input)))
+
+      pub six-entered : (getD counts (p .input) 0 ≡ 0 → ⊥) → checkSix p ≡ refused 6 (p .input)
+      six-entered e = six-input (free ∙ ne-eqb _ _ e)
+
+      pub six-open : getD counts (p .input) 0 ≡ 0 → checkSix p ≡ checkSources p 0 (p .nodes)
+      six-open e = six-walked (free ∙ eq-eqb _ _ e)
 
 -- ---- checks 1 to 6
 

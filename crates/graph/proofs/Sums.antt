@@ -4,9 +4,9 @@ use mathlib.Core.Path.{_≡_}
 use mathlib.Core.List.{List, [], _∷_, _++_}
 use native.Mathlib.Nat.{mul-le-mul}
 use native.Mathlib.Omega.{arith}
-use Rattle.nodes.specs.Kind.{lineOf, channelsOf, cellSize}
+use Rattle.nodes.specs.Row.{Writes, mono, keeping, stereo, rowOf}
+use Rattle.nodes.specs.Kind.{lineOf, channelsBy, channelsOf, cellSize}
 use Rattle.nodes.specs.declared.kind.NodeKind.{NodeKind}
-use Rattle.nodes.specs.declared.kind.NodeKind.the-variants.{Pass, Sum, Destination, Balance, Mul, Add, Delay, AllPass, OnePole, Sine}
 use Rattle.nodes.specs.declared.kind.NodeRecord.{NodeRecord}
 use Rattle.graph.specs.Board.{linesOf, cellsOf}
 
@@ -18,18 +18,11 @@ pub cells-snoc : (N : ℕ) (xs : List NodeRecord) (r : NodeRecord) → cellsOf N
 cells-snoc N [] r = omega arith
 cells-snoc N (x ∷ xs) r = omega (arith, cells-snoc N xs r)
 
-channels-few : (k : NodeKind) → channelsOf k ≤ 2
-channels-few Pass = omega arith
-channels-few Sum = omega arith
-channels-few Destination = omega arith
-channels-few Balance = omega arith
-channels-few (Mul f) = omega arith
-channels-few (Add f) = omega arith
-channels-few (Delay n) = omega arith
-channels-few (AllPass n f) = omega arith
-channels-few (OnePole f) = omega arith
-channels-few (Sine f) = omega arith
+channels-few : (w : Writes) → channelsBy w ≤ 2
+channels-few (mono l) = omega arith
+channels-few (keeping l) = omega arith
+channels-few (stereo l r) = omega arith
 
 -- the samples of a node's block
 pub samples-few : (N : ℕ) (k : NodeKind) → N ≤ 128 → N * channelsOf k ≤ 256
-samples-few N k h = mul-le-mul h (channels-few k)
+samples-few N k h = mul-le-mul h (channels-few (rowOf k .writes))

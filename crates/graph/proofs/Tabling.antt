@@ -140,8 +140,9 @@ tabled-none = record {
   second = λ v h. getD-replicate 64 v 0 0 h;
 }
 
-pub tabling-none : Tabling [] (replicate 64 0) (replicate 512 0) (replicate 64 0) (replicate 64 0)
-tabling-none = record { table = tabled-none; ins-long = refl; entered = λ v h. getD-replicate 64 v 0 0 h }
+-- an empty table is that of no wires
+pub tabling-started : {counts lists seconds : List ℕ} → Tabled [] counts lists seconds → Tabling [] counts lists seconds (replicate 64 0)
+tabling-started t = record { table = t; ins-long = refl; entered = λ v h. getD-replicate 64 v 0 0 h }
 
 sources-few : (ws : List Wire) (v : ℕ) → length (sources ws v) ≤ length ws
 sources-few [] v = omega arith

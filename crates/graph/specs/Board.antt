@@ -10,8 +10,8 @@ use Rattle.nodes.specs.Kind.{ruleOf, lineOf, channelsOf, cellSize, isDestinatio
 use Rattle.nodes.specs.declared.kind.NodeKind.{NodeKind}
 use Rattle.nodes.specs.declared.kind.NodeKind.the-variants.{Pass}
 use Rattle.nodes.specs.declared.kind.NodeRecord.{NodeRecord}
-use Rattle.nodes.specs.declared.kind.Rule.{Rule}
-use Rattle.nodes.specs.declared.kind.Rule.the-variants.{Is, Broken}
+use Rattle.nodes.specs.declared.kind.Fields.{Fields}
+use Rattle.nodes.specs.declared.kind.Fields.the-variants.{Is, Broken}
 use Rattle.reading.specs.Order.{Wire}
 use Rattle.graph.specs.Record.{foundAt}
 use Rattle.graph.specs.declared.record.Found.{Found}
@@ -83,31 +83,31 @@ nodeFits i lines k = ltb i 64 && placed i k && leb (lines + lineOf k) 262144
 abbrev pub wireFits : ℕ → ℕ → ℕ → ℕ → Bool
 wireFits i w s t = ltb w 128 && ltb s i && ltb t i && not (eqb s t)
 
--- ---- the reading
+-- ---- record by record
 
 -- going on at an offset, after a record of kind `last`; or refused, with number and place; or read whole
-pub data Reading : Type 0 where
-  going : ℕ → ℕ → Parsed → Reading
-  refused : ℕ → ℕ → Reading
-  whole : Parsed → Reading
+pub data Progress : Type 0 where
+  going : ℕ → ℕ → Parsed → Progress
+  refused : ℕ → ℕ → Progress
+  whole : Parsed → Progress
 
 -- the body of a head, of a node, of a wire
-abbrev pub headBy : ℕ → ℕ → ℕ → Reading
+abbrev pub headBy : ℕ → ℕ → ℕ → Progress
 headBy at N i = cond (sizeFits N) (going (at + 8) 1 (headed N i)) (refused 3 at)
 
-abbrev pub nodeBy : ℕ → Parsed → Rule → Reading
+abbrev pub nodeBy : ℕ → Parsed → Fields → Progress
 nodeBy at p Broken = refused 4 at
 nodeBy at p (Is k) = cond (nodeFits (length (p .nodes)) (linesOf (p .nodes)) k) (going (at + 14) 2 (withNode p k)) (refused 4 at)
 
-abbrev pub wireBy : ℕ → Parsed → ℕ → ℕ → Reading
+abbrev pub wireBy : ℕ → Parsed → ℕ → ℕ → Progress
 wireBy at p s t = cond (wireFits (length (p .nodes)) (length (p .wires)) s t) (going (at + 8) 3 (withWire p s t)) (refused 5 at)
 
 -- the end record is last: a byte after it is refused
-abbrev pub endBy : List ℕ → ℕ → Parsed → Reading
+abbrev pub endBy : List ℕ → ℕ → Parsed → Progress
 endBy s at p = cond (eqb (at + 4) (length s)) (whole p) (refused 1 (at + 4))
 
 -- what the record found at an offset does to the board p
-unfoldable pub takeFound : List ℕ → ℕ → Parsed → Found → Reading
+unfoldable pub takeFound : List ℕ → ℕ → Parsed → Found → Progress
 takeFound s at p Head = headBy at (u16At s (at + 4)) (u16At s (at + 6))
 takeFound s at p Node = nodeBy at p (ruleOf (u16At s (at + 4)) (u32At s (at + 6)) (u32At s (at + 10)))
 takeFound s at p found.Wire = wireBy at p (u16At s (at + 4)) (u16At s (at + 6))
@@ -115,16 +115,16 @@ takeFound s at p End = endBy s at p
 takeFound s at p (Refused n) = refused n at
 
 -- one record more; a reading that is done stays as it is
-unfoldable pub stepOf : List ℕ → Reading → Reading
+unfoldable pub stepOf : List ℕ → Progress → Progress
 stepOf s (going at last p) = takeFound s at p (foundAt s at last)
 stepOf s (refused n w) = refused n w
 stepOf s (whole p) = whole p
 
-unfoldable pub run : ℕ → List ℕ → Reading → Reading
+unfoldable pub run : ℕ → List ℕ → Progress → Progress
 run zero s r = r
 run (suc n) s r = run n s (stepOf s r)
 
 -- checks 1 to 5. Each record has a byte, so as many steps as bytes, and one more, end the reading: it is never left going
 -- (`board-ends` of proofs/Ending)
-unfoldable pub readRecords : List ℕ → Reading
+unfoldable pub readRecords : List ℕ → Progress
 readRecords s = run (suc (length s)) s (going 0 0 (headed 0 0))

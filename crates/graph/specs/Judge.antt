@@ -9,7 +9,7 @@ use Rattle.nodes.specs.declared.kind.NodeRecord.{NodeRecord}
 use Rattle.reading.specs.Order.{sources}
 use Rattle.graph.specs.Answer.{answer}
 use Rattle.graph.specs.Sources.{distinctSources}
-use Rattle.graph.specs.Board.{Parsed, Reading, going, refused, whole, readRecords, memoryLength}
+use Rattle.graph.specs.Board.{Parsed, Progress, going, refused, whole, readRecords, memoryLength}
 use Rattle.graph.specs.declared.answer.Answer.{Answer}
 
 -- node i is there and is a pass
@@ -23,29 +23,29 @@ abbrev pub inputFits : Parsed → Bool
 inputFits p = passAt (p .nodes) (p .input) && eqb (length (sources (p .wires) (p .input))) 0
 
 -- the nodes from i on: the first with a wrong number of distinct sources is refused
-unfoldable pub checkSources : Parsed → ℕ → List NodeRecord → Reading
+unfoldable pub checkSources : Parsed → ℕ → List NodeRecord → Progress
 checkSources p i [] = whole p
 checkSources p i (r ∷ rs) = cond (sourcesFit (r .kind) (length (distinctSources (p .wires) i))) (checkSources p (suc i) rs) (refused 6 i)
 
 -- no node 0; then a bad input node; then the lowest node with a wrong source count
-abbrev pub checkSix : Parsed → Reading
+abbrev pub checkSix : Parsed → Progress
 checkSix p =
     cond (eqb (length (p .nodes)) 0) (refused 6 0)
     (cond (inputFits p) (checkSources p 0 (p .nodes)) (refused 6 (p .input)))
 
 -- check 6 of a board whose records are read whole
-abbrev pub thenSix : Reading → Reading
+abbrev pub thenSix : Progress → Progress
 thenSix (going at last p) = going at last p
 thenSix (refused n w) = refused n w
 thenSix (whole p) = checkSix p
 
 -- checks 1 to 6: an accepted board is whole
-unfoldable pub readBoard : List ℕ → Reading
+unfoldable pub readBoard : List ℕ → Progress
 readBoard s = thenSix (readRecords s)
 
 -- ---- a call's answer: the refusal, or 0 and f of the board; the judge's place is the memory's length
 
-abbrev pub answerBy : (Parsed → ℕ) → Reading → Answer
+abbrev pub answerBy : (Parsed → ℕ) → Progress → Answer
 answerBy f (going at last p) = answer 1 at
 answerBy f (refused n w) = answer n w
 answerBy f (whole p) = answer 0 (f p)

@@ -2,7 +2,7 @@
 use Prim.Native.Nat.{_≤_, _<_}
 use mathlib.Core.Path.{_≡_}
 use lib.ListN.{length, take}
-use Rattle.graph.specs.Board.{Parsed, Reading, whole, cellsOf}
+use Rattle.graph.specs.Board.{Parsed, Progress, whole, cellsOf}
 use Rattle.graph.specs.Sources.{Tabled}
 use Rattle.graph.specs.Wires.{Within, wiresOf}
 use Rattle.graph.specs.Parts.{orRefused}
@@ -33,6 +33,6 @@ pub record Sound (b : Board) : Type 0 where
   pub table : Tabled (wiresOf (b .sources) (b .targets) (b .wires)) (b .counts) (b .lists) (b .seconds)
 
 -- the board stands for the reading v: it is refused as v is, or v is whole and the board's arrays say what v says
-pub record Read (v : Reading) (b : Board) : Type 0 where
+pub record Read (v : Progress) (b : Board) : Type 0 where
   pub reading : v ≡ orRefused (b .refused) (whole (parsedOf b))
   pub sound : Sound b

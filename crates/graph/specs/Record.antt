@@ -7,6 +7,7 @@ use mathlib.Core.Bool.{Bool, cond, _&&_, _||_}
 use lib.ListN.{length}
 use lib.Dec.{ltb, leb, eqb}
 use Rattle.leaves.specs.Bytes.{u16At}
+use Rattle.graph.specs.declared.reader.Reader.{Reader}
 use Rattle.graph.specs.declared.record.Found.{Found}
 use Rattle.graph.specs.declared.record.Found.the-variants.{Head, Node, Wire, End, Refused}
 
@@ -36,3 +37,15 @@ foundAt s at last =
     cond (cut s at) (Refused 1)
     (cond (inOrder last (u16At s (at + 2))) (foundOf (u16At s (at + 2)) (u16At s at))
     (Refused 2))
+
+-- how far a reader moves: the length of the record found, and 0 where it is refused
+abbrev pub lengthOf : Found → ℕ
+lengthOf Head = 8
+lengthOf Node = 14
+lengthOf Wire = 8
+lengthOf End = 4
+lengthOf (Refused n) = 0
+
+-- the reader past the record that it found
+abbrev pub passed : Reader → Found → Reader
+passed r f = record { bytes = r .bytes; at = r .at + lengthOf f }

@@ -1,13 +1,12 @@
 -- The tail of a board (document 01, "Leaves"): with no late wire and listed types 1 to 5 and 7 only, the sum of listed lines; else endless.
 -- Definitions only.
 use Prim.Native.Nat.{ℕ, _+_, _<_, _≤_}
-use mathlib.Core.Bool.{Bool, true, false, cond, _&&_}
+use mathlib.Core.Bool.{Bool, true, cond, _&&_, _||_}
 use mathlib.Core.List.{List, [], _∷_}
 use lib.ListN.{length, getD}
-use lib.Dec.{eqb}
-use Rattle.nodes.specs.Kind.{lineOf}
+use lib.Dec.{eqb, leb}
+use Rattle.nodes.specs.Kind.{typeOf, lineOf}
 use Rattle.nodes.specs.declared.kind.NodeKind.{NodeKind}
-use Rattle.nodes.specs.declared.kind.NodeKind.the-variants.{Pass, Sum, Destination, Balance, Mul, Add, Delay, AllPass, OnePole, Sine}
 use Rattle.nodes.specs.declared.kind.NodeRecord.{NodeRecord}
 use Rattle.reading.specs.Order.{Wire}
 use Rattle.graph.specs.Board.{Parsed, blank}
@@ -19,16 +18,7 @@ use Rattle.graph.specs.declared.answer.Answer.{Answer}
 -- types 1 to 5 and 7: silence in is silence out, at the latest after the line's length. An add writes its number, an all-pass and a one-pole
 -- ring on, and a sine sounds by itself
 abbrev pub delays : NodeKind → Bool
-delays Pass = true
-delays Sum = true
-delays Destination = true
-delays Balance = true
-delays (Mul f) = true
-delays (Add f) = false
-delays (Delay n) = true
-delays (AllPass n f) = false
-delays (OnePole f) = false
-delays (Sine f) = false
+delays k = leb (typeOf k) 5 || eqb (typeOf k) 7
 
 -- the type of node k; a listed node is never missing
 abbrev pub kindAt : List NodeRecord → ℕ → NodeKind

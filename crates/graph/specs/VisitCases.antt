@@ -1,9 +1,9 @@
--- P: document 01's printed board, its list and its late wire; the plate's; and three tails. By computation. Assumes nothing.
+-- P: document 01's printed board, its list and its late wire; and three tails. By computation. Assumes nothing.
 use mathlib.Core.Path.{_≡_, refl}
 use lib.Ieee.{ofBits, binary32}
 use Rattle.nodes.specs.declared.kind.NodeKind.the-variants.{Pass, Sum, Destination, Mul, Add, Delay}
 use Rattle.graph.specs.Board.{Parsed, headed, withNode, withWire}
-use Rattle.graph.specs.Walks.{printedWires, printedList, printedLate, plate, plateList, plateLate}
+use Rattle.graph.specs.Walks.{printedWires, printedList, printedLate}
 use Rattle.graph.specs.Visit.{visitingList}
 use Rattle.graph.specs.Late.{isLate, lateWires}
 use Rattle.graph.specs.Tail.{endless, tailBy, tailOf}
@@ -15,14 +15,6 @@ printed-list = refl
 pub printed-late : lateWires printedList printedWires ≡ printedLate
 unfolding lateWires isLate
 printed-late = refl
-
-pub plate-list : visitingList plate ≡ plateList
-unfolding visitingList
-plate-list = refl
-
-pub plate-late : lateWires plateList plate ≡ plateLate
-unfolding lateWires isLate
-plate-late = refl
 
 -- the printed board sounds for ever; without its loop and its add, and with a delay that is not listed, its tail is the listed line
 

@@ -1,18 +1,17 @@
 -- A board as document 01, "Board bytes", describes it, without a word on how it is read: a card with a block size, an input node, node
 -- descriptions and wires; the bytes that are written for it; the rules that it must obey; and what a reader makes of it.
 -- `proofs/Round.antt` shows that the judge accepts exactly the bytes of the cards that obey. Definitions only.
-use Prim.Native.Nat.{ℕ, _+_, _%_, _<_, _≤_}
+use Prim.Native.Nat.{ℕ, _+_, _<_, _≤_}
 use mathlib.Core.Path.{_≡_}
 use mathlib.Core.Logic.{_↔_}
-use mathlib.Core.Bool.{true, cond}
+use mathlib.Core.Bool.{true}
 use mathlib.Core.List.{List, [], _∷_, _++_}
 use lib.ListN.{length, getD}
-use lib.Dec.{eqb}
-use lib.Ieee.{le, ofBits, binary32}
+use lib.Ieee.{ofBits, binary32}
 use Rattle.leaves.specs.Bytes.{u16Bytes, u32Bytes}
-use Rattle.nodes.specs.Kind.{lineOf, channelsOf, cellSize, fewest, most}
+use Rattle.nodes.specs.Row.{Value, unused, coefficient, numbered, inRange, Line, noLine, lineX, lineXY, rowOf}
+use Rattle.nodes.specs.Kind.{lineOf, channelsOf, cellSize, fewest, most, kindBy}
 use Rattle.nodes.specs.declared.kind.NodeKind.{NodeKind}
-use Rattle.nodes.specs.declared.kind.NodeKind.the-variants.{Pass, Sum, Destination, Balance, Mul, Add, Delay, AllPass, OnePole, Sine}
 use Rattle.nodes.specs.declared.kind.NodeRecord.{NodeRecord}
 use Rattle.reading.specs.Table.{mem}
 use Rattle.reading.specs.Order.{Wire, Once}
@@ -59,19 +58,9 @@ writeBoard c = headBytes (c .size) (c .input) ++ nodesBytes (c .nodes) ++ wiresB
 
 -- ---- what a reader makes of a card
 
--- the kind that a type's number, 1 to 10, names
+-- the kind of a node
 unfoldable pub kindOf : NodeCard → NodeKind
-kindOf d =
-    cond (eqb (d .type) 1) Pass
-    (cond (eqb (d .type) 2) Sum
-    (cond (eqb (d .type) 3) Destination
-    (cond (eqb (d .type) 4) Balance
-    (cond (eqb (d .type) 5) (Mul (ofBits binary32 (d .f)))
-    (cond (eqb (d .type) 6) (Add (ofBits binary32 (d .f)))
-    (cond (eqb (d .type) 7) (Delay (d .n))
-    (cond (eqb (d .type) 8) (AllPass (d .n) (ofBits binary32 (d .f)))
-    (cond (eqb (d .type) 9) (OnePole (ofBits binary32 (d .f)))
-    (Sine (ofBits binary32 (d .f)))))))))))
+kindOf d = kindBy (d .type) (d .n) (ofBits binary32 (d .f))
 
 -- the node records at block size N, the first cell at `start`: each cell starts where the one before it ends
 abbrev pub recordsFrom : ℕ → ℕ → List NodeCard → List NodeRecord
@@ -99,26 +88,19 @@ noWire = record { source = 0; target = 0 }
 abbrev pub LineLength : ℕ → Type 0
 LineLength n = (1 ≤ n) × (n ≤ 132300)
 
--- the bits of a finite float: below infinity's, the sign's bit aside
-abbrev pub Finite : ℕ → Type 0
-Finite f = f % 2147483648 < 0x7f80_0000
+-- a kind's whole number is its line's length, its float in its range; an unused field is all zero bits
+abbrev pub WholeObeys : Line → ℕ → Type 0
+WholeObeys noLine n = n ≡ 0
+WholeObeys (lineX _) n = LineLength n
+WholeObeys (lineXY _) n = LineLength n
 
--- the bits of a float from 0 to 44,100
-abbrev pub InBand : ℕ → Type 0
-InBand f = (le (ofBits binary32 0) (ofBits binary32 f) ≡ true) × (le (ofBits binary32 f) (ofBits binary32 0x472c_4400) ≡ true)
+abbrev pub FloatObeys : Value → ℕ → Type 0
+FloatObeys unused f = f ≡ 0
+FloatObeys (coefficient r _) f = inRange r (ofBits binary32 f) ≡ true
+FloatObeys (numbered r _) f = inRange r (ofBits binary32 f) ≡ true
 
--- a kind's whole number and float; an unused field is all zero bits
 unfoldable pub FieldsObey : NodeKind → ℕ → ℕ → Type 0
-FieldsObey Pass n f = (n ≡ 0) × (f ≡ 0)
-FieldsObey Sum n f = (n ≡ 0) × (f ≡ 0)
-FieldsObey Destination n f = (n ≡ 0) × (f ≡ 0)
-FieldsObey Balance n f = (n ≡ 0) × (f ≡ 0)
-FieldsObey (Mul _) n f = (n ≡ 0) × Finite f
-FieldsObey (Add _) n f = (n ≡ 0) × Finite f
-FieldsObey (Delay _) n f = LineLength n × (f ≡ 0)
-FieldsObey (AllPass _ _) n f = LineLength n × Finite f
-FieldsObey (OnePole _) n f = (n ≡ 0) × Finite f
-FieldsObey (Sine _) n f = (n ≡ 0) × InBand f
+FieldsObey k n f = WholeObeys (rowOf k .line) n × FloatObeys (rowOf k .value) f
 
 -- node i is of one of the ten types, with the type's fields; node 0, and only it, is type 3. The float's bits fit their 4 bytes; each
 -- other number of a card fits its bytes by the range that it obeys

@@ -1,25 +1,32 @@
 // The records of a board, read in three parts: the head, the nodes, the wires. Each part is read once
 // and gives what it read, where the next record stands, and the refusal that ended it, if one did.
 ghost use mathlib.Core.Path.{_≡_};
+ghost use mathlib.Core.List.{[]};
 ghost use Prim.Native.Nat.{_+_, _*_, _≤_, _<_};
 ghost use lib.ListN.{length};
 ghost use Rattle.leaves.specs.Bytes.{u16At};
 ghost use Rattle.graph.specs.Record.{foundAt};
-ghost use Rattle.graph.specs.Board.{Parsed, going, refused, whole, headed, placed, nodeFits, wireFits, headBy, endBy, stepOf, readRecords};
-ghost use Rattle.graph.specs.Parts.{orRefused, nodeRead, wireRead, madeOf, HeadRead, NodesRead, WiresRead};
+ghost use Rattle.graph.specs.Board.{Parsed, going, refused, whole, headed, placed, nodeFits, wireFits, headBy, endBy, stepOf};
+ghost use Rattle.graph.specs.Parts.{orRefused, startsWith, nodeRead, isWire, partEnd, HeadRead, NodesRead, WiresRead};
+ghost use Rattle.graph.specs.Sources.{Tabled};
+ghost use Rattle.graph.specs.Wires.{wiresOf};
 ghost use Rattle.graph.specs.Read.{Read};
 use crate::answer::Answer;
 use crate::reader::read_record;
 use crate::record::Found;
-use crate::sources::table_of;
+use crate::sources::add_source;
+use crate::sources::second;
 use leaves::bytes::u16_at;
 use leaves::bytes::u32_at;
+use leaves::bytes::wide;
+use nodes::kind::Fields;
 use nodes::kind::NodeKind;
 use nodes::kind::NodeRecord;
-use nodes::kind::Rule;
 use nodes::kind::channels_of;
+use nodes::kind::fewest;
 use nodes::kind::is_destination;
 use nodes::kind::line_of;
+use nodes::kind::most;
 use nodes::kind::rule_of;
 
 // The head: block size and input node.
@@ -29,62 +36,23 @@ pub struct Head {
     pub input: usize,
 }
 
-// The nodes: how many, each as read, the values of their cells together, and the next offset.
+// The nodes: how many, each as read, the fewest and the most sources that each takes, the values of
+// their cells together, and the next offset.
 pub struct Nodes {
     pub refused: Answer,
     pub count: usize,
     pub nodes: [NodeRecord; 64],
+    pub fewest: [u8; 64],
+    pub most: [u8; 64],
     pub values: usize,
     pub next: usize,
 }
 
-// The wires: how many, the source and target of each, and the next offset.
+// The wires: how many, and the next offset.
 pub struct Wires {
     pub refused: Answer,
     pub count: usize,
-    pub sources: [u8; 128],
-    pub targets: [u8; 128],
     pub next: usize,
-}
-
-impl Nodes {
-    fn new(
-        refused: Answer,
-        count: usize,
-        nodes: [NodeRecord; 64],
-        values: usize,
-        next: usize,
-    ) -> Self
-        ensures { λ r. ⌜ r ≡ record { refused = refused; count = count; nodes = nodes; values = values; next = next } ⌝ }
-    {
-        Nodes {
-            refused,
-            count,
-            nodes,
-            values,
-            next,
-        }
-    }
-}
-
-impl Wires {
-    fn new(
-        refused: Answer,
-        count: usize,
-        sources: [u8; 128],
-        targets: [u8; 128],
-        next: usize,
-    ) -> Self
-        ensures { λ r. ⌜ r ≡ record { refused = refused; count = count; sources = sources; targets = targets; next = next } ⌝ }
-    {
-        Wires {
-            refused,
-            count,
-            sources,
-            targets,
-            next,
-        }
-    }
 }
 
 // The board as read. Where it is refused by checks 1 to 5 there are no nodes and no wires. `values` are
@@ -104,16 +72,23 @@ pub struct Board {
     pub seconds: [u8; 64],
 }
 
-// One record of the nodes or of the wires: what it says, or the number that ends the part, 0 where
-// another kind follows and else the refusal's.
+// One record of the nodes: what it says, or the number that ends the part, 0 where another kind
+// follows and else the refusal's.
 pub enum NodeRead {
     Is(NodeKind),
     Ends(u32),
 }
 
-pub enum WireRead {
-    Is(u8, u8),
-    Ends(u32),
+// Whether a record of this length and kind, with all its bytes, stands at `at`, which is not past the
+// end.
+fn starts_with(s: &[u8], at: usize, size: u16, kind: u16) -> bool
+    requires { ⌜ (at ≤ length (now s)) × (4 ≤ size) ⌝ }
+    ensures { λ r. ⌜ r ≡ startsWith (now (s .entry)) at size kind ⌝ }
+{
+    if s.len() - at < size as usize {
+        return false;
+    }
+    u16_at(s, at) as u32 + u16_at(s, at + 2) as u32 * 65536 == size as u32 + kind as u32 * 65536
 }
 
 // A refusal in place of a head.
@@ -147,10 +122,11 @@ fn head_body(s: &[u8]) -> Head
 }
 
 // The head, which alone may stand at offset 0.
-fn read_head(s: &[u8]) -> Head
+pub fn read_head(s: &[u8]) -> Head
     ensures { λ r. ⌜ HeadRead (stepOf (now (s .entry)) (going 0 0 (headed 0 0))) r ⌝ }
 {
-    match read_record(s, 0, 0) {
+    let mut next = 0;
+    match read_record(s, &mut next, 0) {
         Found::Head => head_body(s),
         Found::Node => no_head(2),
         Found::Wire => no_head(2),
@@ -187,28 +163,42 @@ fn node_body(s: &[u8], at: usize, i: usize, lines: usize) -> NodeRead
     let n = u32_at(s, at + 6);
     let f = u32_at(s, at + 10);
     match rule_of(t, n, f) {
-        Rule::Is(k) => {
+        Fields::Is(k) => {
             if node_fits(i, lines, k) {
                 NodeRead::Is(k)
             } else {
                 NodeRead::Ends(4)
             }
         }
-        Rule::Broken => NodeRead::Ends(4),
+        Fields::Broken => NodeRead::Ends(4),
     }
 }
 
-// A node may follow the head as it may follow a node.
+// What ends the nodes or the wires at `at`, where no record of their own kind stands that may follow:
+// 0 where the next part does, and else the refusal's number; a wire there has the number given.
+fn part_end(s: &[u8], at: usize, last: u16, wire: u32) -> u32
+    ensures { λ r. ⌜ r ≡ partEnd wire (foundAt (now (s .entry)) at last) ⌝ }
+{
+    let mut next = at;
+    match read_record(s, &mut next, last) {
+        Found::Head => 0,
+        Found::Node => 0,
+        Found::Wire => wire,
+        Found::End => 0,
+        Found::Refused(number) => number,
+    }
+}
+
+// What the record at `at` says. A node, which may follow the head as it may follow a node, is known by
+// its first four bytes.
 fn node_at(s: &[u8], at: usize, i: usize, lines: usize) -> NodeRead
-    requires { ⌜ lines ≤ 262144 ⌝ }
+    requires { ⌜ (lines ≤ 262144) × (at ≤ length (now s)) ⌝ }
     ensures { λ r. ⌜ r ≡ nodeRead (now (s .entry)) at i lines (foundAt (now (s .entry)) at 2) ⌝ }
 {
-    match read_record(s, at, 2) {
-        Found::Head => NodeRead::Ends(0),
-        Found::Node => node_body(s, at, i, lines),
-        Found::Wire => NodeRead::Ends(0),
-        Found::End => NodeRead::Ends(0),
-        Found::Refused(number) => NodeRead::Ends(number),
+    if starts_with(s, at, 14, 2) {
+        node_body(s, at, i, lines)
+    } else {
+        NodeRead::Ends(part_end(s, at, 2, 0))
     }
 }
 
@@ -222,11 +212,13 @@ fn blank() -> NodeRecord {
 }
 
 // The nodes after a head with this block size. Each cell starts where those before it end.
-fn read_nodes(s: &[u8], size: usize) -> Nodes
+pub fn read_nodes(s: &[u8], size: usize) -> Nodes
     requires { ⌜ (size ≤ 128) × (8 ≤ length (now s)) ⌝ }
     ensures { λ r. ⌜ NodesRead (now (s .entry)) size r ⌝ }
 {
     let mut nodes = [blank(); 64];
+    let mut least = [0u8; 64];
+    let mut top = [0u8; 64];
     let mut count = 0;
     let mut lines = 0;
     let mut values = 0;
@@ -239,15 +231,26 @@ fn read_nodes(s: &[u8], size: usize) -> Nodes
                 nodes[count] = NodeRecord {
                     kind,
                     channels,
-                    cell: values,
+                    cell: values as u32,
                 };
+                least[count] = fewest(kind);
+                top[count] = most(kind);
                 count += 1;
                 lines += line;
-                values += 3 + size * channels + line;
+                values += 3 + size * wide(channels) + line;
                 next += 14;
             }
             NodeRead::Ends(number) => {
-                return Nodes::new(Answer::new(number, next), count, nodes, values, next);
+                let refused = Answer::new(number, next);
+                return Nodes {
+                    refused,
+                    count,
+                    nodes,
+                    fewest: least,
+                    most: top,
+                    values,
+                    next,
+                };
             }
         }
     }
@@ -260,72 +263,79 @@ pub fn wire_fits(i: usize, w: usize, a: u16, t: u16) -> bool
     (((w < 128) & ((a as usize) < i)) & ((t as usize) < i)) & !(a == t)
 }
 
-// The body of the wire record at `at`, after w wires, on a board of i nodes.
-fn wire_body(s: &[u8], at: usize, i: usize, w: usize) -> WireRead
-    requires { ⌜ (at + 8 ≤ length (now s)) × (i ≤ 64) ⌝ }
-    ensures { λ r. ⌜ r ≡ wireRead (now (s .entry)) at i w Found.Wire ⌝ }
+// Whether the record at `at` is a wire that may follow w wires, on a board of i nodes.
+fn is_wire(s: &[u8], at: usize, i: usize, w: usize) -> bool
+    requires { ⌜ at ≤ length (now s) ⌝ }
+    ensures { λ r. ⌜ r ≡ isWire (now (s .entry)) at i w (foundAt (now (s .entry)) at 3) ⌝ }
 {
-    let a = u16_at(s, at + 4);
-    let t = u16_at(s, at + 6);
-    if wire_fits(i, w, a, t) {
-        WireRead::Is(a as u8, t as u8)
+    if starts_with(s, at, 8, 3) {
+        wire_fits(i, w, u16_at(s, at + 4), u16_at(s, at + 6))
     } else {
-        WireRead::Ends(5)
+        false
     }
 }
 
-// A wire or the end may follow a node as it may follow a wire.
-fn wire_at(s: &[u8], at: usize, i: usize, w: usize) -> WireRead
-    requires { ⌜ i ≤ 64 ⌝ }
-    ensures { λ r. ⌜ r ≡ wireRead (now (s .entry)) at i w (foundAt (now (s .entry)) at 3) ⌝ }
+// The wires from the offset `start` on, on a board of i nodes, and the table of each node's sources,
+// gathered as they are read.
+// Ruled out, and tried by must-fail edits: a repeated wire that counts twice (repeat_counts), sources
+// from the newest wire on (newest_wire_first).
+pub fn read_wires(
+    s: &[u8],
+    start: usize,
+    i: usize,
+    sources: &mut [u8; 128],
+    targets: &mut [u8; 128],
+    counts: &mut [u8; 64],
+    lists: &mut [u8; 512],
+    seconds: &mut [u8; 64],
+) -> Wires
+    requires { ⌜ (i ≤ 64) × (start ≤ 904) × (start ≤ length (now s)) × (length (now sources) ≡ 128) × (length (now targets) ≡ 128) ⌝ }
+    requires { ⌜ Tabled [] (now counts) (now lists) (now seconds) ⌝ }
+    ensures read { λ r. ⌜ WiresRead (now (s .entry)) start i r (now (sources .exit)) (now (targets .exit)) ⌝ }
+    ensures table { λ r. ⌜ Tabled (wiresOf (now (sources .exit)) (now (targets .exit)) (r .count)) (now (counts .exit)) (now (lists .exit)) (now (seconds .exit)) ⌝ }
 {
-    match read_record(s, at, 3) {
-        Found::Head => WireRead::Ends(0),
-        Found::Node => WireRead::Ends(0),
-        Found::Wire => wire_body(s, at, i, w),
-        Found::End => WireRead::Ends(0),
-        Found::Refused(number) => WireRead::Ends(number),
-    }
-}
-
-// The wires from the offset `start` on, on a board of i nodes.
-fn read_wires(s: &[u8], start: usize, i: usize) -> Wires
-    requires { ⌜ (i ≤ 64) × (start ≤ 904) × (start ≤ length (now s)) ⌝ }
-    ensures { λ r. ⌜ WiresRead (now (s .entry)) start i r ⌝ }
-{
-    let mut sources = [0u8; 128];
-    let mut targets = [0u8; 128];
+    let mut ins = [0u8; 64];
     let mut count = 0;
     let mut next = start;
-    loop {
-        match wire_at(s, next, i, count) {
-            WireRead::Is(source, target) => {
-                sources[count] = source;
-                targets[count] = target;
-                count += 1;
-                next += 8;
-            }
-            WireRead::Ends(number) => {
-                return Wires::new(Answer::new(number, next), count, sources, targets, next);
-            }
-        }
+    while is_wire(s, next, i, count) {
+        let source = s[next + 4];
+        let byte = s[next + 6];
+        let target = wide(byte);
+        sources[count] = source;
+        targets[count] = byte;
+        let n = ins[target];
+        seconds[target] = second(n, seconds[target], source);
+        ins[target] = n + 1;
+        counts[target] = add_source(lists, 8 * target, counts[target], source);
+        count += 1;
+        next += 8;
+    }
+    let refused = Answer::new(part_end(s, next, 3, 5), next);
+    Wires {
+        refused,
+        count,
+        next,
     }
 }
 
-// The end record at `at` is the board's last.
-fn read_end(s: &[u8], at: usize) -> Answer
-    requires { ⌜ at ≤ 1928 ⌝ }
-    ensures { λ r. ⌜ ((p : Parsed) → endBy (now (s .entry)) at p ≡ orRefused r (whole p)) ⌝ }
+// The refusal that ended the wires; or the end record's, which is the board's last.
+pub fn read_end(s: &[u8], wired: Wires) -> Answer
+    requires { ⌜ wired .next ≤ 1928 ⌝ }
+    ensures { λ r. ⌜ ((p : Parsed) → orRefused (wired .refused) (endBy (now (s .entry)) (wired .next) p) ≡ orRefused r (whole p)) ⌝ }
 {
-    if at + 4 == s.len() {
+    let unwired = wired.refused;
+    if unwired.number != 0 {
+        return unwired;
+    }
+    if wired.next + 4 == s.len() {
         Answer::new(0, 0)
     } else {
-        Answer::new(1, at + 4)
+        Answer::new(1, wired.next + 4)
     }
 }
 
 // A refused board, empty.
-fn refusal(answer: Answer) -> Board
+pub fn refusal(answer: Answer) -> Board
     requires { ⌜ 0 < answer .number ⌝ }
     ensures { λ r. ⌜ Read (refused (answer .number) (answer .place)) r ⌝ }
 {
@@ -347,57 +357,4 @@ fn refusal(answer: Answer) -> Board
         lists,
         seconds: counts,
     }
-}
-
-// The end record, and the board that the parts make.
-fn read_last(s: &[u8], head: Head, read: Nodes, wired: Wires) -> Board
-    requires { ⌜ (head .size ≤ 128) × (head .input < 65536) ⌝ }
-    requires { ⌜ NodesRead (now s) (head .size) read ⌝ }
-    requires { ⌜ WiresRead (now s) (read .next) (read .count) wired ⌝ }
-    ensures { λ r. ⌜ Read (endBy (now (s .entry)) (wired .next) (madeOf head read wired)) r ⌝ }
-{
-    let nodes = read.nodes;
-    let sources = wired.sources;
-    let targets = wired.targets;
-    let table = table_of(&sources, &targets, wired.count);
-    let counts = table.counts;
-    let lists = table.lists;
-    let seconds = table.seconds;
-    Board {
-        refused: read_end(s, wired.next),
-        size: head.size,
-        input: head.input,
-        count: read.count,
-        nodes,
-        values: read.values,
-        wires: wired.count,
-        sources,
-        targets,
-        counts,
-        lists,
-        seconds,
-    }
-}
-
-// The board that the records make, or the first refusal: checks 1 to 5.
-// Ruled out, and tried by a must-fail edit: lines of 262,145 values together (lines_one_more).
-pub fn read_records(s: &[u8]) -> Board
-    ensures { λ r. ⌜ Read (readRecords (now (s .entry))) r ⌝ }
-{
-    let head = read_head(s);
-    let headless = head.refused;
-    if headless.number != 0 {
-        return refusal(headless);
-    }
-    let read = read_nodes(s, head.size);
-    let unread = read.refused;
-    if unread.number != 0 {
-        return refusal(unread);
-    }
-    let wired = read_wires(s, read.next, read.count);
-    let unwired = wired.refused;
-    if unwired.number != 0 {
-        return refusal(unwired);
-    }
-    read_last(s, head, read, wired)
 }

@@ -1,42 +1,48 @@
 // The board judge: check 6, with the table of sources, and the board that all calls work on.
 ghost use mathlib.Core.Path.{_≡_};
-ghost use lib.ListN.{take};
-ghost use Rattle.graph.specs.Board.{whole};
-ghost use Rattle.graph.specs.Judge.{inputFits, checkSources, checkSix, readBoard, judgeOf};
-ghost use Rattle.graph.specs.Parts.{orRefused};
-ghost use Rattle.graph.specs.Read.{parsedOf, Sound, Read};
+ghost use mathlib.Core.Bool.{true};
+ghost use Prim.Native.Nat.{_≤_, _<_};
+ghost use lib.ListN.{length, take};
+ghost use Rattle.graph.specs.Board.{Parsed, going, whole, headed, stepOf};
+ghost use Rattle.graph.specs.Judge.{passAt, checkSources, checkSix, readBoard, judgeOf};
+ghost use Rattle.graph.specs.Parts.{orRefused, HeadRead, NodesRead, Counts, AllFit};
+ghost use Rattle.graph.specs.Read.{Read};
 use crate::answer::Answer;
 use crate::board::Board;
-use crate::board::read_records;
-use leaves::bytes::wide;
+use crate::board::Head;
+use crate::board::Nodes;
+use crate::board::read_end;
+use crate::board::read_head;
+use crate::board::read_nodes;
+use crate::board::read_wires;
+use crate::board::refusal;
+use nodes::kind::NodeRecord;
 use nodes::kind::is_pass;
-use nodes::kind::sources_fit;
 
-// The input node is a pass without wires in.
-fn input_fits(board: Board) -> bool
-    requires { ⌜ Sound board ⌝ }
-    ensures { λ r. ⌜ r ≡ inputFits (parsedOf board) ⌝ }
+// Whether each of the first `count` nodes has as many sources as its type takes. All are looked at, so
+// that several go at once.
+fn all_fit(least: &[u8; 64], top: &[u8; 64], counts: &[u8; 64], count: usize) -> bool
+    requires { ⌜ count ≤ 64 ⌝ }
+    ensures { λ r. ⌜ (r ≡ true → AllFit (now (least .entry)) (now (top .entry)) (now (counts .entry)) count) ⌝ }
 {
-    let input = board.input;
-    if board.count <= input {
-        return false;
+    let mut wrong = false;
+    let mut i = 0;
+    while i < count {
+        wrong = wrong | (counts[i] < least[i]) | (top[i] < counts[i]);
+        i += 1;
     }
-    let node = board.nodes[input];
-    let kind = node.kind;
-    is_pass(kind) & (board.counts[input] == 0)
+    !wrong
 }
 
 // The lowest node with a wrong number of sources is refused.
-fn sources_judged(board: Board) -> Answer
-    requires { ⌜ Sound board ⌝ }
-    ensures { λ r. ⌜ checkSources (parsedOf board) 0 (take (board .count) (board .nodes)) ≡ orRefused r (whole (parsedOf board)) ⌝ }
+fn sources_judged(least: &[u8; 64], top: &[u8; 64], counts: &[u8; 64], count: usize) -> Answer
+    requires { ⌜ count ≤ 64 ⌝ }
+    ensures { λ r. ⌜ ((p : Parsed) → length (p .nodes) ≡ count → Counts p (now (least .entry)) (now (top .entry)) (now (counts .entry))
+        → checkSources p 0 (p .nodes) ≡ orRefused r (whole p)) ⌝ }
 {
     let mut i = 0;
-    while i < board.count {
-        let node = board.nodes[i];
-        let kind = node.kind;
-        let n = wide(board.counts[i]);
-        if !sources_fit(kind, n) {
+    while i < count {
+        if (counts[i] < least[i]) | (top[i] < counts[i]) {
             return Answer::new(6, i);
         }
         i += 1;
@@ -44,18 +50,91 @@ fn sources_judged(board: Board) -> Answer
     Answer::new(0, 0)
 }
 
-// Check 6: there is a node 0, then the input node, then the sources of each node.
-fn judged(board: Board) -> Answer
-    requires { ⌜ Sound board ⌝ }
-    ensures { λ r. ⌜ checkSix (parsedOf board) ≡ orRefused r (whole (parsedOf board)) ⌝ }
+// Check 6: there is a node 0, then the input node, which is a pass without wires in, then the sources of
+// each node.
+fn judged(
+    pass: bool,
+    input: usize,
+    least: &[u8; 64],
+    top: &[u8; 64],
+    counts: &[u8; 64],
+    count: usize,
+) -> Answer
+    requires { ⌜ (count ≤ 64) × (input < 65536) × (pass ≡ true → input < count) ⌝ }
+    ensures { λ r. ⌜ ((p : Parsed) → length (p .nodes) ≡ count → p .input ≡ input → passAt (p .nodes) input ≡ pass
+        → Counts p (now (least .entry)) (now (top .entry)) (now (counts .entry)) → checkSix p ≡ orRefused r (whole p)) ⌝ }
 {
-    if board.count == 0 {
+    if count == 0 {
         return Answer::new(6, 0);
     }
-    if input_fits(board) {
-        sources_judged(board)
+    if !pass {
+        return Answer::new(6, input);
+    }
+    if counts[input] != 0 {
+        return Answer::new(6, input);
+    }
+    if all_fit(least, top, counts, count) {
+        Answer::new(0, 0)
     } else {
-        Answer::new(6, board.input)
+        sources_judged(least, top, counts, count)
+    }
+}
+
+// Whether node i is one of the first `count` nodes, and a pass.
+fn pass_at(nodes: [NodeRecord; 64], count: usize, i: usize) -> bool
+    requires { ⌜ (count ≤ 64) × (length nodes ≡ 64) ⌝ }
+    ensures { λ r. ⌜ (r ≡ passAt (take count nodes) i) × (r ≡ true → i < count) ⌝ }
+{
+    if count <= i {
+        return false;
+    }
+    let node = nodes[i];
+    let kind = node.kind;
+    is_pass(kind)
+}
+
+// The wires, the end record and check 6, behind the head and the nodes.
+fn read_rest(s: &[u8], head: Head, read: Nodes) -> Board
+    requires { ⌜ HeadRead (stepOf (now s) (going 0 0 (headed 0 0))) head × (head .refused .number ≡ 0) ⌝ }
+    requires { ⌜ NodesRead (now s) (head .size) read × (read .refused .number ≡ 0) ⌝ }
+    ensures { λ r. ⌜ Read (readBoard (now (s .entry))) r ⌝ }
+{
+    let mut sources = [0u8; 128];
+    let mut targets = [0u8; 128];
+    let mut counts = [0u8; 64];
+    let mut lists = [0u8; 512];
+    let mut seconds = [0u8; 64];
+    let wired = read_wires(
+        s,
+        read.next,
+        read.count,
+        &mut sources,
+        &mut targets,
+        &mut counts,
+        &mut lists,
+        &mut seconds,
+    );
+    let ended = read_end(s, wired);
+    if ended.number != 0 {
+        return refusal(ended);
+    }
+    let nodes = read.nodes;
+    let least = read.fewest;
+    let top = read.most;
+    let pass = pass_at(nodes, read.count, head.input);
+    Board {
+        refused: judged(pass, head.input, &least, &top, &counts, read.count),
+        size: head.size,
+        input: head.input,
+        count: read.count,
+        nodes,
+        values: read.values,
+        wires: wired.count,
+        sources,
+        targets,
+        counts,
+        lists,
+        seconds,
     }
 }
 
@@ -65,14 +144,17 @@ fn judged(board: Board) -> Answer
 pub fn read_board(s: &[u8]) -> Board
     ensures { λ r. ⌜ Read (readBoard (now (s .entry))) r ⌝ }
 {
-    let mut board = read_records(s);
-    let read = board.refused;
-    if read.number != 0 {
-        return board;
+    let head = read_head(s);
+    let headless = head.refused;
+    if headless.number != 0 {
+        return refusal(headless);
     }
-    let refused = judged(board);
-    board.refused = refused;
-    board
+    let read = read_nodes(s, head.size);
+    let unread = read.refused;
+    if unread.number != 0 {
+        return refusal(unread);
+    }
+    read_rest(s, head, read)
 }
 
 // The board judge: a refusal, or 0 and the memory's length.

@@ -8,3 +8,4 @@ pub mod reader;
 pub mod record;
 pub mod sources;
 pub mod tail;
+pub mod writer;

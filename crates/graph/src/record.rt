@@ -1,13 +1,7 @@
 // The record at an offset of the board's bytes: a cut record is refused first, then its kind, then
-// its length. And a record written.
+// its length.
 ghost use mathlib.Core.Path.{_≡_};
-ghost use mathlib.Core.List.{_++_};
-ghost use Prim.Native.Nat.{_+_, _≤_};
-ghost use lib.ListN.{length};
-ghost use lib.Seq.{sets};
-ghost use Rattle.leaves.specs.Bytes.{u16Bytes};
-ghost use Rattle.graph.specs.Record.{inOrder, sized, foundOf, foundAt};
-use leaves::bytes::put_u16;
+ghost use Rattle.graph.specs.Record.{inOrder, sized, foundOf, foundAt, lengthOf};
 use leaves::bytes::u16_at;
 
 // A whole record of a kind that may stand there, of the kind's length; or why not, by number.
@@ -70,13 +64,15 @@ pub fn found_at(s: &[u8], at: usize, last: u16) -> Found
     }
 }
 
-// A record of four 2-byte numbers: the head, or a wire.
-pub fn put_four(board: &mut [u8], at: usize, kind: u16, a: u16, b: u16)
-    requires { ⌜ at + 8 ≤ length (now board) ⌝ }
-    ensures { λ _. ⌜ now (board .exit) ≡ sets (now (board .entry)) at (u16Bytes 8 ++ u16Bytes kind ++ u16Bytes a ++ u16Bytes b) ⌝ }
+// How far a reader moves: the length of the record found, and 0 where it is refused.
+pub fn length_of(f: Found) -> usize
+    ensures { λ r. ⌜ r ≡ lengthOf f ⌝ }
 {
-    put_u16(board, at, 8);
-    put_u16(board, at + 2, kind);
-    put_u16(board, at + 4, a);
-    put_u16(board, at + 6, b);
+    match f {
+        Found::Head => 8,
+        Found::Node => 14,
+        Found::Wire => 8,
+        Found::End => 4,
+        Found::Refused(number) => 0,
+    }
 }

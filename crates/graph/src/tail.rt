@@ -23,16 +23,9 @@ fn delays(k: NodeKind) -> bool
     ensures { λ r. ⌜ r ≡ delays k ⌝ }
 {
     match k {
-        NodeKind::Pass => true,
-        NodeKind::Sum => true,
-        NodeKind::Destination => true,
-        NodeKind::Balance => true,
-        NodeKind::Mul(_) => true,
-        NodeKind::Add(_) => false,
-        NodeKind::Delay(_) => true,
-        NodeKind::AllPass(_, _) => false,
-        NodeKind::OnePole(_) => false,
-        NodeKind::Sine(_) => false,
+        NodeKind::Add(_) | NodeKind::AllPass(_, _) | NodeKind::OnePole(_) | NodeKind::Sine(_) =>
+            false,
+        _ => true,
     }
 }
 

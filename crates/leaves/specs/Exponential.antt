@@ -1,4 +1,7 @@
 -- The plate's one-pole constants (document 01, "Plate"): the floats nearest e^(-7π/5) and e^(-π/5), with e^x bracketed by whole-number series.
+-- What ties the whole numbers to π and e^x is argued by these facts, which are not proved: those of `Series` on π, and
+--     series       e^x = 1 + x + x²/2! + .., and e^(-x) = 1 / e^x
+--     tail         where each term is at most half of the one before, from x^24/24! on, all behind that term make at most as much as it
 use Prim.Native.Nat.{ℕ, zero, suc, _+_, _-_, _*_, _/_, _^_, _≤_, _<_}
 use mathlib.Core.List.{List, [], _∷_}
 use lib.Dec.{lit≤, lit<}
@@ -24,8 +27,8 @@ downFrom (suc n) = suc n ∷ downFrom n
 unfoldable pub expLow : ℕ → ℕ
 expLow k = powers 24 (k * piLow) (5 * 10 ^ 9) (downFrom 24)
 
--- From x^24/24! on, each term is at most half of the one before it, as x is below 25/2. So all that follow make at most that term,
--- and the sum at the upper π with the last term counted twice lies above e^x, which is at most expHigh k / expOver.
+-- From x^24/24! on, each term is at most half of the one before it, as x is below 25/2. So the sum at the upper π with the last term
+-- counted twice lies above e^x, which is at most expHigh k / expOver.
 unfoldable pub expHigh : ℕ → ℕ
 expHigh k = powers 24 (k * piHigh) (5 * 10 ^ 9) (24 ∷ downFrom 24)
 

@@ -1,4 +1,4 @@
--- What the contracts of the leaves cite, and the worked values.
+-- What the contracts of the leaves cite; how near the sine and the plate's one-pole constants are (Series, Exponential); the worked values.
 pub mod Words
 pub mod Parts
 pub mod Bytes

@@ -5,10 +5,13 @@ ghost use Prim.Native.Nat.{_+_, _*_, _^_, _≤_};
 ghost use lib.ListN.{length};
 ghost use lib.Ieee.{binary32, ofBits, toBits};
 ghost use Rattle.leaves.specs.Words.{words};
-ghost use Rattle.leaves.specs.Floats.{floatAt, setFloat};
+ghost use Rattle.leaves.specs.Floats.{floatAt, setFloat, finiteBits};
 ghost use Rattle.leaves.specs.Floors.{finiteF, floorOf, within, Upto};
 use crate::bytes::put_word;
 use crate::bytes::word_at;
+
+// Samples a second.
+pub const SAMPLE_RATE: f32 = 44100.0;
 
 pub fn of_bits(bits: u32) -> f32
     ensures { λ r. ⌜ r ≡ ofBits binary32 bits ⌝ }
@@ -26,11 +29,18 @@ pub fn to_bits(x: f32) -> u32
     if x != x { 0x7fc0_0000 } else { f32::to_bits(x) }
 }
 
-// Neither a NaN nor an infinity: the pattern is below infinity's, the sign's bit aside.
+// The pattern of a finite float is below infinity's, the sign's bit aside.
+pub fn finite_bits(w: u32) -> bool
+    ensures { λ r. ⌜ r ≡ finiteBits w ⌝ }
+{
+    w % 0x8000_0000 < 0x7f80_0000
+}
+
+// Neither a NaN nor an infinity.
 pub fn finite(x: f32) -> bool
     ensures { λ r. ⌜ r ≡ finiteF x ⌝ }
 {
-    to_bits(x) % 0x8000_0000 < 0x7f80_0000
+    finite_bits(to_bits(x))
 }
 
 // From 0 to `most`, negative zero among them; a NaN never is.

@@ -1,12 +1,13 @@
 // The oscillator's phase, from one sample to the next.
 ghost use mathlib.Core.Path.{_≡_};
 ghost use Rattle.leaves.specs.Phase.{increment, advance};
+use crate::float::SAMPLE_RATE;
 
 // How far a frequency moves the phase: a block divides once.
 pub fn increment(f: f32) -> f32
     ensures { λ r. ⌜ r ≡ increment f ⌝ }
 {
-    f / 44100.0
+    f / SAMPLE_RATE
 }
 
 // A phase of exactly 1 stays 1: only what is above it is turned back.

@@ -2,7 +2,7 @@
 use Prim.Native.Nat.{ℕ}
 use mathlib.Core.List.{List, [], _∷_, _++_}
 use Rattle.reading.specs.Order.{Wire}
-use Rattle.graph.specs.Board.{Reading, going, refused, whole}
+use Rattle.graph.specs.Board.{Progress, going, refused, whole}
 use Rattle.graph.specs.Visit.{visitingList}
 use Rattle.graph.specs.Late.{lateWires}
 use Rattle.text.specs.Written.{spaced, pair}
@@ -36,7 +36,7 @@ unfoldable pub orderText : List ℕ → List Wire → List ℕ
 orderText l ws = ((orderWord ++ spacedAll l) ++ (10 ∷ [])) ++ lateLines (lateWires l ws)
 
 -- the text of a board as read; a reading is never left going
-unfoldable pub textOf : Reading → List ℕ
+unfoldable pub textOf : Progress → List ℕ
 textOf (going at last p) = line refusedWord 1 at
 textOf (refused n w) = line refusedWord n w
 textOf (whole p) = orderText (visitingList (p .wires)) (p .wires)

@@ -3,7 +3,7 @@
 --     run-alike         the block run
 --     alike-given, alike-alone, alike-nothing    blocks of the operands, and what the wires bring
 -- Assumes nothing.
-use mathlib.Core.Path.{_≡_, refl, sym, ap, _∙_}
+use mathlib.Core.Path.{_≡_, refl, sym, ap, subst, _∙_}
 use mathlib.Core.Bool.{Bool, true, false, cond}
 use mathlib.Core.List.{List}
 use Prim.Native.Nat.{ℕ, _+_, _<_}
@@ -15,11 +15,12 @@ use lib.Ieee.{Float, nan, binary32, ofBits, toBits, add, mul}
 use Rattle.leaves.specs.Floors.{floorOf}
 use Rattle.leaves.specs.Position.{positionOf, restOf}
 use Rattle.leaves.specs.OnePole.{onePoleOf, onePoleStep}
+use Rattle.nodes.specs.Row.{Terms, Writes, mono, product, plus, delayed, filteredBy, smoothed, wave, rowOf}
 use Rattle.nodes.specs.Kind.{channelsOf}
-use Rattle.nodes.specs.Rule.{Brought, State, first, two, allPass, between, tap, keeps, leftOf, leftBy, rightOf, carryAfter, xLine, yLine, placeAfter, lineAfter, sampleBy, stateBy}
+use Rattle.nodes.specs.Rule.{Brought, State, first, two, allPass, between, tapBy, tap, keepsIn, keeps, leftIn, leftOf, leftBy, rightIn, rightOf, carryAfter, xLine, yLine, placeAfter, lineAfter, sampleBy, stateBy}
 use Rattle.nodes.specs.Cell.{Cell, valuesOf, cellOf, frameAt, putFrame, stepCell, runCell, runValues}
 use Rattle.nodes.specs.Block.{sample, alone, given, nothing}
-use Rattle.nodes.specs.Node.{Operands, Gives}
+use Rattle.nodes.specs.Node.{sumsSources, GivesBy, Operands, Gives}
 use Rattle.nodes.specs.declared.kind.NodeKind.{NodeKind}
 use Rattle.nodes.specs.declared.kind.NodeKind.the-variants.{Mul, Add, Delay, AllPass, OnePole, Sine}
 use Rattle.nodes.proofs.Iterated.{iter-same}
@@ -48,54 +49,45 @@ second-same b d f a e = go (two b) (two d) (e .twos) (e .seconds)
     go false false p q = refl
 
 tap-same : (n : ℕ) (get : ℕ → Float) (b d : Brought) → Alike b d → tap n b get ≡ tap n d get
-unfolding tap
+unfolding tapBy
 tap-same n get b d e =
     second-same b d (λ w. let pos = positionOf w n in between (get (floorOf pos)) (get (floorOf pos + 1)) (restOf pos)) (get 0) e
 
-pub mul-reads : (f : Float) → ReadsOperands (Mul f)
+-- a row of one channel whose formula reads no more of the wires
+abbrev rewired : Brought → Terms → Terms
+rewired d t = record { number = t .number; carry = t .carry; x = t .x; y = t .y; wires = d }
+
+mono-reads : (k : NodeKind) (f : Terms → Float) → rowOf k .writes ≡ mono f → sumsSources k ≡ false
+    → ((t : Terms) (d : Brought) → Alike (t .wires) d → f t ≡ f (rewired d t)) → ReadsOperands k
 unfolding leftOf rightOf keeps
-mul-reads f = record {
-  left = λ s b d e i. mul binary32 (e .firsts i) (second-same b d (λ m. m) (ofBits binary32 (s .number)) e i);
-  right = λ b d. refl;
-  goes = λ b d. refl;
-  asks = λ n b x m g. g;
+mono-reads k f is single reads = record {
+  left = λ s b d e.
+      let t : Terms = record { number = ofBits binary32 (s .number); carry = ofBits binary32 (s .carry); x = xLine k s; y = yLine k s; wires = b } in
+      ap (λ (w : Writes). leftIn w t) is ∙ reads t d e ∙ ap (λ (w : Writes). leftIn w (rewired d t)) (sym is);
+  right = λ b d. ap (λ (w : Writes). rightIn w b) is ∙ ap (λ (w : Writes). rightIn w d) (sym is);
+  goes = λ b d. ap (λ (w : Writes). keepsIn w b) is ∙ ap (λ (w : Writes). keepsIn w d) (sym is);
+  asks = λ n b x m g. subst (λ (q : Bool). GivesBy q (channelsOf k) n b x m) single g;
 }
+
+pub mul-reads : (f : Float) → ReadsOperands (Mul f)
+mul-reads f = mono-reads (Mul f) product refl refl (λ t d e i. mul binary32 (e .firsts i) (second-same (t .wires) d (λ m. m) (t .number) e i))
 
 pub add-reads : (f : Float) → ReadsOperands (Add f)
-unfolding leftOf rightOf keeps
-add-reads f = record {
-  left = λ s b d e i. add binary32 (e .firsts i) (second-same b d (λ m. m) (ofBits binary32 (s .number)) e i);
-  right = λ b d. refl;
-  goes = λ b d. refl;
-  asks = λ n b x m g. g;
-}
+add-reads f = mono-reads (Add f) plus refl refl (λ t d e i. add binary32 (e .firsts i) (second-same (t .wires) d (λ m. m) (t .number) e i))
 
 pub delay-reads : (n : ℕ) → ReadsOperands (Delay n)
-unfolding leftOf rightOf keeps
-delay-reads n = record { left = λ s b d e. refl; right = λ b d. refl; goes = λ b d. refl; asks = λ n b x m g. g }
+delay-reads n = mono-reads (Delay n) delayed refl refl (λ t d e. refl)
 
 pub all-pass-reads : (n : ℕ) (f : Float) → ReadsOperands (AllPass n f)
-unfolding leftOf rightOf keeps
-all-pass-reads n f = record {
-  left = λ s b d e i.
-      allPass (ofBits binary32 (s .number)) (e .firsts i) (tap-same n (xLine (AllPass n f) s) b d e i) (tap-same n (yLine (AllPass n f) s) b d e i);
-  right = λ b d. refl;
-  goes = λ b d. refl;
-  asks = λ n b x m g. g;
-}
+all-pass-reads n f =
+    mono-reads (AllPass n f) (filteredBy between n) refl refl
+    (λ t d e i. allPass (t .number) (e .firsts i) (tap-same n (t .x) (t .wires) d e i) (tap-same n (t .y) (t .wires) d e i))
 
 pub one-pole-reads : (f : Float) → ReadsOperands (OnePole f)
-unfolding leftOf rightOf keeps
-one-pole-reads f = record {
-  left = λ s b d e i. onePoleStep (onePoleOf f (ofBits binary32 (s .carry))) (e .firsts i) .y1;
-  right = λ b d. refl;
-  goes = λ b d. refl;
-  asks = λ n b x m g. g;
-}
+one-pole-reads f = mono-reads (OnePole f) (smoothed f) refl refl (λ t d e i. onePoleStep (onePoleOf f (t .carry)) (e .firsts i) .y1)
 
 pub sine-reads : (f : Float) → ReadsOperands (Sine f)
-unfolding leftOf rightOf keeps
-sine-reads f = record { left = λ s b d e. refl; right = λ b d. refl; goes = λ b d. refl; asks = λ n b x m g. g }
+sine-reads f = mono-reads (Sine f) wave refl refl (λ t d e. refl)
 
 -- ---- a block run
 

@@ -1,14 +1,18 @@
 -- The arms of a match on a node's type, which are told the numbers of their types: 0 a pass, 1 a sum, .. 9 a sine, in the enum's order.
 --     arm      what holds of each type of an arm holds of the type that came to it
---     kinds    what holds of each of the ten types holds of every type; by-line, by-carry where only those with a line, or a carry, differ
+--     kinds    what holds of each of the ten types holds of every type
+--     named    and of the type that a number names
 -- Assumes nothing.
 use Prim.Native.Nat.{ℕ, zero, suc}
 use mathlib.Core.Path.{sym, subst}
 use mathlib.Core.Logic.{inl, inr}
+use mathlib.Core.Bool.{Bool, true, false, cond}
 use mathlib.Core.List.{List, [], _∷_}
 use denote.Enum.Declared.{tagOf}
+use lib.Dec.{eqb}
 use lib.Ieee.{Float}
 use types.Run.{OneOf}
+use Rattle.nodes.specs.Kind.{kindBy}
 use Rattle.nodes.specs.declared.kind.NodeKind.{NodeKind}
 use Rattle.nodes.specs.declared.kind.NodeKind.the-variants.{Pass, Sum, Destination, Balance, Mul, Add, Delay, AllPass, OnePole, Sine}
 use Rattle.nodes.proofs.kind.NodeKind.{the-type}
@@ -68,10 +72,14 @@ module _ (P : NodeKind → Type 0) where
   kinds h (OnePole f) = h .8 f
   kinds h (Sine f) = h .9 f
 
-  pub by-line : P Pass × P Sum × P Destination × P Balance × ((f : Float) → P (Mul f)) × ((f : Float) → P (Add f)) × ((f : Float) → P (OnePole f)) × ((f : Float) → P (Sine f))
-      → ((n : ℕ) → P (Delay n)) → ((n : ℕ) (f : Float) → P (AllPass n f)) → (k : NodeKind) → P k
-  by-line h delay all-pass = kinds (h .0, h .1, h .2, h .3, h .4, h .5, delay, all-pass, h .6, h .7)
+-- ---- the kind of a type's number
 
-  pub by-carry : P Pass × P Sum × P Destination × P Balance × ((f : Float) → P (Mul f)) × ((f : Float) → P (Add f)) × ((n : ℕ) → P (Delay n)) × ((n : ℕ) (f : Float) → P (AllPass n f))
-      → ((f : Float) → P (OnePole f)) → ((f : Float) → P (Sine f)) → (k : NodeKind) → P k
-  by-carry h pole sine = kinds (h .0, h .1, h .2, h .3, h .4, h .5, h .6, h .7, pole, sine)
+pub named : (P : NodeKind → Type 0) (t n : ℕ) (x : Float)
+    → P Pass × P Sum × P Destination × P Balance × P (Mul x) × P (Add x) × P (Delay n) × P (AllPass n x) × P (OnePole x) × P (Sine x) → P (kindBy t n x)
+named P t n x h =
+    pick (eqb t 1) (h .0) (pick (eqb t 2) (h .1) (pick (eqb t 3) (h .2) (pick (eqb t 4) (h .3) (pick (eqb t 5) (h .4)
+    (pick (eqb t 6) (h .5) (pick (eqb t 7) (h .6) (pick (eqb t 8) (h .7) (pick (eqb t 9) (h .8) (h .9)))))))))
+  where
+    pick : (b : Bool) {k j : NodeKind} → P k → P j → P (cond b k j)
+    pick true p q = p
+    pick false p q = q

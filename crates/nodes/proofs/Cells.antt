@@ -9,41 +9,21 @@ use Prim.Native.Nat.{ℕ, suc, _+_, _*_, _≤_, _<_}
 use native.Mathlib.Omega.{arith}
 use lib.ListN.{length, getD, set, take, drop, take-append-drop, length-append, length-drop, List·getD-append}
 use lib.Seq.{set-append-left, getD-append-add, length-take-le}
-use Rattle.nodes.specs.Kind.{channelsOf, lineOf, cellSize}
-use Rattle.nodes.specs.Rule.{State}
-use Rattle.nodes.specs.Cell.{Cell, valuesOf, cellOf}
+use Rattle.nodes.specs.Kind.{channelsOf, lineOf, cellSize, samplesFrom, numberIndex, carryIndex, placeIndex}
+use Rattle.nodes.specs.Rule.{withNumber, withCarry, withPlace, withLine}
+use Rattle.nodes.specs.Cell.{Cell, withState, withSamples, valuesOf, cellOf}
 use Rattle.nodes.specs.declared.kind.NodeKind.{NodeKind}
-
--- ---- a cell with one part replaced
-
-abbrev pub withSamples : Cell → List ℕ → Cell
-withSamples c l = record { state = c .state; samples = l }
-
-abbrev pub withState : Cell → State → Cell
-withState c s = record { state = s; samples = c .samples }
-
-abbrev pub withNumber : State → ℕ → State
-withNumber s v = record { number = v; carry = s .carry; place = s .place; line = s .line }
-
-abbrev pub withCarry : State → ℕ → State
-withCarry s v = record { number = s .number; carry = v; place = s .place; line = s .line }
-
-abbrev pub withPlace : State → ℕ → State
-withPlace s v = record { number = s .number; carry = s .carry; place = v; line = s .line }
-
-abbrev pub withLine : State → List ℕ → State
-withLine s l = record { number = s .number; carry = s .carry; place = s .place; line = l }
 
 -- ---- the values and the cell
 
-three : (n : ℕ) → 3 + n ≡ suc (suc (suc n))
+three : (n : ℕ) → samplesFrom + n ≡ suc (suc (suc n))
 three n = omega arith
 
-three-on : (n k : ℕ) → 3 + n + k ≡ suc (suc (suc (n + k)))
+three-on : (n k : ℕ) → samplesFrom + n + k ≡ suc (suc (suc (n + k)))
 three-on n k = omega arith
 
 split : (n : ℕ) (ws : List ℕ) → 3 ≤ length ws
-    → getD ws 0 0 ∷ getD ws 1 0 ∷ getD ws 2 0 ∷ (take n (drop 3 ws) ++ drop (3 + n) ws) ≡ ws
+    → getD ws numberIndex 0 ∷ getD ws carryIndex 0 ∷ getD ws placeIndex 0 ∷ (take n (drop samplesFrom ws) ++ drop (samplesFrom + n) ws) ≡ ws
 split n [] h = absurd (omega arith)
 split n (a ∷ []) h = absurd (omega arith)
 split n (a ∷ b ∷ []) h = absurd (omega arith)
@@ -56,36 +36,36 @@ module _ (N : ℕ) (k : NodeKind) (ws : List ℕ) (long : length ws ≡ cellSize
 
   pub samples-long : length (cellOf N k ws .samples) ≡ N * channelsOf k
   unfolding cellOf
-  samples-long = length-take-le (N * channelsOf k) (drop 3 ws) (omega (arith, length-drop 3 ws))
+  samples-long = length-take-le (N * channelsOf k) (drop samplesFrom ws) (omega (arith, length-drop samplesFrom ws))
 
   pub line-long : length (cellOf N k ws .state .line) ≡ lineOf k
   unfolding cellOf
-  line-long = omega (arith, length-drop (3 + N * channelsOf k) ws)
+  line-long = omega (arith, length-drop (samplesFrom + N * channelsOf k) ws)
 
-pub length-values : (c : Cell) → length (valuesOf c) ≡ 3 + (length (c .samples) + length (c .state .line))
+pub length-values : (c : Cell) → length (valuesOf c) ≡ samplesFrom + (length (c .samples) + length (c .state .line))
 unfolding valuesOf
 length-values c = omega (arith, length-append (c .samples) (c .state .line))
 
 -- ---- loads
 
 module _ (c : Cell) where
-  pub get-number : getD (valuesOf c) 0 0 ≡ c .state .number
+  pub get-number : getD (valuesOf c) numberIndex 0 ≡ c .state .number
   unfolding valuesOf
   get-number = refl
 
-  pub get-carry : getD (valuesOf c) 1 0 ≡ c .state .carry
+  pub get-carry : getD (valuesOf c) carryIndex 0 ≡ c .state .carry
   unfolding valuesOf
   get-carry = refl
 
-  pub get-place : getD (valuesOf c) 2 0 ≡ c .state .place
+  pub get-place : getD (valuesOf c) placeIndex 0 ≡ c .state .place
   unfolding valuesOf
   get-place = refl
 
-  pub get-sample : (i : ℕ) → i < length (c .samples) → getD (valuesOf c) (3 + i) 0 ≡ getD (c .samples) i 0
+  pub get-sample : (i : ℕ) → i < length (c .samples) → getD (valuesOf c) (samplesFrom + i) 0 ≡ getD (c .samples) i 0
   unfolding valuesOf
   get-sample i h = rw (three i) (List·getD-append (c .samples) (c .state .line) 0 i h)
 
-  pub get-line : (n j : ℕ) → length (c .samples) ≡ n → getD (valuesOf c) (3 + n + j) 0 ≡ getD (c .state .line) j 0
+  pub get-line : (n j : ℕ) → length (c .samples) ≡ n → getD (valuesOf c) (samplesFrom + n + j) 0 ≡ getD (c .state .line) j 0
   unfolding valuesOf
   get-line n j e =
       rw (three-on n j)
@@ -100,25 +80,25 @@ set-append-right (x ∷ xs) ys j v =
     rw e (ap (λ l. x ∷ l) (set-append-right xs ys j v))
 
 module _ (c : Cell) (v : ℕ) where
-  pub set-number : set (valuesOf c) 0 v ≡ valuesOf (withState c (withNumber (c .state) v))
+  pub set-number : set (valuesOf c) numberIndex v ≡ valuesOf (withState c (withNumber (c .state) v))
   unfolding valuesOf
   set-number = refl
 
-  pub set-carry : set (valuesOf c) 1 v ≡ valuesOf (withState c (withCarry (c .state) v))
+  pub set-carry : set (valuesOf c) carryIndex v ≡ valuesOf (withState c (withCarry (c .state) v))
   unfolding valuesOf
   set-carry = refl
 
-  pub set-place : set (valuesOf c) 2 v ≡ valuesOf (withState c (withPlace (c .state) v))
+  pub set-place : set (valuesOf c) placeIndex v ≡ valuesOf (withState c (withPlace (c .state) v))
   unfolding valuesOf
   set-place = refl
 
-  pub set-sample : (i : ℕ) → i < length (c .samples) → set (valuesOf c) (3 + i) v ≡ valuesOf (withSamples c (set (c .samples) i v))
+  pub set-sample : (i : ℕ) → i < length (c .samples) → set (valuesOf c) (samplesFrom + i) v ≡ valuesOf (withSamples c (set (c .samples) i v))
   unfolding valuesOf
   set-sample i h =
       rw (three i)
       (ap (λ (l : List ℕ). c .state .number ∷ c .state .carry ∷ c .state .place ∷ l) (set-append-left (c .samples) (c .state .line) i v h))
 
-  pub set-line : (n j : ℕ) → length (c .samples) ≡ n → set (valuesOf c) (3 + n + j) v ≡ valuesOf (withState c (withLine (c .state) (set (c .state .line) j v)))
+  pub set-line : (n j : ℕ) → length (c .samples) ≡ n → set (valuesOf c) (samplesFrom + n + j) v ≡ valuesOf (withState c (withLine (c .state) (set (c .state .line) j v)))
   unfolding valuesOf
   set-line n j e =
       rw (three-on n j)

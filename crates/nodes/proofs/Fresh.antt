@@ -2,27 +2,25 @@
 --     rule-sound      the rule's answer
 --     fresh-long, fresh-fits
 -- Assumes nothing.
-use mathlib.Core.Path.{_≡_, refl, sym, ap, _∙_, subst}
-use mathlib.Core.Bool.{Bool, true, false, cond}
+use mathlib.Core.Path.{_≡_, refl, ap, _∙_, subst}
+use mathlib.Core.Bool.{Bool, true, false, _&&_}
 use Prim.Native.Nat.{ℕ, _*_, _≤_}
 use native.Mathlib.Omega.{arith}
 use lib.Dec.{eqb, leb}
 use lib.ListN.{length, length-replicate}
-use lib.Ieee.{binary32, ofBits, toBits, le}
+use lib.Ieee.{Float, binary32, ofBits, toBits, le}
 use lib.Ieee.Bits.{ofBits-fits, ofBits-toBits}
 use borrow.Author.Tests.{leb-true, lt-ltb}
-use Rattle.leaves.specs.Floors.{whole, zeroF, within}
-use Rattle.leaves.proofs.Patterns.{finite-pattern, finite-float}
-use Rattle.nodes.specs.Kind.{finite, inBand, lineFits, plainFields, floatFields, delayFields, allPassFields, sineFields, kept, ruleOf, channelsOf, lineOf, cellSize}
-use Rattle.nodes.specs.Cell.{valuesOf, freshCell, numberOf, numberFits, carryFits, placeFits, cellFits}
-use Rattle.nodes.specs.Node.{LineFits}
+use Rattle.leaves.specs.Floors.{zeroF, within}
+use Rattle.nodes.specs.Row.{Value, unused, coefficient, numbered, inRange, Line, noLine, lineX, lineXY, Carry, noCarry, lastOutput, runningPhase, rowOf}
+use Rattle.nodes.specs.Kind.{lengthFits, wholeFits, floatFits, fieldsFit, kindBy, typeKnown, kept, ruleOf, channelsOf, lineOf, cellSize}
+use Rattle.nodes.specs.Cell.{valuesOf, freshCell, startIn, numberOf, numberIn, carryIn, placeIn, numberFits, carryFits, placeFits, cellFits}
+use Rattle.nodes.specs.Node.{LengthIn, LineFits}
 use Rattle.nodes.specs.declared.kind.NodeKind.{NodeKind}
-use Rattle.nodes.specs.declared.kind.NodeKind.the-variants.{Pass, Sum, Destination, Balance, Mul, Add, Delay, AllPass, OnePole, Sine}
-use Rattle.nodes.specs.declared.kind.Rule.{Rule}
-use Rattle.nodes.specs.declared.kind.Rule.the-variants.{Is}
-use Rattle.nodes.proofs.Arms.{kinds, by-line}
+use Rattle.nodes.specs.declared.kind.Fields.the-variants.{Is}
+use Rattle.nodes.proofs.Arms.{named}
 use Rattle.nodes.proofs.Cells.{length-values}
-use Rattle.nodes.proofs.Kept.{both, in-band, judged-fits}
+use Rattle.nodes.proofs.Kept.{both, judged-fits}
 
 -- ---- what the board's judge gives of a kind
 
@@ -35,45 +33,57 @@ no-number : eqb (toBits binary32 zeroF) 0 ≡ true
 unfolding toBits
 no-number = refl
 
--- a pattern in range, read and written
-finite-again : (f : ℕ) → finite f ≡ true → finite (toBits binary32 (ofBits binary32 f)) ≡ true
-finite-again f h = sym (finite-float (ofBits binary32 f) (ofBits-fits binary32 f)) ∙ finite-pattern f ∙ h
+-- the line and the number of the kind that a type's number names are those of the fields
+abbrev LineIs : ℕ → Line → Type 0
+LineIs n noLine = Unit {0}
+LineIs n (lineX l) = l ≡ n
+LineIs n (lineXY l) = l ≡ n
 
-band-again : (f : ℕ) → inBand f ≡ true → inBand (toBits binary32 (ofBits binary32 f)) ≡ true
-band-again f h =
-    in-band (toBits binary32 (ofBits binary32 f)) ∙ ap (within (whole 11025 2)) (ofBits-toBits binary32 (ofBits binary32 f) (ofBits-fits binary32 f)) ∙ sym (in-band f) ∙ h
+abbrev NumberIs : Float → Value → Type 0
+NumberIs x unused = Unit {0}
+NumberIs x (coefficient r b) = Unit {0}
+NumberIs x (numbered r g) = g ≡ x
 
-line-bounds : (n : ℕ) → lineFits n ≡ true → (1 ≤ n) × (n ≤ 132300)
-line-bounds n h =
-    let s = both (leb 1 n) (leb n 132300) h in (leb-true 1 n (s .0), leb-true n 132300 (s .1))
+line-is : (t n : ℕ) (x : Float) → LineIs n (rowOf (kindBy t n x) .line)
+line-is t n x = named (λ k. LineIs n (rowOf k .line)) t n x (tt, tt, tt, tt, tt, tt, refl, refl, tt, tt)
 
--- one row of the rule's table
-row : (b ok : Bool) (k′ k : NodeKind) (rest : Rule) → (ok ≡ true → Sound k′) → (rest ≡ Is k → Sound k) → cond b (kept ok k′) rest ≡ Is k → Sound k
-row true true k′ k rest here there e = let s : k′ ≡ k = cc in subst Sound s (here refl)
-row true false k′ k rest here there e = let z : _≡_ {A = ℕ} 0 1 = cc in absurd (omega arith)
-row false ok k′ k rest here there e = there e
+number-is : (t n : ℕ) (x : Float) → NumberIs x (rowOf (kindBy t n x) .value)
+number-is t n x = named (λ k. NumberIs x (rowOf k .value)) t n x (tt, tt, tt, tt, refl, refl, tt, refl, tt, refl)
+
+length-told : (l n : ℕ) → l ≡ n → lengthFits n ≡ true → (1 ≤ l) × (l ≤ 132300)
+length-told l n e h = let s = both (leb 1 n) (leb n 132300) h in omega (arith, leb-true 1 n (s .0), leb-true n 132300 (s .1))
+
+line-told : (l : Line) (n : ℕ) → LineIs n l → wholeFits l n ≡ true → LengthIn l
+line-told noLine n e h = tt
+line-told (lineX l) n e h = length-told l n e h
+line-told (lineXY l) n e h = length-told l n e h
+
+-- the number with which a cell starts, stored
+start-told : (v : Value) (f : ℕ) → NumberIs (ofBits binary32 f) v → floatFits v f ≡ true → numberIn v (toBits binary32 (startIn v)) ≡ true
+start-told unused f e h = no-number
+start-told (coefficient r b) f e h = no-number
+start-told (numbered r g) f e h =
+    ap (λ (x : Float). inRange r (ofBits binary32 (toBits binary32 x))) e
+    ∙ ap (inRange r) (ofBits-toBits binary32 (ofBits binary32 f) (ofBits-fits binary32 f)) ∙ h
 
 pub rule-sound : (t n f : ℕ) (k : NodeKind) → ruleOf t n f ≡ Is k → Sound k
 unfolding ruleOf numberOf numberFits
-rule-sound t n f k =
-    row (eqb t 1) plain Pass k _ (λ h. record { line = tt; number = no-number })
-    (row (eqb t 2) plain Sum k _ (λ h. record { line = tt; number = no-number })
-    (row (eqb t 3) plain Destination k _ (λ h. record { line = tt; number = no-number })
-    (row (eqb t 4) plain Balance k _ (λ h. record { line = tt; number = no-number })
-    (row (eqb t 5) float (Mul (ofBits binary32 f)) k _ (λ h. record { line = tt; number = finite-again f (both (eqb n 0) (finite f) h .1) })
-    (row (eqb t 6) float (Add (ofBits binary32 f)) k _ (λ h. record { line = tt; number = finite-again f (both (eqb n 0) (finite f) h .1) })
-    (row (eqb t 7) (delayFields n f) (Delay n) k _ (λ h. record { line = line-bounds n (both (lineFits n) (eqb f 0) h .0); number = no-number })
-    (row (eqb t 8) (allPassFields n f) (AllPass n (ofBits binary32 f)) k _
-    (λ h. record { line = line-bounds n (both (lineFits n) (finite f) h .0); number = finite-again f (both (lineFits n) (finite f) h .1) })
-    (row (eqb t 9) float (OnePole (ofBits binary32 f)) k _ (λ h. record { line = tt; number = no-number })
-    (row (eqb t 10) (sineFields n f) (Sine (ofBits binary32 f)) k _ (λ h. record { line = tt; number = band-again f (both (eqb n 0) (inBand f) h .1) })
-    (λ e. let z : _≡_ {A = ℕ} 0 1 = cc in absurd (omega arith)))))))))))
+rule-sound t n f k e = go (typeKnown t && fieldsFit kind n f) refl e
   where
-    plain : Bool
-    plain = plainFields n f
+    kind : NodeKind
+    kind = kindBy t n (ofBits binary32 f)
 
-    float : Bool
-    float = floatFields n f
+    sound : typeKnown t && fieldsFit kind n f ≡ true → Sound kind
+    sound h =
+        let s = both (wholeFits (rowOf kind .line) n) (floatFits (rowOf kind .value) f) (both (typeKnown t) (fieldsFit kind n f) h .1) in
+        record {
+          line = line-told (rowOf kind .line) n (line-is t n (ofBits binary32 f)) (s .0);
+          number = start-told (rowOf kind .value) f (number-is t n (ofBits binary32 f)) (s .1);
+        }
+
+    go : (b : Bool) → typeKnown t && fieldsFit kind n f ≡ b → kept b kind ≡ Is k → Sound k
+    go true h q = let s : kind ≡ k = cc in subst Sound s (sound h)
+    go false h q = let z : _≡_ {A = ℕ} 0 1 = cc in absurd (omega arith)
 
 -- ---- the fresh cell
 
@@ -81,16 +91,18 @@ pub fresh-long : (N : ℕ) (k : NodeKind) → length (valuesOf (freshCell N k)) 
 unfolding freshCell
 fresh-long N k = length-values (freshCell N k) ∙ omega (arith, length-replicate {A = ℕ} (N * channelsOf k) 0, length-replicate {A = ℕ} (lineOf k) 0)
 
-start-carry : (k : NodeKind) → carryFits k 0 ≡ true
-unfolding carryFits within le ofBits
-start-carry = kinds (λ k. carryFits k 0 ≡ true) (refl, refl, refl, refl, λ f. refl, λ f. refl, λ n. refl, λ n f. refl, λ f. refl, λ f. refl)
+start-carry : (c : Carry) → carryIn c 0 ≡ true
+unfolding within le ofBits
+start-carry noCarry = refl
+start-carry lastOutput = refl
+start-carry runningPhase = refl
 
-start-place : (k : NodeKind) → LineFits k → placeFits k 0 ≡ true
-unfolding placeFits
-start-place =
-    by-line (λ k. LineFits k → placeFits k 0 ≡ true)
-    (λ h. refl, λ h. refl, λ h. refl, λ h. refl, λ f h. refl, λ f h. refl, λ f h. refl, λ f h. refl) (λ n h. lt-ltb 0 n (h .0)) (λ n f h. lt-ltb 0 n (h .0))
+start-place : (l : Line) → LengthIn l → placeIn l 0 ≡ true
+start-place noLine h = refl
+start-place (lineX n) h = lt-ltb 0 n (h .0)
+start-place (lineXY n) h = lt-ltb 0 n (h .0)
 
 pub fresh-fits : (N : ℕ) (k : NodeKind) → Sound k → cellFits k (valuesOf (freshCell N k)) ≡ true
-unfolding freshCell
-fresh-fits N k s = judged-fits k (freshCell N k) (record { number = s .number; carry = start-carry k; place = start-place k (s .line) })
+unfolding freshCell carryFits placeFits
+fresh-fits N k s =
+    judged-fits k (freshCell N k) (record { number = s .number; carry = start-carry (rowOf k .carry); place = start-place (rowOf k .line) (s .line) })

@@ -17,15 +17,14 @@ use lib.Ieee.{Float, binary32, ofBits, toBits}
 use Rattle.reading.specs.Ring.{Ring, from, ringOf}
 use Rattle.reading.proofs.Ring.{push-is, get-is}
 use Rattle.reading.proofs.Table.{length-tab, tab-constant}
-use Rattle.nodes.specs.Kind.{lineOf}
-use Rattle.nodes.specs.Rule.{Brought, Frame, first, next, get, leftOf, leftBy, rightOf, keeps, carryAfter, xLine, yLine, tap, allPass, placeAfter, lineAfter, sampleBy, stateBy}
+use Rattle.nodes.specs.Row.{Line, noLine, lineX, lineXY, rowOf}
+use Rattle.nodes.specs.Kind.{lineValues}
+use Rattle.nodes.specs.Rule.{Brought, Frame, State, withNumber, first, next, get, leftOf, leftBy, rightOf, keeps, carryAfter, xIn, yIn, xLine, yLine, placeOn, placeAfter, lineOn, lineAfter, sampleBy, stateBy}
 use Rattle.nodes.specs.Cell.{numberOf, freshCell}
-use Rattle.nodes.specs.Node.{LineFits}
-use Rattle.nodes.specs.History.{Heard, xs, ys, count, freshHeard, setNumber, agoBy, leftHeard, sampleHeard, heardAfter, placeOf, ring, lineHeard, stateOf}
+use Rattle.nodes.specs.Node.{LengthIn, LineFits}
+use Rattle.nodes.specs.History.{Heard, xs, ys, count, freshHeard, setNumber, agoBy, xAgo, yAgo, leftHeard, sampleHeard, heardAfter, placeBy, placeOf, ring, ringsBy, lineHeard, stateOf}
 use Rattle.nodes.specs.declared.kind.NodeKind.{NodeKind}
-use Rattle.nodes.specs.declared.kind.NodeKind.the-variants.{Delay, AllPass}
-use Rattle.nodes.proofs.Arms.{by-line}
-use Rattle.nodes.proofs.Cells.{withNumber, set-append-right}
+use Rattle.nodes.proofs.Cells.{set-append-right}
 
 -- ---- a line of n, once c samples l have been taken
 
@@ -74,45 +73,44 @@ x-long h = length-map (h .past) (λ t. t .x)
 y-long : (h : Heard) → length (ys h) ≡ count h
 y-long h = length-map (h .past) (λ t. t .y)
 
-module _ (n : ℕ) (pos : 1 ≤ n) (h : Heard) where
-  delay-x : xLine (Delay n) (stateOf (Delay n) h) ≡ agoBy n (xs h)
-  unfolding xLine get agoBy stateOf placeOf lineHeard
-  delay-x =
-      fun-ext (λ j.
-      ap (λ (m : ℕ). ofBits binary32 (getD (ring n (xs h)) m 0)) (no-more ((count h % n + j) % n))
-      ∙ ap (ofBits binary32) (ring-get n pos (xs h) (count h) (x-long h) j))
+-- the lines of x and y, in memory and from n ago
+x-heard : (l : Line) → LengthIn l → (h : Heard) (s : State) → s .place ≡ placeBy l (count h) → s .line ≡ ringsBy l (xs h) (ys h) → xIn l s ≡ xAgo l (xs h)
+unfolding get agoBy
+x-heard noLine fit h s p e = refl
+x-heard (lineX n) fit h s p e =
+    fun-ext (λ j.
+    (λ i. ofBits binary32 (getD (e i) (0 + (p i + j) % n) 0))
+    ∙ ap (λ (m : ℕ). ofBits binary32 (getD (ring n (xs h)) m 0)) (no-more ((count h % n + j) % n))
+    ∙ ap (ofBits binary32) (ring-get n (fit .0) (xs h) (count h) (x-long h) j))
+x-heard (lineXY n) fit h s p e =
+    fun-ext (λ j.
+    (λ i. ofBits binary32 (getD (e i) (0 + (p i + j) % n) 0))
+    ∙ ap (ofBits binary32)
+    (first-line n (xs h) (ring n (ys h)) ((count h % n + j) % n) (mod-lt (count h % n + j) (fit .0)) ∙ ring-get n (fit .0) (xs h) (count h) (x-long h) j))
 
-  module _ (f : Float) where
-    all-pass-x : xLine (AllPass n f) (stateOf (AllPass n f) h) ≡ agoBy n (xs h)
-    unfolding xLine get agoBy stateOf placeOf lineHeard
-    all-pass-x =
-        fun-ext (λ j.
-        ap (ofBits binary32)
-        (first-line n (xs h) (ring n (ys h)) ((count h % n + j) % n) (mod-lt (count h % n + j) pos) ∙ ring-get n pos (xs h) (count h) (x-long h) j))
-
-    all-pass-y : yLine (AllPass n f) (stateOf (AllPass n f) h) ≡ agoBy n (ys h)
-    unfolding yLine get agoBy stateOf placeOf lineHeard
-    all-pass-y =
-        fun-ext (λ j.
-        ap (ofBits binary32)
-        (second-line n (xs h) (ring n (ys h)) ((count h % n + j) % n) ∙ ring-get n pos (ys h) (count h) (y-long h) j))
+y-heard : (l : Line) → LengthIn l → (h : Heard) (s : State) → s .place ≡ placeBy l (count h) → s .line ≡ ringsBy l (xs h) (ys h) → yIn l s ≡ yAgo l (ys h)
+unfolding get agoBy
+y-heard noLine fit h s p e = refl
+y-heard (lineX n) fit h s p e = refl
+y-heard (lineXY n) fit h s p e =
+    fun-ext (λ j.
+    (λ i. ofBits binary32 (getD (e i) (n + (p i + j) % n) 0))
+    ∙ ap (ofBits binary32)
+    (second-line n (xs h) (ring n (ys h)) ((count h % n + j) % n) ∙ ring-get n (fit .0) (ys h) (count h) (y-long h) j))
 
 left-heard : (k : NodeKind) → LineFits k → (h : Heard) (b : Brought) → leftBy k (stateOf k h) b ≡ leftHeard k h b
-unfolding leftOf stateOf
+unfolding xLine yLine stateOf placeOf lineHeard
 left-heard k fit h b =
-    by-line (λ j. LineFits j → leftBy j (stateOf j h) b ≡ leftHeard j h b)
-    (λ l. refl, λ l. refl, λ l. refl, λ l. refl, λ f l. refl, λ f l. refl, λ f l. refl, λ f l. refl)
-    (λ n l i. delay-x n (l .0) h i 0)
-    (λ n f l i. allPass (ofBits binary32 (h .number)) (first b) (tap n b (all-pass-x n (l .0) h f i)) (tap n b (all-pass-y n (l .0) h f i))) k fit
+    let l = rowOf k .line in
+    let s = stateOf k h in
+    λ i. leftOf k (ofBits binary32 (h .number)) (ofBits binary32 (h .carry)) (x-heard l fit h s refl refl i) (y-heard l fit h s refl refl i) b
 
 -- ---- what is left
 
-place-heard : (k : NodeKind) → LineFits k → (h : Heard) → placeAfter k (placeOf k (count h)) ≡ placeOf k (suc (count h))
-unfolding placeAfter placeOf
-place-heard k fit h =
-    by-line (λ j. LineFits j → placeAfter j (placeOf j (count h)) ≡ placeOf j (suc (count h)))
-    (λ l. refl, λ l. refl, λ l. refl, λ l. refl, λ f l. refl, λ f l. refl, λ f l. refl, λ f l. refl)
-    (λ n l. ring-next n (l .0) (xs h) (count h) (x-long h)) (λ n f l. ring-next n (l .0) (xs h) (count h) (x-long h)) k fit
+place-heard : (l : Line) → LengthIn l → (h : Heard) → placeOn l (placeBy l (count h)) ≡ placeBy l (suc (count h))
+place-heard noLine fit h = refl
+place-heard (lineX n) fit h = ring-next n (fit .0) (xs h) (count h) (x-long h)
+place-heard (lineXY n) fit h = ring-next n (fit .0) (xs h) (count h) (x-long h)
 
 -- a push to each of two lines of n
 pub two-set : (n : ℕ) (l m : List ℕ) (p x y : ℕ) → length l ≡ n → p < n → set (set (l ++ m) p x) (n + p) y ≡ set l p x ++ set m p y
@@ -121,16 +119,13 @@ two-set n l m p x y long h =
     ∙ ap (λ (d : ℕ). set (set l p x ++ m) (d + p) y) (sym long ∙ sym (length-set l p x))
     ∙ set-append-right (set l p x) m p y
 
-line-heard : (k : NodeKind) → LineFits k → (h : Heard) (x y : ℕ)
-    → lineAfter k (placeOf k (count h)) x y (lineHeard k (xs h) (ys h)) ≡ lineHeard k (x ∷ xs h) (y ∷ ys h)
-unfolding lineAfter placeOf lineHeard
-line-heard k fit h x y =
-    by-line (λ j. LineFits j → lineAfter j (placeOf j (count h)) x y (lineHeard j (xs h) (ys h)) ≡ lineHeard j (x ∷ xs h) (y ∷ ys h))
-    (λ l. refl, λ l. refl, λ l. refl, λ l. refl, λ f l. refl, λ f l. refl, λ f l. refl, λ f l. refl)
-    (λ n l. ring-push n (l .0) (xs h) (count h) (x-long h) x)
-    (λ n f l.
-    two-set n (ring n (xs h)) (ring n (ys h)) (count h % n) x y (ring-long n (xs h)) (mod-lt (count h) (l .0))
-    ∙ (λ i. ring-push n (l .0) (xs h) (count h) (x-long h) x i ++ ring-push n (l .0) (ys h) (count h) (y-long h) y i)) k fit
+line-heard : (l : Line) → LengthIn l → (h : Heard) (x y : ℕ)
+    → lineOn l (placeBy l (count h)) x y (ringsBy l (xs h) (ys h)) ≡ ringsBy l (x ∷ xs h) (y ∷ ys h)
+line-heard noLine fit h x y = refl
+line-heard (lineX n) fit h x y = ring-push n (fit .0) (xs h) (count h) (x-long h) x
+line-heard (lineXY n) fit h x y =
+    two-set n (ring n (xs h)) (ring n (ys h)) (count h % n) x y (ring-long n (xs h)) (mod-lt (count h) (fit .0))
+    ∙ (λ i. ring-push n (fit .0) (xs h) (count h) (x-long h) x i ++ ring-push n (fit .0) (ys h) (count h) (y-long h) y i)
 
 -- ---- the laws
 
@@ -141,15 +136,16 @@ module _ (k : NodeKind) (fit : LineFits k) (h : Heard) where
       ap (λ (v : Float). cond (keeps k b) held (record { left = toBits binary32 v; right = toBits binary32 (rightOf k b) })) (left-heard k fit h b)
 
   pub state-heard : (b : Brought) → stateBy k (stateOf k h) b ≡ stateOf k (heardAfter k h b)
-  unfolding stateBy stateOf heardAfter
+  unfolding stateBy stateOf heardAfter placeAfter placeOf lineAfter lineHeard
   state-heard b =
+      let l = rowOf k .line in
       let same = left-heard k fit h b in
       let x : ℕ = toBits binary32 (first b) in
       λ i. record {
         number = h .number;
         carry = carryAfter k (ofBits binary32 (h .number)) (h .carry) (same i);
-        place = place-heard k fit h i;
-        line = (ap (λ (v : Float). lineAfter k (placeOf k (count h)) x (toBits binary32 v) (lineHeard k (xs h) (ys h))) same ∙ line-heard k fit h x (toBits binary32 (leftHeard k h b))) i;
+        place = place-heard l fit h i;
+        line = (ap (λ (v : Float). lineOn l (placeBy l (count h)) x (toBits binary32 v) (ringsBy l (xs h) (ys h))) same ∙ line-heard l fit h x (toBits binary32 (leftHeard k h b))) i;
       }
 
 pub number-heard : (k : NodeKind) (h : Heard) (v : ℕ) → withNumber (stateOf k h) v ≡ stateOf k (setNumber v h)
@@ -158,24 +154,20 @@ number-heard k h v = refl
 
 -- ---- fresh memory
 
-fresh-place : (k : NodeKind) → LineFits k → 0 ≡ placeOf k 0
-unfolding placeOf
-fresh-place =
-    by-line (λ k. LineFits k → 0 ≡ placeOf k 0)
-    (λ l. refl, λ l. refl, λ l. refl, λ l. refl, λ f l. refl, λ f l. refl, λ f l. refl, λ f l. refl)
-    (λ n l. sym (mod-eq-of-lt (l .0))) (λ n f l. sym (mod-eq-of-lt (l .0)))
+fresh-place : (l : Line) → LengthIn l → 0 ≡ placeBy l 0
+fresh-place noLine fit = refl
+fresh-place (lineX n) fit = sym (mod-eq-of-lt (fit .0))
+fresh-place (lineXY n) fit = sym (mod-eq-of-lt (fit .0))
 
-fresh-line : (k : NodeKind) → replicate (lineOf k) 0 ≡ lineHeard k [] []
-unfolding lineHeard
-fresh-line =
-    by-line (λ k. replicate (lineOf k) 0 ≡ lineHeard k [] []) (refl, refl, refl, refl, λ f. refl, λ f. refl, λ f. refl, λ f. refl)
-    (λ n. sym (tab-constant n 0))
-    (λ n f.
+fresh-line : (l : Line) → replicate (lineValues l) 0 ≡ ringsBy l [] []
+fresh-line noLine = refl
+fresh-line (lineX n) = sym (tab-constant n 0)
+fresh-line (lineXY n) =
     let twice : n * 2 ≡ n + n = omega arith in
     ap (λ (d : ℕ). replicate d 0) twice
     ∙ sym (replicate-append-replicate n n 0)
-    ∙ ap (λ (l : List ℕ). l ++ l) (sym (tab-constant n 0)))
+    ∙ ap (λ (l : List ℕ). l ++ l) (sym (tab-constant n 0))
 
 pub fresh-heard : (N : ℕ) (k : NodeKind) → LineFits k → freshCell N k .state ≡ stateOf k (freshHeard k)
-unfolding freshCell stateOf freshHeard
-fresh-heard N k fit = λ i. record { number = toBits binary32 (numberOf k); carry = 0; place = fresh-place k fit i; line = fresh-line k i }
+unfolding freshCell stateOf freshHeard placeOf lineHeard
+fresh-heard N k fit = λ i. record { number = toBits binary32 (numberOf k); carry = 0; place = fresh-place (rowOf k .line) fit i; line = fresh-line (rowOf k .line) i }

@@ -6,30 +6,29 @@
 --     message-fits                                       after a number message
 -- Assumes nothing.
 use mathlib.Core.Path.{_≡_, refl, sym, ap, _∙_, subst}
-use mathlib.Core.Bool.{Bool, true, false, cond, _&&_}
+use mathlib.Core.Bool.{Bool, true, false, cond, _&&_, false≢true}
 use mathlib.Core.List.{List, [], _∷_}
 use Prim.Native.Nat.{ℕ, suc, _+_, _≤_}
 use native.Mathlib.Omega.{arith}
 use lib.Dec.{T, ltb, eqb}
 use lib.ListN.{length, getD, set, drop, length-set, length-drop}
 use lib.Seq.{getD-take, take-all, length-take-le}
-use lib.Ieee.{Float, binary32, ofBits, toBits, fits, le}
+use lib.Ieee.{Float, binary32, ofBits, toBits, fits}
 use lib.Ieee.Bits.{ofBits-toBits}
 use denote.Floats.{passes, is-true}
 use borrow.Author.Tests.{ltb-true, lt-ltb, eqb-false}
-use Rattle.leaves.specs.Floors.{whole, within}
+use Rattle.leaves.specs.Floors.{f1, f44100, within}
 use Rattle.leaves.specs.Parts.{part, part-paste}
 use Rattle.leaves.specs.Phase.{phaseAfter}
-use Rattle.leaves.proofs.Patterns.{finite-float}
 use Rattle.leaves.proofs.PhaseStep.{phase-stays, phase-fits}
-use Rattle.nodes.specs.Kind.{cellSize, channelsOf, inBand}
+use Rattle.nodes.specs.Row.{Value, unused, coefficient, numbered, inRange, Line, noLine, lineX, lineXY, Carry, noCarry, lastOutput, runningPhase, rowOf}
+use Rattle.nodes.specs.Kind.{cellSize, channelsOf, numberIndex, carryIndex, placeIndex}
 use Rattle.nodes.specs.Iter.{iter}
-use Rattle.nodes.specs.Rule.{Brought, State, next, leftBy, carryAfter, placeAfter, stateBy}
-use Rattle.nodes.specs.Cell.{Cell, valuesOf, cellOf, valueFits, numberFits, carryFits, placeFits, cellFits, putFrame, stepCell, runCell, runValues}
+use Rattle.nodes.specs.Rule.{Brought, State, next, leftBy, carriedOn, carryAfter, placeOn, placeAfter, stateBy}
+use Rattle.nodes.specs.Cell.{Cell, valuesOf, cellOf, valueIn, numberIn, carryIn, placeIn, valueFits, numberFits, carryFits, placeFits, cellFits, putFrame, stepCell, runCell, runValues}
 use Rattle.nodes.specs.Node.{nodeRun}
 use Rattle.nodes.specs.declared.kind.NodeKind.{NodeKind}
-use Rattle.nodes.specs.declared.kind.NodeKind.the-variants.{Pass, Sum, Destination, Balance, Mul, Add, Delay, AllPass, OnePole, Sine}
-use Rattle.nodes.proofs.Arms.{by-line, by-carry}
+use Rattle.nodes.proofs.Rows.{Steady, row-laws}
 use Rattle.nodes.proofs.Unread.{line-after-long}
 use Rattle.nodes.proofs.Iterated.{iter-keeps}
 use Rattle.nodes.proofs.Cells.{samples-long, line-long, length-values}
@@ -59,8 +58,8 @@ module _ (k : NodeKind) where
   pub fits-judged : (N : ℕ) (ws : List ℕ) → cellFits k ws ≡ true → Judged k (cellOf N k ws .state)
   unfolding cellOf
   fits-judged N ws e =
-      let front = both (numberFits k (getD ws 0 0) && carryFits k (getD ws 1 0)) (placeFits k (getD ws 2 0)) e in
-      let first = both (numberFits k (getD ws 0 0)) (carryFits k (getD ws 1 0)) (front .0) in
+      let front = both (numberFits k (getD ws numberIndex 0) && carryFits k (getD ws carryIndex 0)) (placeFits k (getD ws placeIndex 0)) e in
+      let first = both (numberFits k (getD ws numberIndex 0)) (carryFits k (getD ws carryIndex 0)) (front .0) in
       record { number = first .0; carry = first .1; place = front .1 }
 
   pub judged-fits : (c : Cell) → Judged k (c .state) → cellFits k (valuesOf c) ≡ true
@@ -71,31 +70,23 @@ module _ (k : NodeKind) where
 pub fits-part : (k : NodeKind) (N at : ℕ) (ws : List ℕ) → cellFits k (part ws at (cellSize N k)) ≡ cellFits k (drop at ws)
 fits-part k N at ws =
     let size = cellSize N k in
-    let a : getD (part ws at size) 0 0 ≡ getD (drop at ws) 0 0 = getD-take size (drop at ws) 0 0 (omega arith) in
-    let b : getD (part ws at size) 1 0 ≡ getD (drop at ws) 1 0 = getD-take size (drop at ws) 1 0 (omega arith) in
-    let p : getD (part ws at size) 2 0 ≡ getD (drop at ws) 2 0 = getD-take size (drop at ws) 2 0 (omega arith) in
+    let a : getD (part ws at size) numberIndex 0 ≡ getD (drop at ws) numberIndex 0 = getD-take size (drop at ws) 0 0 (omega arith) in
+    let b : getD (part ws at size) carryIndex 0 ≡ getD (drop at ws) carryIndex 0 = getD-take size (drop at ws) 1 0 (omega arith) in
+    let p : getD (part ws at size) placeIndex 0 ≡ getD (drop at ws) placeIndex 0 = getD-take size (drop at ws) 2 0 (omega arith) in
     cc
 
--- the definition's two ways to say from 0 to 44,100
-band-within : (x : Float) → le (ofBits binary32 0) x && le x (ofBits binary32 0x472c_4400) ≡ within (whole 11025 2) x
-unfolding within ofBits
-band-within x = refl
-
-pub in-band : (w : ℕ) → inBand w ≡ within (whole 11025 2) (ofBits binary32 w)
-in-band w = band-within (ofBits binary32 w)
-
 -- a phase from 0 to 1, stored and read back
-stored-phase : (g p : Float) → T (within (whole 11025 2) g) → T (within (whole 1 0) p) → T (within (whole 1 0) (ofBits binary32 (toBits binary32 (phaseAfter g p))))
+stored-phase : (g p : Float) → T (within f44100 g) → T (within f1 p) → T (within f1 (ofBits binary32 (toBits binary32 (phaseAfter g p))))
 stored-phase g p hg hp = rw (ofBits-toBits binary32 (phaseAfter g p) (phase-fits g p)) (phase-stays g p hg hp)
 
+carry-on : (c : Carry) (g : Float) (w : ℕ) (y : Float) → Steady c g → carryIn c w ≡ true → carryIn c (carriedOn c g w y) ≡ true
+carry-on noCarry g w y h e = e
+carry-on lastOutput g w y h e = refl
+carry-on runningPhase g w y h e = is-true _ (stored-phase g (ofBits binary32 w) h (passes _ e))
+
 carry-fits : (k : NodeKind) (s : State) (y : Float) → Judged k s → carryFits k (carryAfter k (ofBits binary32 (s .number)) (s .carry) y) ≡ true
-unfolding carryAfter
-carry-fits k s y =
-    by-carry (λ j. Judged j s → carryFits j (carryAfter j (ofBits binary32 (s .number)) (s .carry) y) ≡ true)
-    (λ j. j .carry, λ j. j .carry, λ j. j .carry, λ j. j .carry, λ f j. j .carry, λ f j. j .carry, λ n j. j .carry, λ n f j. j .carry)
-    (λ f j. unfold carryFits in refl)
-    (λ f j. unfold numberFits carryFits in
-    is-true _ (stored-phase (ofBits binary32 (s .number)) (ofBits binary32 (s .carry)) (passes _ (sym (in-band (s .number)) ∙ j .number)) (passes _ (j .carry)))) k
+unfolding carryAfter carryFits numberFits
+carry-fits k s y j = carry-on (rowOf k .carry) (ofBits binary32 (s .number)) (s .carry) y (row-laws k .steady (s .number) (j .number)) (j .carry)
 
 next-below : (n p : ℕ) → ltb p n ≡ true → ltb (next n p) n ≡ true
 next-below n p h = go (eqb (suc p) n) refl
@@ -104,11 +95,14 @@ next-below n p h = go (eqb (suc p) n) refl
     go true e = lt-ltb 0 n (omega (arith, ltb-true p n h))
     go false e = lt-ltb (suc p) n (omega (arith, ltb-true p n h, eqb-false (suc p) n e))
 
+place-on : (l : Line) (p : ℕ) → placeIn l p ≡ true → placeIn l (placeOn l p) ≡ true
+place-on noLine p h = h
+place-on (lineX n) p h = next-below n p h
+place-on (lineXY n) p h = next-below n p h
+
 place-fits : (k : NodeKind) (p : ℕ) → placeFits k p ≡ true → placeFits k (placeAfter k p) ≡ true
 unfolding placeAfter placeFits
-place-fits k p =
-    by-line (λ j. placeFits j p ≡ true → placeFits j (placeAfter j p) ≡ true)
-    (λ h. h, λ h. h, λ h. h, λ h. h, λ f h. h, λ f h. h, λ f h. h, λ f h. h) (λ n. next-below n p) (λ n f. next-below n p) k
+place-fits k p h = place-on (rowOf k .line) p h
 
 -- ---- after any number of samples
 
@@ -170,21 +164,17 @@ module _ (k : NodeKind) (N : ℕ) (bs : ℕ → Brought) where
 -- ---- after a number message
 
 -- a value in a number's range, as it is stored
+value-in : (v : Value) (x : Float) → T (fits binary32 x) → valueIn v x ≡ true → numberIn v (toBits binary32 x) ≡ true
+value-in unused x f e = absurd (false≢true e)
+value-in (coefficient r b) x f e = absurd (false≢true e)
+value-in (numbered r g) x f e = ap (inRange r) (ofBits-toBits binary32 x f) ∙ e
+
 pub value-number : (k : NodeKind) (x : Float) → T (fits binary32 x) → valueFits k x ≡ true → numberFits k (toBits binary32 x) ≡ true
 unfolding valueFits numberFits
-value-number Pass x f e = absurd (subst T (sym e) tt)
-value-number Sum x f e = absurd (subst T (sym e) tt)
-value-number Destination x f e = absurd (subst T (sym e) tt)
-value-number Balance x f e = absurd (subst T (sym e) tt)
-value-number (Mul g) x f e = sym (finite-float x f) ∙ e
-value-number (Add g) x f e = sym (finite-float x f) ∙ e
-value-number (Delay n) x f e = absurd (subst T (sym e) tt)
-value-number (AllPass n g) x f e = sym (finite-float x f) ∙ e
-value-number (OnePole g) x f e = absurd (subst T (sym e) tt)
-value-number (Sine g) x f e = in-band (toBits binary32 x) ∙ ap (within (whole 11025 2)) (ofBits-toBits binary32 x f) ∙ e
+value-number k x f e = value-in (rowOf k .value) x f e
 
 pub message-fits : (k : NodeKind) (x : Float) (ws : List ℕ) → T (fits binary32 x) → valueFits k x ≡ true → cellFits k ws ≡ true
-    → cellFits k (set ws 0 (toBits binary32 x)) ≡ true
+    → cellFits k (set ws numberIndex (toBits binary32 x)) ≡ true
 message-fits k x [] f v e = e
 message-fits k x (w ∷ ws) f v e =
     let j = fits-judged k 0 (w ∷ ws) e in

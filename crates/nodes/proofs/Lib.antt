@@ -1,5 +1,6 @@
 pub mod Answers
 pub mod Arms
+pub mod Rows
 pub mod Iterated
 pub mod Filled
 pub mod Cells

@@ -15,16 +15,16 @@ use lib.Seq.{set-comm, set-getD}
 use lib.Ieee.{Float, binary32, ofBits, toBits, add, mul}
 use Rattle.leaves.specs.Words.{words, length-words}
 use Rattle.leaves.specs.Floats.{floatAt}
-use Rattle.nodes.specs.Kind.{channelsOf, lineOf, cellSize}
+use Rattle.nodes.specs.Kind.{channelsOf, lineOf, cellSize, samplesFrom, numberIndex}
 use Rattle.nodes.specs.Iter.{iter}
 use Rattle.nodes.specs.Rule.{Brought, State, first, operand, keeps, leftOf, leftBy, rightOf, carryAfter, placeAfter, lineAfter, sampleBy, stateBy}
-use Rattle.nodes.specs.Cell.{Cell, valuesOf, cellOf, frameAt, putFrame, stepCell, runCell, runValues}
+use Rattle.nodes.specs.Cell.{Cell, withSamples, valuesOf, cellOf, frameAt, putFrame, stepCell, runCell, runValues}
 use Rattle.nodes.specs.Block.{stored, opNumber, opSources, given}
 use Rattle.nodes.specs.declared.kind.NodeKind.{NodeKind}
 use Rattle.nodes.specs.declared.kind.NodeKind.the-variants.{Mul, Add}
 use Rattle.nodes.proofs.Iterated.{iter-builds}
 use Rattle.nodes.proofs.Kept.{step-samples}
-use Rattle.nodes.proofs.Cells.{withSamples, values-cell, samples-long, set-sample}
+use Rattle.nodes.proofs.Cells.{values-cell, samples-long, set-sample}
 
 -- ---- stores of blocks
 
@@ -76,14 +76,14 @@ module _ (k : NodeKind) (plain : Plain k) (N : ℕ) (bs : ℕ → Brought) (ws :
   start = cellOf N k ws
 
   pub stored-mono : (y : ℕ → Float) → channelsOf k ≡ 1 → ((i : ℕ) → i < N → keeps k (bs i) ≡ false)
-      → ((i : ℕ) → i < N → leftBy k (start .state) (bs i) ≡ y i) → stored y 3 N ws ≡ runValues k N bs ws
+      → ((i : ℕ) → i < N → leftBy k (start .state) (bs i) ≡ y i) → stored y samplesFrom N ws ≡ runValues k N bs ws
   unfolding stored stepCell putFrame sampleBy
   stored-mono y one goes gives =
-      ap (stored y 3 N) (sym (values-cell N k ws long))
-      ∙ run-as k plain N bs (λ i vs. set vs (3 + i) (toBits binary32 (y i))) start turn
+      ap (stored y samplesFrom N) (sym (values-cell N k ws long))
+      ∙ run-as k plain N bs (λ i vs. set vs (samplesFrom + i) (toBits binary32 (y i))) start turn
     where
       turn : (i : ℕ) → i < N → (t : Cell) → t .state ≡ start .state → length (t .samples) ≡ length (start .samples)
-          → set (valuesOf t) (3 + i) (toBits binary32 (y i)) ≡ valuesOf (stepCell k N bs i t)
+          → set (valuesOf t) (samplesFrom + i) (toBits binary32 (y i)) ≡ valuesOf (stepCell k N bs i t)
       turn i h t same as-long =
           let sampled : leftBy k (t .state) (bs i) ≡ y i = ap (λ (s : State). leftBy k s (bs i)) same ∙ gives i h in
           let fits : i < length (t .samples) = omega (arith, samples-long N k ws long, ap (λ (j : ℕ). N * j) one) in
@@ -92,22 +92,22 @@ module _ (k : NodeKind) (plain : Plain k) (N : ℕ) (bs : ℕ → Brought) (ws :
 
   pub stored-stereo : (y z : ℕ → Float) → channelsOf k ≡ 2 → ((i : ℕ) → i < N → keeps k (bs i) ≡ false)
       → ((i : ℕ) → i < N → leftBy k (start .state) (bs i) ≡ y i) → ((i : ℕ) → i < N → rightOf k (bs i) ≡ z i)
-      → stored z (3 + N) N (stored y 3 N ws) ≡ runValues k N bs ws
+      → stored z (samplesFrom + N) N (stored y samplesFrom N ws) ≡ runValues k N bs ws
   unfolding stepCell putFrame sampleBy
   stored-stereo y z stereo goes gives right =
-      stored-both y z 3 (3 + N) N ws (omega arith)
-      ∙ ap (iter (λ i vs. set (set vs (3 + i) (toBits binary32 (y i))) (3 + N + i) (toBits binary32 (z i))) N) (sym (values-cell N k ws long))
-      ∙ run-as k plain N bs (λ i vs. set (set vs (3 + i) (toBits binary32 (y i))) (3 + N + i) (toBits binary32 (z i))) start turn
+      stored-both y z samplesFrom (samplesFrom + N) N ws (omega arith)
+      ∙ ap (iter (λ i vs. set (set vs (samplesFrom + i) (toBits binary32 (y i))) (samplesFrom + N + i) (toBits binary32 (z i))) N) (sym (values-cell N k ws long))
+      ∙ run-as k plain N bs (λ i vs. set (set vs (samplesFrom + i) (toBits binary32 (y i))) (samplesFrom + N + i) (toBits binary32 (z i))) start turn
     where
       turn : (i : ℕ) → i < N → (t : Cell) → t .state ≡ start .state → length (t .samples) ≡ length (start .samples)
-          → set (set (valuesOf t) (3 + i) (toBits binary32 (y i))) (3 + N + i) (toBits binary32 (z i)) ≡ valuesOf (stepCell k N bs i t)
+          → set (set (valuesOf t) (samplesFrom + i) (toBits binary32 (y i))) (samplesFrom + N + i) (toBits binary32 (z i)) ≡ valuesOf (stepCell k N bs i t)
       turn i h t same as-long =
           let a = toBits binary32 (y i) in
           let b = toBits binary32 (z i) in
           let sampled : leftBy k (t .state) (bs i) ≡ y i = ap (λ (s : State). leftBy k s (bs i)) same ∙ gives i h in
           let both : length (t .samples) ≡ N * 2 = as-long ∙ samples-long N k ws long ∙ ap (λ (j : ℕ). N * j) stereo in
-          let place : 3 + N + i ≡ 3 + (N + i) = omega arith in
-          ap (λ (l : List ℕ). set l (3 + N + i) b) (set-sample t a i (omega arith))
+          let place : samplesFrom + N + i ≡ samplesFrom + (N + i) = omega arith in
+          ap (λ (l : List ℕ). set l (samplesFrom + N + i) b) (set-sample t a i (omega arith))
           ∙ ap (λ (j : ℕ). set (valuesOf (withSamples t (set (t .samples) i a))) j b) place
           ∙ set-sample (withSamples t (set (t .samples) i a)) b (N + i) (omega (arith, length-set (t .samples) i a))
           ∙ ap valuesOf (cell-same (sym (plain (t .state) (bs i))) (rw (stereo, goes i h, sampled, right i h) refl))
@@ -138,21 +138,21 @@ unfolding stateBy carryAfter placeAfter lineAfter keeps leftOf
 add-operator f = record { plain = λ s b. refl; mono = refl; lineless = refl; goes = λ b. refl; rule = λ s b. refl }
 
 -- of a cell that is lent whole the loop leaves vs
-module _ {op : Float → Float → Float} {k : NodeKind} (o : Operator op k) (N : ℕ) (two : Bool) (x m : List Float) (cell vs : List ℕ) (whole : length cell ≡ 4 * (3 + N)) where
+module _ {op : Float → Float → Float} {k : NodeKind} (o : Operator op k) (N : ℕ) (two : Bool) (x m : List Float) (cell vs : List ℕ) (whole : length cell ≡ 4 * (samplesFrom + N)) where
   cell-long : length (words cell) ≡ cellSize N k
   cell-long = omega (arith, length-words cell, ap (λ (j : ℕ). N * j) (o .mono), o .lineless)
 
-  pub operator-two : two ≡ true → vs ≡ stored (opSources op x m) 3 N (words cell) → vs ≡ runValues k N (given two x m) (words cell)
+  pub operator-two : two ≡ true → vs ≡ stored (opSources op x m) samplesFrom N (words cell) → vs ≡ runValues k N (given two x m) (words cell)
   operator-two is e =
       e
       ∙ stored-mono k (o .plain) N (given true x m) (words cell) cell-long (opSources op x m) (o .mono) (λ i h. o .goes _) (λ i h. o .rule _ _)
       ∙ ap (λ (b : Bool). runValues k N (given b x m) (words cell)) (sym is)
 
-  pub operator-one : {g : Float} → two ≡ false → g ≡ floatAt (words cell) 0 → vs ≡ stored (opNumber op x g) 3 N (words cell)
+  pub operator-one : {g : Float} → two ≡ false → g ≡ floatAt (words cell) numberIndex → vs ≡ stored (opNumber op x g) samplesFrom N (words cell)
       → vs ≡ runValues k N (given two x m) (words cell)
   unfolding cellOf
   operator-one is number e =
       e
-      ∙ ap (λ (f : Float). stored (opNumber op x f) 3 N (words cell)) number
-      ∙ stored-mono k (o .plain) N (given false x m) (words cell) cell-long (opNumber op x (floatAt (words cell) 0)) (o .mono) (λ i h. o .goes _) (λ i h. o .rule _ _)
+      ∙ ap (λ (f : Float). stored (opNumber op x f) samplesFrom N (words cell)) number
+      ∙ stored-mono k (o .plain) N (given false x m) (words cell) cell-long (opNumber op x (floatAt (words cell) numberIndex)) (o .mono) (λ i h. o .goes _) (λ i h. o .rule _ _)
       ∙ ap (λ (b : Bool). runValues k N (given b x m) (words cell)) (sym is)

@@ -22,9 +22,9 @@ use Rattle.leaves.specs.Words.{words, length-words}
 use Rattle.leaves.specs.Floats.{floatAt}
 use Rattle.leaves.specs.Floors.{floorOf}
 use Rattle.leaves.specs.Position.{positionOf, restOf}
-use Rattle.nodes.specs.Kind.{channelsOf, cellSize}
+use Rattle.nodes.specs.Kind.{channelsOf, cellSize, samplesFrom, numberIndex, placeIndex}
 use Rattle.nodes.specs.Iter.{iter, from}
-use Rattle.nodes.specs.Rule.{Brought, State, first, two, between, leftBy, leftOf, get, xLine, yLine, tap, allPass, next, placeAfter, lineAfter, carryAfter, keeps, sampleBy, stateBy}
+use Rattle.nodes.specs.Rule.{Brought, State, first, two, between, leftBy, leftOf, get, xLine, yLine, tapBy, tap, allPass, next, placeAfter, lineAfter, carryAfter, keeps, sampleBy, stateBy}
 use Rattle.nodes.specs.Cell.{Cell, valuesOf, cellOf, putFrame, stepCell, runCell, runValues}
 use Rattle.nodes.specs.Ring.{stretchOf, wrapOf, atPlace, stretchValues}
 use Rattle.nodes.specs.declared.kind.NodeKind.{NodeKind}
@@ -99,8 +99,8 @@ cell-values : (N : ℕ) (k : NodeKind) (c : Cell) → length (c .samples) ≡ N 
 unfolding cellOf valuesOf
 cell-values N k c e =
     let m : ℕ = N * channelsOf k in
-    let three : 3 + m ≡ suc (suc (suc m)) = omega arith in
-    let line : drop (3 + m) (valuesOf c) ≡ c .state .line = rw three (drop-at (c .samples) (c .state .line) m e) in
+    let three : samplesFrom + m ≡ suc (suc (suc m)) = omega arith in
+    let line : drop (samplesFrom + m) (valuesOf c) ≡ c .state .line = rw three (drop-at (c .samples) (c .state .line) m e) in
     let samples : take m (c .samples ++ c .state .line) ≡ c .samples = take-at (c .samples) (c .state .line) m e in
     λ i. record {
       state = record { number = c .state .number; carry = c .state .carry; place = c .state .place; line = line i };
@@ -114,7 +114,7 @@ module _ (k : NodeKind) (n : ℕ) (r : Ringed k n) (N : ℕ) (bs : ℕ → Broug
   one-channel : N * channelsOf k ≡ N
   one-channel = ap (λ (a : ℕ). N * a) (r .one) ∙ omega arith
 
-  held-start : (ws : List ℕ) → length ws ≡ cellSize N k → (p : ℕ) → Held N (getD ws 0 0) p (atPlace p (cellOf N k ws))
+  held-start : (ws : List ℕ) → length ws ≡ cellSize N k → (p : ℕ) → Held N (getD ws numberIndex 0) p (atPlace p (cellOf N k ws))
   unfolding cellOf
   held-start ws long p = record {
     samples = samples-long N k ws long ∙ one-channel;
@@ -156,39 +156,39 @@ module _ (k : NodeKind) (n : ℕ) (r : Ringed k n) (N : ℕ) (bs : ℕ → Broug
 
     -- one sample more, where what is stored is what the rule makes of any cell whose values are there
     pub stretch-then : (i j : ℕ) → p + i < n → j ≡ done + i → (vs vs′ : List ℕ) → vs ≡ stretchValues k N bs p done i ws
-        → ((q : ℕ) (c : Cell) → Held N (getD ws 0 0) (p + i) c → vs ≡ valuesOf (atPlace q c) → vs′ ≡ valuesOf (atPlace q (stepCell k N bs j c)))
+        → ((q : ℕ) (c : Cell) → Held N (getD ws numberIndex 0) (p + i) c → vs ≡ valuesOf (atPlace q c) → vs′ ≡ valuesOf (atPlace q (stepCell k N bs j c)))
         → vs′ ≡ stretchValues k N bs p done (i + 1) ws
     unfolding stretchValues iter
     stretch-then i j b at vs vs′ e t =
-        rw (add-one i, ← at) (t (getD ws 2 0) _ (held-on (getD ws 0 0) p done _ (held-start ws long p) i b) e)
+        rw (add-one i, ← at) (t (getD ws placeIndex 0) _ (held-on (getD ws numberIndex 0) p done _ (held-start ws long p) i b) e)
 
 -- ---- a block in stretches
 
 -- after `done` samples the place is p, and vs are the values, in which the place is still the old one
 pub record Reached (k : NodeKind) (N : ℕ) (bs : ℕ → Brought) (ws : List ℕ) (done p : ℕ) (vs : List ℕ) : Type 0 where
-  pub values : vs ≡ valuesOf (atPlace (getD ws 2 0) (iter (stepCell k N bs) done (cellOf N k ws)))
-  pub held : Held N (getD ws 0 0) p (iter (stepCell k N bs) done (cellOf N k ws))
+  pub values : vs ≡ valuesOf (atPlace (getD ws placeIndex 0) (iter (stepCell k N bs) done (cellOf N k ws)))
+  pub held : Held N (getD ws numberIndex 0) p (iter (stepCell k N bs) done (cellOf N k ws))
 
 module _ (k : NodeKind) (n : ℕ) (r : Ringed k n) (N : ℕ) (bs : ℕ → Brought) (ws : List ℕ) where
-  reached-none : (p : ℕ) → p ≡ getD ws 2 0 → length ws ≡ cellSize N k → Reached k N bs ws 0 p ws
+  reached-none : (p : ℕ) → p ≡ getD ws placeIndex 0 → length ws ≡ cellSize N k → Reached k N bs ws 0 p ws
   unfolding iter cellOf
   reached-none p e long = record {
     values = sym (values-cell N k ws long);
-    held = held-at (sym e) (held-start k n r N bs ws long (getD ws 2 0));
+    held = held-at (sym e) (held-start k n r N bs ws long (getD ws placeIndex 0));
   }
 
   module _ (done p : ℕ) (vs : List ℕ) (h : Reached k N bs ws done p vs) where
-    reached-number : getD vs 0 0 ≡ getD ws 0 0
-    reached-number = ap (λ (l : List ℕ). getD l 0 0) (h .values) ∙ get-number _ ∙ h .held .number
+    reached-number : getD vs numberIndex 0 ≡ getD ws numberIndex 0
+    reached-number = ap (λ (l : List ℕ). getD l numberIndex 0) (h .values) ∙ get-number _ ∙ h .held .number
 
     reached-then : (count p′ : ℕ) (vs′ : List ℕ) → vs′ ≡ stretchValues k N bs p done count vs → p′ ≡ wrapOf (p + count) n → p < n → p + count ≤ n
         → Reached k N bs ws (done + count) p′ vs′
     unfolding stretchValues
     reached-then count p′ vs′ e e-p a b =
-        let q : ℕ = getD ws 2 0 in
+        let q : ℕ = getD ws placeIndex 0 in
         let c : Cell = iter (stepCell k N bs) done (cellOf N k ws) in
         let join = iter-join (stepCell k N bs) done count (cellOf N k ws) in
-        let stays : getD vs 2 0 ≡ q = ap (λ (l : List ℕ). getD l 2 0) (h .values) ∙ get-place (atPlace q c) in
+        let stays : getD vs placeIndex 0 ≡ q = ap (λ (l : List ℕ). getD l placeIndex 0) (h .values) ∙ get-place (atPlace q c) in
         let stands : atPlace p (cellOf N k vs) ≡ c =
         ap (λ (l : List ℕ). atPlace p (cellOf N k l)) (h .values)
         ∙ ap (atPlace p) (cell-values N k (atPlace q c) (h .held .samples ∙ sym (one-channel k n r N bs)))
@@ -198,17 +198,17 @@ module _ (k : NodeKind) (n : ℕ) (r : Ringed k n) (N : ℕ) (bs : ℕ → Broug
               e
               ∙ (λ i. valuesOf (atPlace (stays i) (iter (from done (stepCell k N bs)) count (stands i))))
               ∙ ap (λ (d : Cell). valuesOf (atPlace q d)) join;
-          held = subst (Held N (getD ws 0 0) p′) join (held-at (sym e-p) (held-end k n r N bs (getD ws 0 0) p done c (h .held) count a b));
+          held = subst (Held N (getD ws numberIndex 0) p′) join (held-at (sym e-p) (held-end k n r N bs (getD ws numberIndex 0) p done c (h .held) count a b));
         }
 
     -- the place is stored after the last sample
-    reached-end : (vs′ : List ℕ) → vs′ ≡ set vs 2 p → done ≡ N → vs′ ≡ runValues k N bs ws
+    reached-end : (vs′ : List ℕ) → vs′ ≡ set vs placeIndex p → done ≡ N → vs′ ≡ runValues k N bs ws
     unfolding runCell
     reached-end vs′ e all =
         let c : Cell = iter (stepCell k N bs) done (cellOf N k ws) in
         e
-        ∙ ap (λ (l : List ℕ). set l 2 p) (h .values)
-        ∙ set-place (atPlace (getD ws 2 0) c) p
+        ∙ ap (λ (l : List ℕ). set l placeIndex p) (h .values)
+        ∙ set-place (atPlace (getD ws placeIndex 0) c) p
         ∙ ap (λ (j : ℕ). valuesOf (atPlace j c)) (sym (h .held .place))
         ∙ ap (λ (j : ℕ). valuesOf (iter (stepCell k N bs) j (cellOf N k ws))) all
 
@@ -222,7 +222,7 @@ pub record Going (k : Float → NodeKind) (n N : ℕ) (bs : ℕ → Brought) (ce
 
 module _ {k : Float → NodeKind} {n N : ℕ} {bs : ℕ → Brought} {cell₀ : List ℕ} where
   pub going-none : {p : ℕ} → ((f : Float) → Ringed (k f) n) → ((f : Float) → length cell₀ ≡ 4 * cellSize N (k f))
-      → p ≡ getD (words cell₀) 2 0 → getD (words cell₀) 2 0 < n → Going k n N bs cell₀ 0 p cell₀
+      → p ≡ getD (words cell₀) placeIndex 0 → getD (words cell₀) placeIndex 0 < n → Going k n N bs cell₀ 0 p cell₀
   going-none {p} ringed whole e below = record {
     ringed = ringed;
     turns = omega arith;
@@ -233,7 +233,7 @@ module _ {k : Float → NodeKind} {n N : ℕ} {bs : ℕ → Brought} {cell₀ : 
 
   module _ {done p : ℕ} {cell : List ℕ} (h : Going k n N bs cell₀ done p cell) where
     -- the number stays
-    pub going-number : {g : Float} → g ≡ floatAt (words cell₀) 0 → g ≡ floatAt (words cell) 0
+    pub going-number : {g : Float} → g ≡ floatAt (words cell₀) numberIndex → g ≡ floatAt (words cell) numberIndex
     going-number e = e ∙ ap (ofBits binary32) (sym (reached-number (k nan) n (h .ringed nan) N bs (words cell₀) done p (words cell) (h .reached nan)))
 
     -- a stretch more
@@ -249,7 +249,7 @@ module _ {k : Float → NodeKind} {n N : ℕ} {bs : ℕ → Brought} {cell₀ : 
     }
 
     -- the place is stored after the last sample
-    pub going-end : {vs : List ℕ} → N ≤ done → vs ≡ set (words cell) 2 p → (f : Float) → vs ≡ runValues (k f) N bs (words cell₀)
+    pub going-end : {vs : List ℕ} → N ≤ done → vs ≡ set (words cell) placeIndex p → (f : Float) → vs ≡ runValues (k f) N bs (words cell₀)
     going-end {vs} all e f =
         reached-end (k f) n (h .ringed f) N bs (words cell₀) done p (words cell) (h .reached f) vs e (omega arith)
 
@@ -277,7 +277,7 @@ all-pass-reads n f s b g oldX oldY e-g e-x e-y = λ t. allPass (e-g t) (first b)
 -- with one source that is the oldest
 pub tap-one : (n from : ℕ) (s : State) (b : Brought) → two b ≡ false → s .place < n
     → ofBits binary32 (getD (s .line) (from + s .place) 0) ≡ tap n b (get n from s)
-unfolding tap
+unfolding tapBy
 tap-one n from s b e h = rw e (sym (oldest n from s h))
 
 wrap-mod : (n p : ℕ) → p < n → wrapOf (p + 1) n ≡ (p + 1) % n
@@ -294,7 +294,7 @@ pub tap-two : (n from : ℕ) (s : State) (b : Brought) (index older newer : ℕ)
     → index ≡ floorOf (positionOf (b .second) n) → rest ≡ restOf (positionOf (b .second) n)
     → older ≡ (s .place + index) % n → newer ≡ wrapOf (older + 1) n → older < n
     → between (ofBits binary32 (getD (s .line) (from + older) 0)) (ofBits binary32 (getD (s .line) (from + newer) 0)) rest ≡ tap n b (get n from s)
-unfolding tap get
+unfolding tapBy get
 tap-two n from s b index older newer rest e e-i e-r e-o e-n h =
     let next : newer ≡ (s .place + (index + 1)) % n =
     e-n
@@ -307,14 +307,14 @@ tap-two n from s b index older newer rest e e-i e-r e-o e-n h =
 -- a cell's values in memory: `at` is where the ring place is, and `out` where sample j is
 module _ (N q : ℕ) (c : Cell) (long : length (c .samples) ≡ N) (vs : List ℕ) (v : vs ≡ valuesOf (atPlace q c)) where
   -- a load from the line
-  pub line-at : (i at : ℕ) → at ≡ 3 + N + i → getD vs at 0 ≡ getD (c .state .line) i 0
+  pub line-at : (i at : ℕ) → at ≡ samplesFrom + N + i → getD vs at 0 ≡ getD (c .state .line) i 0
   line-at i at e = (λ t. getD (v t) (e t) 0) ∙ get-line (atPlace q c) N i long
 
-  pub float-at : (i at : ℕ) → at ≡ 3 + N + i → floatAt vs at ≡ ofBits binary32 (getD (c .state .line) i 0)
+  pub float-at : (i at : ℕ) → at ≡ samplesFrom + N + i → floatAt vs at ≡ ofBits binary32 (getD (c .state .line) i 0)
   float-at i at e = ap (ofBits binary32) (line-at i at e)
 
   -- the stores: x into the ring, and of an all-pass y into the second one; y into the samples
-  module _ (bs : ℕ → Brought) (j : ℕ) (below : j < N) (at out : ℕ) (e-at : at ≡ 3 + N + c .state .place) (e-out : out ≡ 3 + j) where
+  module _ (bs : ℕ → Brought) (j : ℕ) (below : j < N) (at out : ℕ) (e-at : at ≡ samplesFrom + N + c .state .place) (e-out : out ≡ samplesFrom + j) where
     pub delay-turn : (n x y : ℕ) → x ≡ toBits binary32 (first (bs j)) → y ≡ toBits binary32 (leftBy (Delay n) (c .state) (bs j))
         → set (set vs at x) out y ≡ valuesOf (atPlace q (stepCell (Delay n) N bs j c))
     unfolding stepCell stateBy sampleBy putFrame keeps carryAfter lineAfter
@@ -322,9 +322,9 @@ module _ (N q : ℕ) (c : Cell) (long : length (c .samples) ≡ N) (vs : List �
         let within : j < length (c .samples) = omega arith in
         let new : ℕ = toBits binary32 (leftBy (Delay n) (c .state) (bs j)) in
         rw (v, e-at, e-out, ex, ey)
-        (ap (λ (l : List ℕ). set l (3 + j) new) (set-line (atPlace q c) _ N (c .state .place) long) ∙ set-sample _ new j within)
+        (ap (λ (l : List ℕ). set l (samplesFrom + j) new) (set-line (atPlace q c) _ N (c .state .place) long) ∙ set-sample _ new j within)
 
-    all-pass-turn : (n : ℕ) (f : Float) (x y at-y : ℕ) → at-y ≡ 3 + N + (n + c .state .place)
+    all-pass-turn : (n : ℕ) (f : Float) (x y at-y : ℕ) → at-y ≡ samplesFrom + N + (n + c .state .place)
         → x ≡ toBits binary32 (first (bs j)) → y ≡ toBits binary32 (leftBy (AllPass n f) (c .state) (bs j))
         → set (set (set vs at x) at-y y) out y ≡ valuesOf (atPlace q (stepCell (AllPass n f) N bs j c))
     unfolding stepCell stateBy sampleBy putFrame keeps carryAfter lineAfter
@@ -332,23 +332,23 @@ module _ (N q : ℕ) (c : Cell) (long : length (c .samples) ≡ N) (vs : List �
         let within : j < length (c .samples) = omega arith in
         let new : ℕ = toBits binary32 (leftBy (AllPass n f) (c .state) (bs j)) in
         rw (v, e-at, e-out, e-y, ex, ey)
-        (ap (λ (l : List ℕ). set (set l (3 + N + (n + c .state .place)) new) (3 + j) new) (set-line (atPlace q c) _ N (c .state .place) long)
-        ∙ ap (λ (l : List ℕ). set l (3 + j) new) (set-line _ new N (n + c .state .place) long)
+        (ap (λ (l : List ℕ). set (set l (samplesFrom + N + (n + c .state .place)) new) (samplesFrom + j) new) (set-line (atPlace q c) _ N (c .state .place) long)
+        ∙ ap (λ (l : List ℕ). set l (samplesFrom + j) new) (set-line _ new N (n + c .state .place) long)
         ∙ set-sample _ new j within)
 
 -- one sample more of an all-pass: the three stores, where y is the rule's output
 pub all-pass-then : (n : ℕ) (f : Float) (N : ℕ) (bs : ℕ → Brought) (ws : List ℕ) (p done i j x y at at-y out : ℕ) (vs us ts rs : List ℕ)
     → vs ≡ stretchValues (AllPass n f) N bs p done i ws → us ≡ set vs at x → ts ≡ set us at-y y → rs ≡ set ts out y
     → x ≡ toBits binary32 (first (bs j))
-    → ((q : ℕ) (c : Cell) → Held N (getD ws 0 0) (p + i) c → vs ≡ valuesOf (atPlace q c)
+    → ((q : ℕ) (c : Cell) → Held N (getD ws numberIndex 0) (p + i) c → vs ≡ valuesOf (atPlace q c)
     → y ≡ toBits binary32 (leftBy (AllPass n f) (c .state) (bs j)))
     → length ws ≡ cellSize N (AllPass n f) → p + i < n → j < N → j ≡ done + i
-    → at ≡ 3 + N + (p + i) → at-y ≡ 3 + N + (n + (p + i)) → out ≡ 3 + j
+    → at ≡ samplesFrom + N + (p + i) → at-y ≡ samplesFrom + N + (n + (p + i)) → out ≡ samplesFrom + j
     → rs ≡ stretchValues (AllPass n f) N bs p done (i + 1) ws
 all-pass-then n f N bs ws p done i j x y at at-y out vs us ts rs e e-us e-ts e-rs e-x e-y long a b e-j e-at e-at-y e-out =
     stretch-then (AllPass n f) n (all-pass-ring n f) N bs ws long p done i j a e-j vs rs e (λ q c h v.
-    let first-at : at ≡ 3 + N + c .state .place = omega (arith, h .place) in
-    let second-at : at-y ≡ 3 + N + (n + c .state .place) = omega (arith, h .place) in
+    let first-at : at ≡ samplesFrom + N + c .state .place = omega (arith, h .place) in
+    let second-at : at-y ≡ samplesFrom + N + (n + c .state .place) = omega (arith, h .place) in
     e-rs
     ∙ ap (λ (l : List ℕ). set l out y) (e-ts ∙ ap (λ (l : List ℕ). set l at-y y) e-us)
     ∙ all-pass-turn N q c (h .samples) vs v bs j b at out first-at e-out n f x y at-y second-at e-x (e-y q c h v))

@@ -11,8 +11,8 @@ use lib.ListN.{length, getD}
 use lib.Ieee.{Float}
 use Rattle.leaves.specs.Words.{words, length-words}
 use Rattle.leaves.specs.Floats.{floatAt}
-use Rattle.leaves.specs.Floors.{whole, within}
-use Rattle.nodes.specs.Kind.{fewest, most, cellSize}
+use Rattle.leaves.specs.Floors.{f1, f44100, within}
+use Rattle.nodes.specs.Kind.{fewest, most, cellSize, samplesFrom, numberIndex, carryIndex, placeIndex}
 use Rattle.nodes.specs.Rule.{Brought, keeps, leftOf, rightOf, carryAfter, placeAfter, lineAfter, stateBy}
 use Rattle.nodes.specs.Cell.{cellOf, numberFits, carryFits, placeFits, runValues}
 use Rattle.nodes.specs.Block.{sample, putBlock, alone, given, nothing}
@@ -21,7 +21,7 @@ use Rattle.nodes.specs.declared.kind.NodeKind.{NodeKind}
 use Rattle.nodes.specs.declared.kind.NodeKind.the-variants.{Pass, Sum, Destination, Balance, Delay, AllPass, Sine}
 use Rattle.nodes.proofs.Arms.{Among, arm}
 use Rattle.nodes.proofs.Alike.{ReadsOperands, run-alike, alike-given, alike-alone, alike-nothing}
-use Rattle.nodes.proofs.Kept.{Judged, both, fits-judged, in-band}
+use Rattle.nodes.proofs.Kept.{Judged, both, fits-judged}
 use Rattle.nodes.proofs.Plain.{stored-mono, stored-stereo, block-kept}
 
 -- ---- what is ready
@@ -41,22 +41,22 @@ module _ {cell : List ℕ} {k : NodeKind} {N n : ℕ} (ready : CellReady cell k 
   judged = fits-judged k N (words cell) (ready .judged)
 
 -- the room of two channels
-pub stereo-whole : {cell : List ℕ} {k : NodeKind} {N n : ℕ} → Among (2 ∷ 3 ∷ []) k → CellReady cell k N n → length cell ≡ 4 * (3 + N * 2)
-stereo-whole {cell} {k} {N} {n} o ready = arm (λ j. CellReady cell j N n → length cell ≡ 4 * (3 + N * 2)) (2 ∷ 3 ∷ []) k o (λ r. omega arith, λ r. omega arith) ready
+pub stereo-whole : {cell : List ℕ} {k : NodeKind} {N n : ℕ} → Among (2 ∷ 3 ∷ []) k → CellReady cell k N n → length cell ≡ 4 * (samplesFrom + N * 2)
+stereo-whole {cell} {k} {N} {n} o ready = arm (λ j. CellReady cell j N n → length cell ≡ 4 * (samplesFrom + N * 2)) (2 ∷ 3 ∷ []) k o (λ r. omega arith, λ r. omega arith) ready
 
 -- the place of a ring is below its length; a frequency and a phase lie within their ranges
 module _ {cell : List ℕ} {N n : ℕ} where
-  pub delay-place : {l : ℕ} → CellReady cell (Delay l) N n → getD (words cell) 2 0 < l
+  pub delay-place : {l : ℕ} → CellReady cell (Delay l) N n → getD (words cell) placeIndex 0 < l
   unfolding cellOf placeFits
   delay-place ready = ltb-true _ _ (judged ready .place)
 
-  pub all-pass-place : {l : ℕ} {f : Float} → CellReady cell (AllPass l f) N n → getD (words cell) 2 0 < l
+  pub all-pass-place : {l : ℕ} {f : Float} → CellReady cell (AllPass l f) N n → getD (words cell) placeIndex 0 < l
   unfolding cellOf placeFits
   all-pass-place ready = ltb-true _ _ (judged ready .place)
 
-  pub sine-ranges : {f : Float} → CellReady cell (Sine f) N n → T (within (whole 11025 2) (floatAt (words cell) 0)) × T (within (whole 1 0) (floatAt (words cell) 1))
+  pub sine-ranges : {f : Float} → CellReady cell (Sine f) N n → T (within f44100 (floatAt (words cell) numberIndex)) × T (within f1 (floatAt (words cell) carryIndex))
   unfolding cellOf numberFits carryFits
-  sine-ranges ready = (subst T (sym (judged ready .number) ∙ in-band (getD (words cell) 0 0)) tt, subst T (sym (judged ready .carry)) tt)
+  sine-ranges ready = (subst T (sym (judged ready .number)) tt, subst T (sym (judged ready .carry)) tt)
 
 -- ---- the arms
 
@@ -65,24 +65,24 @@ abbrev pub Runs : List ℕ → ℕ → ℕ → List Float → List Float → Lis
 Runs cell N n x m vs k = (bs : ℕ → Brought) → Supplies k n N x m bs → vs ≡ runValues k N bs (words cell)
 
 module _ {cell : List ℕ} {N n : ℕ} {x m : List Float} {vs : List ℕ} where
-  pub sum-runs : CellReady cell Sum N n → vs ≡ putBlock x 3 N (words cell) → Runs cell N n x m vs Sum
+  pub sum-runs : CellReady cell Sum N n → vs ≡ putBlock x samplesFrom N (words cell) → Runs cell N n x m vs Sum
   unfolding keeps leftOf stateBy carryAfter placeAfter lineAfter
   sum-runs ready e bs supply =
-      e ∙ stored-mono Sum (λ s b. refl) N bs (words cell) (cell-long ready) (sample x) refl (λ i h. refl) (supply .gives)
+      e ∙ stored-mono Sum (λ s b. refl) N bs (words cell) (cell-long ready) (sample x) refl (λ i h. refl) (λ i h. supply .gives i h .0)
 
   -- the two stereo types
-  pub stereo-runs : {k : NodeKind} {us : List ℕ} → Among (2 ∷ 3 ∷ []) k → CellReady cell k N n → us ≡ putBlock x 3 N (words cell) → vs ≡ putBlock m (3 + N) N us → Runs cell N n x m vs k
+  pub stereo-runs : {k : NodeKind} {us : List ℕ} → Among (2 ∷ 3 ∷ []) k → CellReady cell k N n → us ≡ putBlock x samplesFrom N (words cell) → vs ≡ putBlock m (samplesFrom + N) N us → Runs cell N n x m vs k
   unfolding keeps leftOf rightOf stateBy carryAfter placeAfter lineAfter
   stereo-runs {k} o ready d e = arm (λ j. CellReady cell j N n → Runs cell N n x m vs j) (2 ∷ 3 ∷ []) k o (destination, balance) ready
     where
-      both-put : vs ≡ putBlock m (3 + N) N (putBlock x 3 N (words cell))
-      both-put = e ∙ ap (putBlock m (3 + N) N) d
+      both-put : vs ≡ putBlock m (samplesFrom + N) N (putBlock x samplesFrom N (words cell))
+      both-put = e ∙ ap (putBlock m (samplesFrom + N) N) d
 
       destination : CellReady cell Destination N n → Runs cell N n x m vs Destination
       destination r bs supply =
           both-put
           ∙ stored-stereo Destination (λ s b. refl) N bs (words cell) (cell-long r) (sample x) (sample m) refl (λ i h. refl)
-          (λ i h. supply .gives i h .0) (λ i h. supply .gives i h .1)
+          (λ i h. supply .gives i h .0) (λ i h. supply .gives i h .1 refl)
 
       balance : CellReady cell Balance N n → Runs cell N n x m vs Balance
       balance r bs supply =
@@ -92,7 +92,7 @@ module _ {cell : List ℕ} {N n : ℕ} {x m : List Float} {vs : List ℕ} where
           (λ i h. supply .gives i h .0 (omega arith)) (λ i h. supply .gives i h .1 (omega arith))
 
   -- with a source, and with none
-  pub pass-runs : CellReady cell Pass N n → 0 < n → vs ≡ putBlock x 3 N (words cell) → Runs cell N n x m vs Pass
+  pub pass-runs : CellReady cell Pass N n → 0 < n → vs ≡ putBlock x samplesFrom N (words cell) → Runs cell N n x m vs Pass
   unfolding keeps leftOf stateBy carryAfter placeAfter lineAfter
   pass-runs ready some e bs supply =
       e

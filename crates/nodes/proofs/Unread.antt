@@ -15,11 +15,11 @@ use lib.ListN.{length, set, length-set}
 use lib.Ieee.{Float, nan, binary32, ofBits, toBits, add, mul}
 use Rattle.leaves.specs.Position.{positionOf, restOf}
 use Rattle.leaves.specs.Floors.{floorOf}
+use Rattle.nodes.specs.Row.{Line, noLine, lineX, lineXY, Writes, mono, keeping, stereo, rowOf}
 use Rattle.nodes.specs.Kind.{sourcesFit}
-use Rattle.nodes.specs.Rule.{Brought, Frame, State, first, two, allPass, between, tap, leftOf, rightOf, keeps, carryAfter, lineAfter, xLine, yLine, leftBy, sampleBy, stateBy}
+use Rattle.nodes.specs.Rule.{Brought, Frame, State, first, two, allPass, between, tapBy, tap, leftOf, rightOf, keepsIn, keeps, carryAfter, lineOn, lineAfter, xLine, yLine, leftBy, sampleBy, stateBy}
 use Rattle.nodes.specs.History.{Heard, leftHeard, sampleHeard, heardAfter}
 use Rattle.nodes.specs.declared.kind.NodeKind.{NodeKind}
-use Rattle.nodes.proofs.Arms.{kinds, by-line}
 use Rattle.nodes.specs.declared.kind.NodeKind.the-variants.{Pass, Sum, Destination, Balance, Mul, Add, Delay, AllPass, OnePole, Sine}
 
 abbrev pub unread : Brought → Brought
@@ -31,7 +31,7 @@ inner true f s g = refl
 inner false f s g = refl
 
 tap-unread : (n : ℕ) (b : Brought) (get : ℕ → Float) → tap n b get ≡ tap n (unread b) get
-unfolding tap
+unfolding tapBy
 tap-unread n b get =
     inner (two b)
     (λ m. between (get (floorOf (positionOf m n))) (get (floorOf (positionOf m n) + 1)) (restOf (positionOf m n)))
@@ -50,10 +50,14 @@ left-unread (AllPass n f) g c x y b = λ i. allPass g (first b) (tap-unread n b 
 left-unread (OnePole f) g c x y b = refl
 left-unread (Sine f) g c x y b = refl
 
+keeps-in : (w : Writes) (b : Brought) → keepsIn w b ≡ keepsIn w (unread b)
+keeps-in (mono l) b = refl
+keeps-in (keeping l) b = refl
+keeps-in (stereo l r) b = refl
+
 keeps-unread : (k : NodeKind) (b : Brought) → keeps k b ≡ keeps k (unread b)
 unfolding keeps
-keeps-unread k b =
-    kinds (λ j. keeps j b ≡ keeps j (unread b)) (refl, refl, refl, refl, λ f. refl, λ f. refl, λ n. refl, λ n f. refl, λ f. refl, λ f. refl) k
+keeps-unread k b = keeps-in (rowOf k .writes) b
 
 -- the one type that always reads it has two sources
 balance-two : (b : Brought) → sourcesFit Balance (length (b .left)) ≡ true → b .second ≡ cond (two b) (b .second) nan
@@ -121,8 +125,11 @@ module _ (k : NodeKind) (b : Brought) where
 
 -- ---- lines
 
+line-on-long : (r : Line) (p x y : ℕ) (l : List ℕ) → length (lineOn r p x y l) ≡ length l
+line-on-long noLine p x y l = refl
+line-on-long (lineX n) p x y l = length-set l p x
+line-on-long (lineXY n) p x y l = length-set (set l p x) (n + p) y ∙ length-set l p x
+
 pub line-after-long : (k : NodeKind) (p x y : ℕ) (l : List ℕ) → length (lineAfter k p x y l) ≡ length l
 unfolding lineAfter
-line-after-long k p x y l =
-    by-line (λ j. length (lineAfter j p x y l) ≡ length l) (refl, refl, refl, refl, λ f. refl, λ f. refl, λ f. refl, λ f. refl)
-    (λ n. length-set l p x) (λ n f. length-set (set l p x) (n + p) y ∙ length-set l p x) k
+line-after-long k p x y l = line-on-long (rowOf k .line) p x y l

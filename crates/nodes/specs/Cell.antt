@@ -5,17 +5,24 @@ use mathlib.Core.List.{List, _∷_, _++_}
 use lib.ListN.{getD, set, take, drop, replicate}
 use lib.Dec.{eqb, ltb}
 use lib.Ieee.{Float, binary32, ofBits, toBits}
-use Rattle.leaves.specs.Floors.{whole, zeroF, within, finiteF}
-use Rattle.nodes.specs.Kind.{channelsOf, lineOf, finite, inBand}
+use Rattle.leaves.specs.Floors.{f1, zeroF, within}
+use Rattle.nodes.specs.Row.{Value, unused, coefficient, numbered, inRange, Line, noLine, lineX, lineXY, Carry, noCarry, lastOutput, runningPhase, rowOf}
+use Rattle.nodes.specs.Kind.{channelsOf, lineOf, samplesFrom, numberIndex, carryIndex, placeIndex, lineFrom}
 use Rattle.nodes.specs.Iter.{iter}
 use Rattle.nodes.specs.Rule.{Brought, Frame, State, sampleBy, stateBy}
 use Rattle.nodes.specs.declared.kind.NodeKind.{NodeKind}
-use Rattle.nodes.specs.declared.kind.NodeKind.the-variants.{Pass, Sum, Destination, Balance, Mul, Add, Delay, AllPass, OnePole, Sine}
 
 -- the state, and N samples a channel, channel 0 first
 pub record Cell : Type 0 where
   pub state : State
   pub samples : List ℕ
+
+-- a cell with one part replaced
+abbrev pub withState : Cell → State → Cell
+withState c s = record { state = s; samples = c .samples }
+
+abbrev pub withSamples : Cell → List ℕ → Cell
+withSamples c l = record { state = c .state; samples = l }
 
 -- the values of a cell, in order: number, carry, ring place, the samples, the line
 unfoldable pub valuesOf : Cell → List ℕ
@@ -24,24 +31,20 @@ valuesOf c = c .state .number ∷ c .state .carry ∷ c .state .place ∷ (c .sa
 -- the cell of a node of kind k that stands in the values ws, at block size N
 unfoldable pub cellOf : ℕ → NodeKind → List ℕ → Cell
 cellOf N k ws = record {
-  state = record { number = getD ws 0 0; carry = getD ws 1 0; place = getD ws 2 0; line = drop (3 + N * channelsOf k) ws };
-  samples = take (N * channelsOf k) (drop 3 ws);
+  state = record { number = getD ws numberIndex 0; carry = getD ws carryIndex 0; place = getD ws placeIndex 0; line = drop (lineFrom N k) ws };
+  samples = take (N * channelsOf k) (drop samplesFrom ws);
 }
 
 -- ---- fresh
 
 -- the number with which a node starts: f, and 0 but for types 5, 6, 8 and 10
+abbrev pub startIn : Value → Float
+startIn unused = zeroF
+startIn (coefficient r b) = zeroF
+startIn (numbered r f) = f
+
 unfoldable pub numberOf : NodeKind → Float
-numberOf Pass = zeroF
-numberOf Sum = zeroF
-numberOf Destination = zeroF
-numberOf Balance = zeroF
-numberOf (Mul f) = f
-numberOf (Add f) = f
-numberOf (Delay n) = zeroF
-numberOf (AllPass n f) = f
-numberOf (OnePole f) = zeroF
-numberOf (Sine f) = f
+numberOf k = startIn (rowOf k .value)
 
 unfoldable pub freshCell : ℕ → NodeKind → Cell
 freshCell N k = record {
@@ -51,70 +54,51 @@ freshCell N k = record {
 
 -- ---- the judged values (refusal 8); samples, lines and y1 may hold any bits
 
-unfoldable pub takesNumber : NodeKind → Bool
-takesNumber Pass = false
-takesNumber Sum = false
-takesNumber Destination = false
-takesNumber Balance = false
-takesNumber (Mul f) = true
-takesNumber (Add f) = true
-takesNumber (Delay n) = false
-takesNumber (AllPass n f) = true
-takesNumber (OnePole f) = false
-takesNumber (Sine f) = true
-
 -- a value is in the range of the number of a node that takes one
+abbrev pub takesIn : Value → Bool
+takesIn unused = false
+takesIn (coefficient r b) = false
+takesIn (numbered r f) = true
+
+abbrev pub valueIn : Value → Float → Bool
+valueIn unused x = false
+valueIn (coefficient r b) x = false
+valueIn (numbered r f) x = inRange r x
+
+unfoldable pub takesNumber : NodeKind → Bool
+takesNumber k = takesIn (rowOf k .value)
+
 unfoldable pub valueFits : NodeKind → Float → Bool
-valueFits Pass x = false
-valueFits Sum x = false
-valueFits Destination x = false
-valueFits Balance x = false
-valueFits (Mul f) x = finiteF x
-valueFits (Add f) x = finiteF x
-valueFits (Delay n) x = false
-valueFits (AllPass n f) x = finiteF x
-valueFits (OnePole f) x = false
-valueFits (Sine f) x = within (whole 11025 2) x
+valueFits k x = valueIn (rowOf k .value) x
+
+-- the number's pattern, the carry's, and the ring place
+abbrev pub numberIn : Value → ℕ → Bool
+numberIn unused w = eqb w 0
+numberIn (coefficient r b) w = eqb w 0
+numberIn (numbered r f) w = inRange r (ofBits binary32 w)
+
+abbrev pub carryIn : Carry → ℕ → Bool
+carryIn noCarry w = eqb w 0
+carryIn lastOutput w = true
+carryIn runningPhase w = within f1 (ofBits binary32 w)
+
+abbrev pub placeIn : Line → ℕ → Bool
+placeIn noLine w = eqb w 0
+placeIn (lineX n) w = ltb w n
+placeIn (lineXY n) w = ltb w n
 
 unfoldable pub numberFits : NodeKind → ℕ → Bool
-numberFits Pass w = eqb w 0
-numberFits Sum w = eqb w 0
-numberFits Destination w = eqb w 0
-numberFits Balance w = eqb w 0
-numberFits (Mul f) w = finite w
-numberFits (Add f) w = finite w
-numberFits (Delay n) w = eqb w 0
-numberFits (AllPass n f) w = finite w
-numberFits (OnePole f) w = eqb w 0
-numberFits (Sine f) w = inBand w
+numberFits k w = numberIn (rowOf k .value) w
 
 unfoldable pub carryFits : NodeKind → ℕ → Bool
-carryFits Pass w = eqb w 0
-carryFits Sum w = eqb w 0
-carryFits Destination w = eqb w 0
-carryFits Balance w = eqb w 0
-carryFits (Mul f) w = eqb w 0
-carryFits (Add f) w = eqb w 0
-carryFits (Delay n) w = eqb w 0
-carryFits (AllPass n f) w = eqb w 0
-carryFits (OnePole f) w = true
-carryFits (Sine f) w = within (whole 1 0) (ofBits binary32 w)
+carryFits k w = carryIn (rowOf k .carry) w
 
 unfoldable pub placeFits : NodeKind → ℕ → Bool
-placeFits Pass w = eqb w 0
-placeFits Sum w = eqb w 0
-placeFits Destination w = eqb w 0
-placeFits Balance w = eqb w 0
-placeFits (Mul f) w = eqb w 0
-placeFits (Add f) w = eqb w 0
-placeFits (Delay n) w = ltb w n
-placeFits (AllPass n f) w = ltb w n
-placeFits (OnePole f) w = eqb w 0
-placeFits (Sine f) w = eqb w 0
+placeFits k w = placeIn (rowOf k .line) w
 
 -- the number, carry and place that stand in the values ws are as they must be
 abbrev pub cellFits : NodeKind → List ℕ → Bool
-cellFits k ws = numberFits k (getD ws 0 0) && carryFits k (getD ws 1 0) && placeFits k (getD ws 2 0)
+cellFits k ws = numberFits k (getD ws numberIndex 0) && carryFits k (getD ws carryIndex 0) && placeFits k (getD ws placeIndex 0)
 
 -- ---- a block run
 

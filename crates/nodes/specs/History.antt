@@ -6,12 +6,14 @@ use mathlib.Core.Bool.{cond}
 use mathlib.Core.List.{List, [], _∷_, _++_, map}
 use lib.ListN.{length}
 use lib.Ieee.{Float, binary32, ofBits, toBits}
+use Rattle.leaves.specs.Floors.{zeroF}
 use Rattle.reading.specs.Table.{tab}
 use Rattle.reading.specs.Ring.{from, newest}
+use Rattle.nodes.specs.Row.{Line, noLine, lineX, lineXY, rowOf}
+use Rattle.nodes.specs.Kind.{lineLength}
 use Rattle.nodes.specs.Rule.{Brought, Frame, State, first, leftOf, rightOf, keeps, carryAfter}
 use Rattle.nodes.specs.Cell.{numberOf}
 use Rattle.nodes.specs.declared.kind.NodeKind.{NodeKind}
-use Rattle.nodes.specs.declared.kind.NodeKind.the-variants.{Pass, Sum, Destination, Balance, Mul, Add, Delay, AllPass, OnePole, Sine}
 
 -- ---- what the reading knows of a node
 
@@ -52,21 +54,23 @@ agoBy n l j = ofBits binary32 (from 0 n l (n - j % n))
 
 -- the n of a type with a line; the others read none
 abbrev pub lengthOf : NodeKind → ℕ
-lengthOf Pass = 0
-lengthOf Sum = 0
-lengthOf Destination = 0
-lengthOf Balance = 0
-lengthOf (Mul f) = 0
-lengthOf (Add f) = 0
-lengthOf (Delay n) = n
-lengthOf (AllPass n f) = n
-lengthOf (OnePole f) = 0
-lengthOf (Sine f) = 0
+lengthOf k = lineLength (rowOf k .line)
+
+-- the lines of x and y of a type that has them
+abbrev pub xAgo : Line → List ℕ → ℕ → Float
+xAgo noLine l j = zeroF
+xAgo (lineX n) l j = agoBy n l j
+xAgo (lineXY n) l j = agoBy n l j
+
+abbrev pub yAgo : Line → List ℕ → ℕ → Float
+yAgo noLine l j = zeroF
+yAgo (lineX n) l j = zeroF
+yAgo (lineXY n) l j = agoBy n l j
 
 -- the float that channel 0 takes
 abbrev pub leftHeard : NodeKind → Heard → Brought → Float
 leftHeard k h b =
-    leftOf k (ofBits binary32 (h .number)) (ofBits binary32 (h .carry)) (agoBy (lengthOf k) (xs h)) (agoBy (lengthOf k) (ys h)) b
+    leftOf k (ofBits binary32 (h .number)) (ofBits binary32 (h .carry)) (xAgo (rowOf k .line) (xs h)) (yAgo (rowOf k .line) (ys h)) b
 
 -- its sample; `held` is what stands at its place
 unfoldable pub sampleHeard : NodeKind → Heard → Frame → Brought → Frame
@@ -84,34 +88,26 @@ heardAfter k h b = record {
 -- ---- what memory holds of it
 
 -- once the node has taken c samples, the place is c mod n
+abbrev pub placeBy : Line → ℕ → ℕ
+placeBy noLine c = 0
+placeBy (lineX n) c = c % n
+placeBy (lineXY n) c = c % n
+
 unfoldable pub placeOf : NodeKind → ℕ → ℕ
-placeOf Pass c = 0
-placeOf Sum c = 0
-placeOf Destination c = 0
-placeOf Balance c = 0
-placeOf (Mul f) c = 0
-placeOf (Add f) c = 0
-placeOf (Delay n) c = c % n
-placeOf (AllPass n f) c = c % n
-placeOf (OnePole f) c = 0
-placeOf (Sine f) c = 0
+placeOf k c = placeBy (rowOf k .line) c
 
 -- place p of a line of n holds the newest sample whose count, from 0, leaves p on division by n, or 0 if there is none
 abbrev pub ring : ℕ → List ℕ → List ℕ
 ring n l = tab n (newest 0 n l)
 
 -- the line: x, and of an all-pass also y
+abbrev pub ringsBy : Line → List ℕ → List ℕ → List ℕ
+ringsBy noLine x y = []
+ringsBy (lineX n) x y = ring n x
+ringsBy (lineXY n) x y = ring n x ++ ring n y
+
 unfoldable pub lineHeard : NodeKind → List ℕ → List ℕ → List ℕ
-lineHeard Pass x y = []
-lineHeard Sum x y = []
-lineHeard Destination x y = []
-lineHeard Balance x y = []
-lineHeard (Mul f) x y = []
-lineHeard (Add f) x y = []
-lineHeard (Delay n) x y = ring n x
-lineHeard (AllPass n f) x y = ring n x ++ ring n y
-lineHeard (OnePole f) x y = []
-lineHeard (Sine f) x y = []
+lineHeard k x y = ringsBy (rowOf k .line) x y
 
 unfoldable pub stateOf : NodeKind → Heard → State
 stateOf k h = record { number = h .number; carry = h .carry; place = placeOf k (count h); line = lineHeard k (xs h) (ys h) }

@@ -4,7 +4,7 @@
 use Prim.Native.Nat.{ℕ}
 use mathlib.Core.List.{List}
 use Rattle.reading.specs.Board.{Rules}
-use Rattle.nodes.specs.Rule.{Brought, Frame, State, sampleBy, stateBy}
+use Rattle.nodes.specs.Rule.{Brought, Frame, State, withNumber, sampleBy, stateBy}
 use Rattle.nodes.specs.Cell.{freshCell}
 use Rattle.nodes.specs.History.{Heard, freshHeard, setNumber, sampleHeard, heardAfter}
 use Rattle.nodes.specs.declared.kind.NodeKind.{NodeKind}
@@ -15,7 +15,7 @@ module _ (kinds : ℕ → NodeKind) (brought : ℕ → List Frame → Brought) w
   memoryRules N = record {
     fresh = λ k. freshCell N (kinds k) .state;
     step = λ k i s held b. (sampleBy (kinds k) s held (brought k b), stateBy (kinds k) s (brought k b));
-    set = λ k v s. record { number = v; carry = s .carry; place = s .place; line = s .line };
+    set = λ k v s. withNumber s v;
   }
 
   -- on what the reading knows

@@ -1,3 +1,7 @@
+-- What the contracts of `nodes` cite: document 01's table (Row), what the board's reader asks of a type (Kind), the rule by samples and the cell
+-- (Rule, Cell), a block run (Node) and a node as the reading knows it (History). Iter and Block help to say them; Ring and HistoryRules are
+-- scaffolding.
+pub mod Row
 pub mod Kind
 pub mod Iter
 pub mod Rule

@@ -1,20 +1,21 @@
 -- A node's block run over the whole memory. Definitions only.
 use Prim.Native.Nat.{ℕ, _+_, _*_, _≤_, _<_}
 use mathlib.Core.Path.{_≡_}
-use mathlib.Core.Bool.{true}
+use mathlib.Core.Bool.{Bool, true, false, _||_}
 use mathlib.Core.List.{List}
+use lib.Dec.{eqb}
 use lib.ListN.{length, getD}
 use lib.Seq.{paste}
 use lib.Ieee.{Float}
 use Rattle.leaves.specs.Words.{words}
 use Rattle.leaves.specs.Floats.{floatAt}
 use Rattle.leaves.specs.Parts.{part}
-use Rattle.nodes.specs.Kind.{cellSize, sourcesFit}
+use Rattle.nodes.specs.Row.{Line, noLine, lineX, lineXY, rowOf}
+use Rattle.nodes.specs.Kind.{typeOf, channelsOf, cellSize, sourcesFit}
 use Rattle.nodes.specs.Rule.{Brought, first, total}
 use Rattle.nodes.specs.Cell.{cellFits, runValues}
 use Rattle.nodes.specs.Block.{sample, samplesAt, InMemory}
 use Rattle.nodes.specs.declared.kind.NodeKind.{NodeKind}
-use Rattle.nodes.specs.declared.kind.NodeKind.the-variants.{Pass, Sum, Destination, Balance, Mul, Add, Delay, AllPass, OnePole, Sine}
 
 -- what the wires bring at place i: `list` has the distinct sources by first wire, `second` is the second wire's source, and `lefts` and
 -- `rights` give for each node the value at which its channel 0 starts, and at which what channel 1 reads of it
@@ -31,17 +32,13 @@ unfoldable pub nodeRun : NodeKind → ℕ → ℕ → (ℕ → Brought) → List
 nodeRun k N at bs ws = paste ws at (runValues k N bs (part ws at (cellSize N k))) (cellSize N k)
 
 -- a line has from 1 to 132,300 samples
+abbrev pub LengthIn : Line → Type 0
+LengthIn noLine = Unit {0}
+LengthIn (lineX n) = (1 ≤ n) × (n ≤ 132300)
+LengthIn (lineXY n) = (1 ≤ n) × (n ≤ 132300)
+
 abbrev pub LineFits : NodeKind → Type 0
-LineFits Pass = Unit {0}
-LineFits Sum = Unit {0}
-LineFits Destination = Unit {0}
-LineFits Balance = Unit {0}
-LineFits (Mul f) = Unit {0}
-LineFits (Add f) = Unit {0}
-LineFits (Delay n) = (1 ≤ n) × (n ≤ 132300)
-LineFits (AllPass n f) = (1 ≤ n) × (n ≤ 132300)
-LineFits (OnePole f) = Unit {0}
-LineFits (Sine f) = Unit {0}
+LineFits k = LengthIn (rowOf k .line)
 
 -- what a block run asks: the board and the memory are judged, and every block lies within the memory m
 pub record Ready (m : List ℕ) (k : NodeKind) (N at : ℕ) (list lefts rights : List ℕ) (second : ℕ) : Type 0 where
@@ -65,17 +62,15 @@ pub record Ready (m : List ℕ) (k : NodeKind) (N at : ℕ) (list lefts rights :
 abbrev pub Operands : ℕ → Brought → Float → Float → Type 0
 Operands n b x m = (0 < n → first b ≡ x) × (1 < n → b .second ≡ m)
 
+abbrev pub sumsSources : NodeKind → Bool
+sumsSources k = eqb (typeOf k) 2 || eqb (typeOf k) 3
+
+abbrev pub GivesBy : Bool → ℕ → ℕ → Brought → Float → Float → Type 0
+GivesBy true channels n b x m = (total (b .left) ≡ x) × (channels ≡ 2 → total (b .right) ≡ m)
+GivesBy false channels n b x m = Operands n b x m
+
 abbrev pub Gives : NodeKind → ℕ → Brought → Float → Float → Type 0
-Gives Pass n b x m = Operands n b x m
-Gives Sum n b x m = total (b .left) ≡ x
-Gives Destination n b x m = (total (b .left) ≡ x) × (total (b .right) ≡ m)
-Gives Balance n b x m = Operands n b x m
-Gives (Mul f) n b x m = Operands n b x m
-Gives (Add f) n b x m = Operands n b x m
-Gives (Delay l) n b x m = Operands n b x m
-Gives (AllPass l f) n b x m = Operands n b x m
-Gives (OnePole f) n b x m = Operands n b x m
-Gives (Sine f) n b x m = Operands n b x m
+Gives k n b x m = GivesBy (sumsSources k) (channelsOf k) n b x m
 
 -- the same for each place of the blocks x and m, of n sources
 pub record Supplies (k : NodeKind) (n N : ℕ) (x m : List Float) (bs : ℕ → Brought) : Type 0 where

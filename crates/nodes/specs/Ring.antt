@@ -4,9 +4,10 @@ use mathlib.Core.Bool.{cond}
 use mathlib.Core.List.{List}
 use lib.ListN.{getD}
 use lib.Dec.{ltb}
+use Rattle.nodes.specs.Kind.{placeIndex}
 use Rattle.nodes.specs.Iter.{iter, from}
-use Rattle.nodes.specs.Rule.{Brought}
-use Rattle.nodes.specs.Cell.{Cell, valuesOf, cellOf, stepCell}
+use Rattle.nodes.specs.Rule.{Brought, withPlace}
+use Rattle.nodes.specs.Cell.{Cell, withState, valuesOf, cellOf, stepCell}
 use Rattle.nodes.specs.declared.kind.NodeKind.{NodeKind}
 
 -- of `left` samples, those that go before the end of a ring of n
@@ -19,13 +20,10 @@ wrapOf end n = cond (ltb end n) end 0
 
 -- a cell with another ring place
 abbrev pub atPlace : ℕ → Cell → Cell
-atPlace p c = record {
-  state = record { number = c .state .number; carry = c .state .carry; place = p; line = c .state .line };
-  samples = c .samples;
-}
+atPlace p c = withState c (withPlace (c .state) p)
 
 -- the values after `count` samples of a block from sample `done` on, by the rule. The loops hold the ring place apart, and store it after the
 -- last sample: `place` is where the stretch starts, and the place that stands in the values stays
 unfoldable pub stretchValues : NodeKind → ℕ → (ℕ → Brought) → ℕ → ℕ → ℕ → List ℕ → List ℕ
 stretchValues k N bs place done count ws =
-    valuesOf (atPlace (getD ws 2 0) (iter (from done (stepCell k N bs)) count (atPlace place (cellOf N k ws))))
+    valuesOf (atPlace (getD ws placeIndex 0) (iter (from done (stepCell k N bs)) count (atPlace place (cellOf N k ws))))

@@ -1,38 +1,19 @@
--- The ten rules, sample by sample (document 01, the table of types). A node's state and what its wires bring give its sample and its next
--- state. Floats are IEEE 754 singles, one rounding for each operation, in the order written; a sample is kept as its pattern, a NaN's as
--- 7FC00000. Definitions only.
+-- The rule of a node, sample by sample, from its type's row. A node's state and what its wires bring give its sample and its next state; a
+-- sample is kept as its pattern, a NaN's as 7FC00000. Definitions only.
 use Prim.Native.Nat.{ℕ, suc, _+_, _%_}
 use mathlib.Core.Bool.{Bool, false, cond}
-use mathlib.Core.List.{List, [], _∷_}
+use mathlib.Core.List.{List}
 use lib.ListN.{length, getD, set}
-use lib.Dec.{eqb, ltb}
-use lib.Ieee.{Float, nan, binary32, ofBits, toBits, add, sub, mul, neg}
-use Rattle.leaves.specs.Floors.{whole, zeroF, floorOf}
-use Rattle.leaves.specs.Position.{positionOf, restOf}
-use Rattle.leaves.specs.Sine.{sineOf, phaseUnits, over23}
-use Rattle.leaves.specs.OnePole.{onePoleOf, onePoleStep}
+use lib.Dec.{eqb}
+use lib.Ieee.{Float, binary32, ofBits, toBits}
+use Rattle.leaves.specs.Floors.{zeroF}
 use Rattle.leaves.specs.Phase.{phaseAfter}
+use Rattle.nodes.specs.Row.{Terms, Line, noLine, lineX, lineXY, Carry, noCarry, lastOutput, runningPhase, Writes, mono, keeping, stereo, rowOf}
 use Rattle.nodes.specs.declared.kind.NodeKind.{NodeKind}
-use Rattle.nodes.specs.declared.kind.NodeKind.the-variants.{Pass, Sum, Destination, Balance, Mul, Add, Delay, AllPass, OnePole, Sine}
+pub use Rattle.nodes.specs.Row.{Brought, first, two, addTo, operand, tap}
+unfoldable pub use Rattle.nodes.specs.Row.{total, allPass, between, tapBy}
 
--- ---- what comes in and goes out
-
--- what a node's wires bring at one time
-pub record Brought : Type 0 where
-  -- channel 0 of each distinct source, by first wire
-  pub left : List Float
-  -- of each, what the destination's channel 1 reads: a stereo source's channel 1, else channel 0
-  pub right : List Float
-  -- channel 0 of the second wire's source
-  pub second : Float
-
--- the first wire's source
-abbrev pub first : Brought → Float
-first b = getD (b .left) 0 nan
-
--- there are two distinct sources
-abbrev pub two : Brought → Bool
-two b = ltb 1 (length (b .left))
+-- ---- what a node gives and keeps
 
 -- one sample of a node, as patterns; a node of one channel leaves `right` 0
 pub record Frame : Type 0 where
@@ -46,87 +27,56 @@ pub record State : Type 0 where
   pub place : ℕ
   pub line : List ℕ
 
--- ---- the parts of the rules
+-- a state with one value replaced
+abbrev pub withNumber : State → ℕ → State
+withNumber s v = record { number = v; carry = s .carry; place = s .place; line = s .line }
 
--- 0 + each, in order
-abbrev pub addTo : Float → List Float → Float
-addTo t [] = t
-addTo t (x ∷ xs) = addTo (add binary32 t x) xs
+abbrev pub withCarry : State → ℕ → State
+withCarry s v = record { number = s .number; carry = v; place = s .place; line = s .line }
 
-unfoldable pub total : List Float → Float
-total xs = addTo zeroF xs
+abbrev pub withPlace : State → ℕ → State
+withPlace s v = record { number = s .number; carry = s .carry; place = v; line = s .line }
 
--- the number, or the second source where there are two
-abbrev pub operand : Float → Brought → Float
-operand g b = cond (two b) (b .second) g
+abbrev pub withLine : State → List ℕ → State
+withLine s l = record { number = s .number; carry = s .carry; place = s .place; line = l }
 
--- (−g × x + X) + g × Y
-unfoldable pub allPass : Float → Float → Float → Float → Float
-allPass g x oldX oldY = add binary32 (add binary32 (mul binary32 (neg g) x) oldX) (mul binary32 g oldY)
-
--- get(i) × r + get(i+1) × (1 − r): the older neighbour has the weight r, as in the Rust
-unfoldable pub between : Float → Float → Float → Float
-between older newer r = add binary32 (mul binary32 older r) (mul binary32 newer (sub binary32 (whole 1 0) r))
-
--- what an all-pass of n reads of a line, whose index 0 is the oldest sample: that one, or with two sources where the second says
-unfoldable pub tap : ℕ → Brought → (ℕ → Float) → Float
-tap n b get =
-    let pos = positionOf (b .second) n in
-    cond (two b) (between (get (floorOf pos)) (get (floorOf pos + 1)) (restOf pos)) (get 0)
-
--- ---- the table
+-- ---- what a row says
 
 -- channel 0: the number g, the carry c, the lines x and y by index from the oldest sample
+abbrev pub leftIn : Writes → Terms → Float
+leftIn (mono l) t = l t
+leftIn (keeping l) t = l t
+leftIn (stereo l r) t = l t
+
 unfoldable pub leftOf : NodeKind → Float → Float → (ℕ → Float) → (ℕ → Float) → Brought → Float
-leftOf Pass g c x y b = first b
-leftOf Sum g c x y b = total (b .left)
-leftOf Destination g c x y b = total (b .left)
-leftOf Balance g c x y b = first b
-leftOf (Mul f) g c x y b = mul binary32 (first b) (operand g b)
-leftOf (Add f) g c x y b = add binary32 (first b) (operand g b)
-leftOf (Delay n) g c x y b = x 0
-leftOf (AllPass n f) g c x y b = allPass g (first b) (tap n b x) (tap n b y)
-leftOf (OnePole f) g c x y b = onePoleStep (onePoleOf f c) (first b) .y1
-leftOf (Sine f) g c x y b = over23 (sineOf (phaseUnits c))
+leftOf k g c x y b = leftIn (rowOf k .writes) (record { number = g; carry = c; x = x; y = y; wires = b })
 
 -- channel 1 of the two stereo types
+abbrev pub rightIn : Writes → Brought → Float
+rightIn (mono l) b = zeroF
+rightIn (keeping l) b = zeroF
+rightIn (stereo l r) b = r b
+
 unfoldable pub rightOf : NodeKind → Brought → Float
-rightOf Pass b = zeroF
-rightOf Sum b = zeroF
-rightOf Destination b = total (b .right)
-rightOf Balance b = b .second
-rightOf (Mul f) b = zeroF
-rightOf (Add f) b = zeroF
-rightOf (Delay n) b = zeroF
-rightOf (AllPass n f) b = zeroF
-rightOf (OnePole f) b = zeroF
-rightOf (Sine f) b = zeroF
+rightOf k b = rightIn (rowOf k .writes) b
 
 -- a pass without sources keeps its block
-unfoldable pub keeps : NodeKind → Brought → Bool
-keeps Pass b = eqb (length (b .left)) 0
-keeps Sum b = false
-keeps Destination b = false
-keeps Balance b = false
-keeps (Mul f) b = false
-keeps (Add f) b = false
-keeps (Delay n) b = false
-keeps (AllPass n f) b = false
-keeps (OnePole f) b = false
-keeps (Sine f) b = false
+abbrev pub keepsIn : Writes → Brought → Bool
+keepsIn (mono l) b = false
+keepsIn (keeping l) b = eqb (length (b .left)) 0
+keepsIn (stereo l r) b = false
 
--- the carry after the sample y: the last output of a one-pole, the phase of a sine of frequency g
+unfoldable pub keeps : NodeKind → Brought → Bool
+keeps k b = keepsIn (rowOf k .writes) b
+
+-- the carry after the sample y, where the number is g
+abbrev pub carriedOn : Carry → Float → ℕ → Float → ℕ
+carriedOn noCarry g c y = c
+carriedOn lastOutput g c y = toBits binary32 y
+carriedOn runningPhase g c y = toBits binary32 (phaseAfter g (ofBits binary32 c))
+
 unfoldable pub carryAfter : NodeKind → Float → ℕ → Float → ℕ
-carryAfter Pass g c y = c
-carryAfter Sum g c y = c
-carryAfter Destination g c y = c
-carryAfter Balance g c y = c
-carryAfter (Mul f) g c y = c
-carryAfter (Add f) g c y = c
-carryAfter (Delay n) g c y = c
-carryAfter (AllPass n f) g c y = c
-carryAfter (OnePole f) g c y = toBits binary32 y
-carryAfter (Sine f) g c y = toBits binary32 (phaseAfter g (ofBits binary32 c))
+carryAfter k g c y = carriedOn (rowOf k .carry) g c y
 
 -- ---- the line in memory, a ring: the place indexes the oldest sample; a push replaces it and moves on, wrapping
 
@@ -138,55 +88,39 @@ unfoldable pub get : ℕ → ℕ → State → ℕ → Float
 get n from s j = ofBits binary32 (getD (s .line) (from + (s .place + j) % n) 0)
 
 -- the lines of x and y of a type that has them
+abbrev pub xIn : Line → State → ℕ → Float
+xIn noLine s j = zeroF
+xIn (lineX n) s j = get n 0 s j
+xIn (lineXY n) s j = get n 0 s j
+
+abbrev pub yIn : Line → State → ℕ → Float
+yIn noLine s j = zeroF
+yIn (lineX n) s j = zeroF
+yIn (lineXY n) s j = get n n s j
+
 unfoldable pub xLine : NodeKind → State → ℕ → Float
-xLine Pass s j = zeroF
-xLine Sum s j = zeroF
-xLine Destination s j = zeroF
-xLine Balance s j = zeroF
-xLine (Mul f) s j = zeroF
-xLine (Add f) s j = zeroF
-xLine (Delay n) s j = get n 0 s j
-xLine (AllPass n f) s j = get n 0 s j
-xLine (OnePole f) s j = zeroF
-xLine (Sine f) s j = zeroF
+xLine k s j = xIn (rowOf k .line) s j
 
 unfoldable pub yLine : NodeKind → State → ℕ → Float
-yLine Pass s j = zeroF
-yLine Sum s j = zeroF
-yLine Destination s j = zeroF
-yLine Balance s j = zeroF
-yLine (Mul f) s j = zeroF
-yLine (Add f) s j = zeroF
-yLine (Delay n) s j = zeroF
-yLine (AllPass n f) s j = get n n s j
-yLine (OnePole f) s j = zeroF
-yLine (Sine f) s j = zeroF
+yLine k s j = yIn (rowOf k .line) s j
 
 -- the place after a sample
+abbrev pub placeOn : Line → ℕ → ℕ
+placeOn noLine p = p
+placeOn (lineX n) p = next n p
+placeOn (lineXY n) p = next n p
+
 unfoldable pub placeAfter : NodeKind → ℕ → ℕ
-placeAfter Pass p = p
-placeAfter Sum p = p
-placeAfter Destination p = p
-placeAfter Balance p = p
-placeAfter (Mul f) p = p
-placeAfter (Add f) p = p
-placeAfter (Delay n) p = next n p
-placeAfter (AllPass n f) p = next n p
-placeAfter (OnePole f) p = p
-placeAfter (Sine f) p = p
+placeAfter k p = placeOn (rowOf k .line) p
 
 -- the line after a sample: x, and of an all-pass y, in place of the oldest
+abbrev pub lineOn : Line → ℕ → ℕ → ℕ → List ℕ → List ℕ
+lineOn noLine p x y l = l
+lineOn (lineX n) p x y l = set l p x
+lineOn (lineXY n) p x y l = set (set l p x) (n + p) y
+
 unfoldable pub lineAfter : NodeKind → ℕ → ℕ → ℕ → List ℕ → List ℕ
-lineAfter Pass p x y l = l
-lineAfter Sum p x y l = l
-lineAfter Destination p x y l = l
-lineAfter Balance p x y l = l
-lineAfter (Mul f) p x y l = l
-lineAfter (Add f) p x y l = l
-lineAfter (Delay n) p x y l = set l p x
-lineAfter (AllPass n f) p x y l = set (set l p x) (n + p) y
-lineAfter (OnePole f) p x y l = l
-lineAfter (Sine f) p x y l = l
+lineAfter k p x y l = lineOn (rowOf k .line) p x y l
 
 -- ---- the rule of a node on what memory holds
 

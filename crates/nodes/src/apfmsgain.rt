@@ -9,10 +9,14 @@ ghost use Rattle.leaves.specs.Words.{words};
 ghost use Rattle.leaves.specs.Floats.{floatAt};
 ghost use Rattle.leaves.specs.Floors.{Upto};
 ghost use Rattle.leaves.specs.Position.{positionOf};
+ghost use Rattle.nodes.specs.Kind.{samplesFrom, numberIndex, placeIndex};
 ghost use Rattle.nodes.specs.Rule.{allPass, between};
 ghost use Rattle.nodes.specs.Block.{sample, fill, positioned, alone, pair, given};
 ghost use Rattle.nodes.specs.Cell.{runValues};
 ghost use Rattle.nodes.specs.Ring.{stretchValues};
+use crate::cell::NUMBER;
+use crate::cell::PLACE;
+use crate::cell::SAMPLES;
 use crate::delayn::stretch;
 use crate::delayn::wrap;
 use crate::kind::NodeKind;
@@ -44,29 +48,29 @@ fn filter(
     count: usize,
 )
     requires { ⌜ (size ≤ 128) × (n ≤ 132300) × (done + count ≤ size) × (place + count ≤ n)
-        × (length (now cell) ≡ 4 * (3 + size + n * 2)) × (g ≡ floatAt (words (now cell)) 0) ⌝ }
+        × (length (now cell) ≡ 4 * (samplesFrom + size + n * 2)) × (g ≡ floatAt (words (now cell)) numberIndex) ⌝ }
     ensures { λ _. ⌜ ((f : Float) → words (now (cell .exit))
         ≡ stretchValues (NodeKind.AllPass n f) size (alone (now (x .entry))) place done count (words (now (cell .entry)))) ⌝ }
 {
-    let at = 3 + size + place;
+    let at = SAMPLES + size + place;
     let mut i = 0;
     while i < count {
         let y = to_bits(output(g, x[done + i], load(cell, at + i), load(cell, at + n + i)));
         store(cell, at + i, x[done + i]);
         put_word(cell, at + n + i, y);
-        put_word(cell, 3 + done + i, y);
+        put_word(cell, SAMPLES + done + i, y);
         i += 1;
     }
 }
 
 // A block of one source, in stretches up to the ring's end.
 fn run(cell: &mut [u8], n: usize, size: usize, g: f32, x: &[f32; 128])
-    requires { ⌜ (size ≤ 128) × (n ≤ 132300) × (length (now cell) ≡ 4 * (3 + size + n * 2))
-        × (getD (words (now cell)) 2 0 < n) × (g ≡ floatAt (words (now cell)) 0) ⌝ }
+    requires { ⌜ (size ≤ 128) × (n ≤ 132300) × (length (now cell) ≡ 4 * (samplesFrom + size + n * 2))
+        × (getD (words (now cell)) placeIndex 0 < n) × (g ≡ floatAt (words (now cell)) numberIndex) ⌝ }
     ensures { λ _. ⌜ ((f : Float) → words (now (cell .exit))
         ≡ runValues (NodeKind.AllPass n f) size (alone (now (x .entry))) (words (now (cell .entry)))) ⌝ }
 {
-    let mut place = word_at(cell, 2) as usize;
+    let mut place = word_at(cell, PLACE) as usize;
     let mut done = 0;
     while done < size {
         let count = stretch(place, n, size - done);
@@ -74,7 +78,7 @@ fn run(cell: &mut [u8], n: usize, size: usize, g: f32, x: &[f32; 128])
         done += count;
         place = wrap(place + count, n);
     }
-    put_word(cell, 2, place as u32);
+    put_word(cell, PLACE, place as u32);
 }
 
 // The value between two neighbours of the ring that starts at value `ring`: the older has the
@@ -124,48 +128,48 @@ fn modulate(
     i: usize,
 )
     requires { ⌜ (size ≤ 128) × (n ≤ 132300) × (i < size) × (place < n)
-        × (length (now cell) ≡ 4 * (3 + size + n * 2)) × (g ≡ floatAt (words (now cell)) 0) × Upto n (sample (now p) i) ⌝ }
+        × (length (now cell) ≡ 4 * (samplesFrom + size + n * 2)) × (g ≡ floatAt (words (now cell)) numberIndex) × Upto n (sample (now p) i) ⌝ }
     ensures { λ _. ⌜ ((f : Float) (m : List Float) → sample (now (p .entry)) i ≡ positionOf (sample m i) n → words (now (cell .exit))
         ≡ stretchValues (NodeKind.AllPass n f) size (pair (now (x .entry)) m) place i 1 (words (now (cell .entry)))) ⌝ }
 {
     let at = split(p[i]);
     let older = wrapped(place, at.index as usize, n);
     let newer = wrap(older + 1, n);
-    let ring = 3 + size;
+    let ring = SAMPLES + size;
     let old_x = between(cell, ring, older, newer, at.rest);
     let old_y = between(cell, ring + n, older, newer, at.rest);
     let y = to_bits(output(g, x[i], old_x, old_y));
     store(cell, ring + place, x[i]);
     put_word(cell, ring + n + place, y);
-    put_word(cell, 3 + i, y);
+    put_word(cell, SAMPLES + i, y);
 }
 
 // A block of two sources, sample by sample.
 fn run_modulated(cell: &mut [u8], n: usize, size: usize, g: f32, x: &[f32; 128], m: &[f32; 128])
-    requires { ⌜ (size ≤ 128) × (n ≤ 132300) × (length (now cell) ≡ 4 * (3 + size + n * 2))
-        × (getD (words (now cell)) 2 0 < n) × (g ≡ floatAt (words (now cell)) 0) ⌝ }
+    requires { ⌜ (size ≤ 128) × (n ≤ 132300) × (length (now cell) ≡ 4 * (samplesFrom + size + n * 2))
+        × (getD (words (now cell)) placeIndex 0 < n) × (g ≡ floatAt (words (now cell)) numberIndex) ⌝ }
     ensures { λ _. ⌜ ((f : Float) → words (now (cell .exit))
         ≡ runValues (NodeKind.AllPass n f) size (pair (now (x .entry)) (now (m .entry))) (words (now (cell .entry)))) ⌝ }
 {
     let mut p = [0.0f32; 128];
     positions(m, n, size, &mut p);
-    let mut place = word_at(cell, 2) as usize;
+    let mut place = word_at(cell, PLACE) as usize;
     let mut i = 0;
     while i < size {
         modulate(cell, n, size, place, g, x, &p, i);
         place = wrap(place + 1, n);
         i += 1;
     }
-    put_word(cell, 2, place as u32);
+    put_word(cell, PLACE, place as u32);
 }
 
 // A block of the source x, or with two sources of x and the modulation m. The gain is the cell's
 // number.
 pub fn all_pass(cell: &mut [u8], n: usize, size: usize, two: bool, x: &[f32; 128], m: &[f32; 128])
-    requires { ⌜ (size ≤ 128) × (n ≤ 132300) × (length (now cell) ≡ 4 * (3 + size + n * 2)) × (getD (words (now cell)) 2 0 < n) ⌝ }
+    requires { ⌜ (size ≤ 128) × (n ≤ 132300) × (length (now cell) ≡ 4 * (samplesFrom + size + n * 2)) × (getD (words (now cell)) placeIndex 0 < n) ⌝ }
     ensures { λ _. ⌜ ((f : Float) → words (now (cell .exit)) ≡ runValues (NodeKind.AllPass n f) size (given two (now (x .entry)) (now (m .entry))) (words (now (cell .entry)))) ⌝ }
 {
-    let g = load(cell, 0);
+    let g = load(cell, NUMBER);
     if two {
         run_modulated(cell, n, size, g, x, m);
     } else {

@@ -3,13 +3,25 @@ ghost use mathlib.Core.Path.{_≡_};
 ghost use Prim.Native.Nat.{_+_, _*_, _≤_};
 ghost use lib.ListN.{length, drop};
 ghost use Rattle.leaves.specs.Words.{words};
-ghost use Rattle.nodes.specs.Kind.{finite, inBand};
+ghost use Rattle.nodes.specs.Kind.{samplesFrom};
 ghost use Rattle.nodes.specs.Cell.{numberOf, takesNumber, valueFits, numberFits, carryFits, placeFits, cellFits};
 use crate::kind::NodeKind;
+use crate::kind::is_frequency;
 use leaves::bytes::word_at;
 use leaves::float::finite;
+use leaves::float::finite_bits;
 use leaves::float::of_bits;
 use leaves::float::within;
+
+// The values of a cell, in order: number, carry, ring place, and from SAMPLES on the samples, then
+// the line.
+pub const NUMBER: usize = 0;
+
+pub const CARRY: usize = 1;
+
+pub const PLACE: usize = 2;
+
+pub const SAMPLES: usize = 3;
 
 // The number with which a fresh cell starts.
 pub fn number_of(kind: NodeKind) -> f32
@@ -40,31 +52,19 @@ pub fn value_fits(kind: NodeKind, x: f32) -> bool
 {
     match kind {
         NodeKind::Mul(_) | NodeKind::Add(_) | NodeKind::AllPass(_, _) => finite(x),
-        NodeKind::Sine(_) => within(x, 44100.0),
+        NodeKind::Sine(_) => is_frequency(x),
         _ => false,
     }
 }
 
-// The judged values, as patterns: a finite float, and a float from 0 to 44,100.
-
-fn finite_bits(w: u32) -> bool
-    ensures { λ r. ⌜ r ≡ finite w ⌝ }
-{
-    w % 2147483648 < 2139095040
-}
-
-fn in_band(w: u32) -> bool
-    ensures { λ r. ⌜ r ≡ inBand w ⌝ }
-{
-    within(of_bits(w), 44100.0)
-}
+// The judged values, as patterns.
 
 pub fn number_fits(kind: NodeKind, w: u32) -> bool
     ensures { λ r. ⌜ r ≡ numberFits kind w ⌝ }
 {
     match kind {
         NodeKind::Mul(_) | NodeKind::Add(_) | NodeKind::AllPass(_, _) => finite_bits(w),
-        NodeKind::Sine(_) => in_band(w),
+        NodeKind::Sine(_) => is_frequency(of_bits(w)),
         _ => w == 0,
     }
 }
@@ -92,11 +92,11 @@ pub fn place_fits(kind: NodeKind, w: u32) -> bool
 
 // Whether the cell that starts at value `at` of the memory is as it must be.
 pub fn cell_fits(memory: &[u8], at: usize, kind: NodeKind) -> bool
-    requires { ⌜ 4 * (at + 3) ≤ length (now memory) ⌝ }
+    requires { ⌜ 4 * (at + samplesFrom) ≤ length (now memory) ⌝ }
     ensures { λ r. ⌜ r ≡ cellFits kind (drop at (words (now (memory .entry)))) ⌝ }
 {
-    let number = number_fits(kind, word_at(memory, at));
-    let carry = carry_fits(kind, word_at(memory, at + 1));
-    let place = place_fits(kind, word_at(memory, at + 2));
+    let number = number_fits(kind, word_at(memory, at + NUMBER));
+    let carry = carry_fits(kind, word_at(memory, at + CARRY));
+    let place = place_fits(kind, word_at(memory, at + PLACE));
     (number & carry) & place
 }

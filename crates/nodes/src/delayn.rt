@@ -6,9 +6,12 @@ ghost use Prim.Native.Nat.{ℕ, _+_, _*_, _≤_, _<_};
 ghost use lib.ListN.{length, getD};
 ghost use lib.Ieee.{binary32, ofBits, toBits};
 ghost use Rattle.leaves.specs.Words.{words};
+ghost use Rattle.nodes.specs.Kind.{samplesFrom, placeIndex};
 ghost use Rattle.nodes.specs.Ring.{stretchOf, wrapOf, stretchValues};
 ghost use Rattle.nodes.specs.Block.{alone};
 ghost use Rattle.nodes.specs.Cell.{runValues};
+use crate::cell::PLACE;
+use crate::cell::SAMPLES;
 use crate::kind::NodeKind;
 use leaves::bytes::put_word;
 use leaves::bytes::word_at;
@@ -43,26 +46,26 @@ pub fn wrap(end: usize, n: usize) -> usize
 // The samples from `done` on, `count` of them, from ring place `place` on. The values that they
 // replace there are given, each as the pattern of its float.
 fn push(cell: &mut [u8], size: usize, place: usize, x: &[f32; 128], done: usize, count: usize)
-    requires { ⌜ (size ≤ 128) × (done + count ≤ size) × (4 * (3 + size + (place + count)) ≤ length (now cell)) ⌝ }
-    ensures { λ _. ⌜ ((n : ℕ) → length (now (cell .entry)) ≡ 4 * (3 + size + n)
+    requires { ⌜ (size ≤ 128) × (done + count ≤ size) × (4 * (samplesFrom + size + (place + count)) ≤ length (now cell)) ⌝ }
+    ensures { λ _. ⌜ ((n : ℕ) → length (now (cell .entry)) ≡ 4 * (samplesFrom + size + n)
         → words (now (cell .exit)) ≡ stretchValues (NodeKind.Delay n) size (alone (now (x .entry))) place done count (words (now (cell .entry)))) ⌝ }
 {
-    let at = 3 + size + place;
+    let at = SAMPLES + size + place;
     let mut i = 0;
     while i < count {
         let old = word_at(cell, at + i);
         store(cell, at + i, x[done + i]);
-        put_word(cell, 3 + done + i, canonical(old));
+        put_word(cell, SAMPLES + done + i, canonical(old));
         i += 1;
     }
 }
 
 // A block through the delay, in stretches up to the ring's end; the place is stored at the end.
 pub fn delay(cell: &mut [u8], n: usize, size: usize, x: &[f32; 128])
-    requires { ⌜ (size ≤ 128) × (n ≤ 132300) × (length (now cell) ≡ 4 * (3 + size + n)) × (getD (words (now cell)) 2 0 < n) ⌝ }
+    requires { ⌜ (size ≤ 128) × (n ≤ 132300) × (length (now cell) ≡ 4 * (samplesFrom + size + n)) × (getD (words (now cell)) placeIndex 0 < n) ⌝ }
     ensures { λ _. ⌜ words (now (cell .exit)) ≡ runValues (NodeKind.Delay n) size (alone (now (x .entry))) (words (now (cell .entry))) ⌝ }
 {
-    let mut place = word_at(cell, 2) as usize;
+    let mut place = word_at(cell, PLACE) as usize;
     let mut done = 0;
     while done < size {
         let count = stretch(place, n, size - done);
@@ -70,5 +73,5 @@ pub fn delay(cell: &mut [u8], n: usize, size: usize, x: &[f32; 128])
         done += count;
         place = wrap(place + count, n);
     }
-    put_word(cell, 2, place as u32);
+    put_word(cell, PLACE, place as u32);
 }

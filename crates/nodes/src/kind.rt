@@ -1,9 +1,14 @@
 // The ten node types, and what a node record's three fields may say.
 ghost use mathlib.Core.Path.{_≡_};
 ghost use Prim.Native.Nat.{_≤_, _<_};
-ghost use lib.Ieee.{ofBits, binary32};
-ghost use Rattle.nodes.specs.Kind.{kept, plainFields, floatFields, delayFields, allPassFields, sineFields, ruleOf, lineOf, channelsOf, cellSize, isDestination, isPass, fewest, most, sourcesFit};
+ghost use Rattle.nodes.specs.Row.{inRange, frequency};
+ghost use Rattle.nodes.specs.Kind.{lengthFits, kept, ruleOf, lineOf, channelsOf, cellSize, isDestination, isPass, fewest, most, sourcesFit};
+use crate::cell::SAMPLES;
+use leaves::bytes::wide;
+use leaves::float::SAMPLE_RATE;
+use leaves::float::finite_bits;
 use leaves::float::of_bits;
+use leaves::float::within;
 
 // A node's type, with its line length and its number, coefficient or frequency.
 pub enum NodeKind {
@@ -23,72 +28,58 @@ pub enum NodeKind {
 // counted in values of 4 bytes.
 pub struct NodeRecord {
     pub kind: NodeKind,
-    pub channels: usize,
-    pub cell: usize,
+    pub channels: u8,
+    pub cell: u32,
 }
 
 // What the fields of a node record say.
-pub enum Rule {
+pub enum Fields {
     Is(NodeKind),
     Broken,
 }
 
-// What the two fields must be, for each group of types. A float is tested by its bits.
-
-pub fn plain_fields(n: u32, f: u32) -> bool
-    ensures { λ r. ⌜ r ≡ plainFields n f ⌝ }
+// Whether a line may have n samples.
+pub fn length_fits(n: u32) -> bool
+    ensures { λ r. ⌜ r ≡ lengthFits n ⌝ }
 {
-    (n == 0) & (f == 0)
+    (1 <= n) & (n <= 132300)
 }
 
-pub fn float_fields(n: u32, f: u32) -> bool
-    ensures { λ r. ⌜ r ≡ floatFields n f ⌝ }
+// Whether a sine may have the frequency x. No NaN and no infinity passes.
+pub fn is_frequency(x: f32) -> bool
+    ensures { λ r. ⌜ r ≡ inRange frequency x ⌝ }
 {
-    (n == 0) & (f % 2147483648 < 2139095040)
+    within(x, SAMPLE_RATE)
 }
 
-pub fn delay_fields(n: u32, f: u32) -> bool
-    ensures { λ r. ⌜ r ≡ delayFields n f ⌝ }
-{
-    ((1 <= n) & (n <= 132300)) & (f == 0)
-}
-
-pub fn all_pass_fields(n: u32, f: u32) -> bool
-    ensures { λ r. ⌜ r ≡ allPassFields n f ⌝ }
-{
-    ((1 <= n) & (n <= 132300)) & (f % 2147483648 < 2139095040)
-}
-
-// A sine's frequency is from 0 to 44,100. No NaN and no infinity passes the two tests.
-pub fn sine_fields(n: u32, f: u32) -> bool
-    ensures { λ r. ⌜ r ≡ sineFields n f ⌝ }
-{
-    let x = of_bits(f);
-    (n == 0) & ((0.0 <= x) & (x <= 44100.0))
-}
-
-fn keep(ok: bool, k: NodeKind) -> Rule
+fn keep(ok: bool, k: NodeKind) -> Fields
     ensures { λ r. ⌜ r ≡ kept ok k ⌝ }
 {
-    if ok { Rule::Is(k) } else { Rule::Broken }
+    if ok { Fields::Is(k) } else { Fields::Broken }
 }
 
 // What a node record's type, whole number and float bits say.
-pub fn rule_of(t: u16, n: u32, f: u32) -> Rule
+pub fn rule_of(t: u16, n: u32, f: u32) -> Fields
     ensures { λ r. ⌜ r ≡ ruleOf t n f ⌝ }
 {
     match t {
-        1 => keep(plain_fields(n, f), NodeKind::Pass),
-        2 => keep(plain_fields(n, f), NodeKind::Sum),
-        3 => keep(plain_fields(n, f), NodeKind::Destination),
-        4 => keep(plain_fields(n, f), NodeKind::Balance),
-        5 => keep(float_fields(n, f), NodeKind::Mul(of_bits(f))),
-        6 => keep(float_fields(n, f), NodeKind::Add(of_bits(f))),
-        7 => keep(delay_fields(n, f), NodeKind::Delay(n)),
-        8 => keep(all_pass_fields(n, f), NodeKind::AllPass(n, of_bits(f))),
-        9 => keep(float_fields(n, f), NodeKind::OnePole(of_bits(f))),
-        10 => keep(sine_fields(n, f), NodeKind::Sine(of_bits(f))),
-        _ => Rule::Broken,
+        1 => keep((n == 0) & (f == 0), NodeKind::Pass),
+        2 => keep((n == 0) & (f == 0), NodeKind::Sum),
+        3 => keep((n == 0) & (f == 0), NodeKind::Destination),
+        4 => keep((n == 0) & (f == 0), NodeKind::Balance),
+        5 => keep((n == 0) & finite_bits(f), NodeKind::Mul(of_bits(f))),
+        6 => keep((n == 0) & finite_bits(f), NodeKind::Add(of_bits(f))),
+        7 => keep(length_fits(n) & (f == 0), NodeKind::Delay(n)),
+        8 => keep(
+            length_fits(n) & finite_bits(f),
+            NodeKind::AllPass(n, of_bits(f)),
+        ),
+        9 => keep((n == 0) & finite_bits(f), NodeKind::OnePole(of_bits(f))),
+        10 => keep(
+            (n == 0) & is_frequency(of_bits(f)),
+            NodeKind::Sine(of_bits(f)),
+        ),
+        _ => Fields::Broken,
     }
 }
 
@@ -104,7 +95,7 @@ pub fn line_of(k: NodeKind) -> usize
 }
 
 // The channels of a node's samples.
-pub fn channels_of(k: NodeKind) -> usize
+pub fn channels_of(k: NodeKind) -> u8
     ensures { λ r. ⌜ r ≡ channelsOf k ⌝ }
 {
     match k {
@@ -118,7 +109,7 @@ pub fn cell_size(size: usize, k: NodeKind) -> usize
     requires { ⌜ size ≤ 128 ⌝ }
     ensures { λ r. ⌜ r ≡ cellSize size k ⌝ }
 {
-    3 + size * channels_of(k) + line_of(k)
+    SAMPLES + size * wide(channels_of(k)) + line_of(k)
 }
 
 // Whether a node is the destination.
@@ -142,7 +133,7 @@ pub fn is_pass(k: NodeKind) -> bool
 }
 
 // The fewest distinct sources that a type takes.
-fn fewest(k: NodeKind) -> usize
+pub fn fewest(k: NodeKind) -> u8
     ensures { λ r. ⌜ r ≡ fewest k ⌝ }
 {
     match k {
@@ -153,7 +144,7 @@ fn fewest(k: NodeKind) -> usize
 }
 
 // The most distinct sources that a type takes.
-fn most(k: NodeKind) -> usize
+pub fn most(k: NodeKind) -> u8
     ensures { λ r. ⌜ r ≡ most k ⌝ }
 {
     match k {
@@ -168,5 +159,5 @@ fn most(k: NodeKind) -> usize
 pub fn sources_fit(k: NodeKind, n: usize) -> bool
     ensures { λ r. ⌜ r ≡ sourcesFit k n ⌝ }
 {
-    (fewest(k) <= n) & (n <= most(k))
+    (wide(fewest(k)) <= n) & (n <= wide(most(k)))
 }

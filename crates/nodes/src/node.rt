@@ -12,6 +12,7 @@ ghost use Rattle.nodes.specs.Node.{broughtAt, nodeRun, Supplies, CellRea
 use crate::apfmsgain::all_pass;
 use crate::block::fetch;
 use crate::block::put;
+use crate::cell::SAMPLES;
 use crate::delayn::delay;
 use crate::kind::NodeKind;
 use crate::kind::NodeRecord;
@@ -91,13 +92,13 @@ fn run_cell(
     match kind {
         NodeKind::Pass => {
             if 0 < count {
-                put(cell, 3, size, x);
+                put(cell, SAMPLES, size, x);
             }
         }
-        NodeKind::Sum => put(cell, 3, size, x),
+        NodeKind::Sum => put(cell, SAMPLES, size, x),
         NodeKind::Destination | NodeKind::Balance => {
-            put(cell, 3, size, x);
-            put(cell, 3 + size, size, m);
+            put(cell, SAMPLES, size, x);
+            put(cell, SAMPLES + size, size, m);
         }
         NodeKind::Mul(_f) => mul(cell, size, 1 < count, x, m),
         NodeKind::Add(_f) => add(cell, size, 1 < count, x, m),
@@ -131,7 +132,7 @@ pub fn step(
 {
     let kind = node.kind;
     bring(memory, kind, size, list, second, lefts, rights, x, m);
-    let start = 4 * node.cell;
+    let start = 4 * node.cell as usize;
     let end = start + 4 * cell_size(size, kind);
     run_cell(&mut memory[start..end], kind, size, list.len(), x, m);
 }

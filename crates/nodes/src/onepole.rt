@@ -3,23 +3,26 @@ ghost use mathlib.Core.Path.{_≡_};
 ghost use Prim.Native.Nat.{_+_, _*_, _≤_, _<_};
 ghost use lib.ListN.{length};
 ghost use Rattle.leaves.specs.Words.{words};
+ghost use Rattle.nodes.specs.Kind.{samplesFrom};
 ghost use Rattle.nodes.specs.Block.{alone};
 ghost use Rattle.nodes.specs.Cell.{runValues};
+use crate::cell::CARRY;
+use crate::cell::SAMPLES;
 use crate::kind::NodeKind;
 use leaves::float::load;
 use leaves::float::store;
 use leaves::onepole::OnePole;
 
 pub fn one_pole(cell: &mut [u8], b: f32, size: usize, x: &[f32; 128])
-    requires { ⌜ (0 < size) × (size ≤ 128) × (length (now cell) ≡ 4 * (3 + size)) ⌝ }
+    requires { ⌜ (0 < size) × (size ≤ 128) × (length (now cell) ≡ 4 * (samplesFrom + size)) ⌝ }
     ensures { λ _. ⌜ words (now (cell .exit)) ≡ runValues (NodeKind.OnePole b) size (alone (now (x .entry))) (words (now (cell .entry))) ⌝ }
 {
-    let mut pole = OnePole::new(b, load(cell, 1));
+    let mut pole = OnePole::new(b, load(cell, CARRY));
     let mut i = 0;
     while i < size {
         pole = pole.step(x[i]);
-        store(cell, 3 + i, pole.y1);
+        store(cell, SAMPLES + i, pole.y1);
         i += 1;
     }
-    store(cell, 1, pole.y1);
+    store(cell, CARRY, pole.y1);
 }

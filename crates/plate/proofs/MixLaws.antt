@@ -2,7 +2,7 @@
 -- mix and 1 − mix (`mix-holds`). Assumes nothing.
 use Prim.Native.Nat.{ℕ, _<_}
 use mathlib.Core.Path.{_≡_, refl, sym, ap, _∙_, subst}
-use mathlib.Core.Bool.{true, cond, _&&_, false≢true}
+use mathlib.Core.Bool.{true, cond, _&&_}
 use mathlib.Core.List.{List}
 use native.Mathlib.Omega.{arith}
 use borrow.Author.Tests.{lt-ltb}
@@ -15,9 +15,9 @@ use Rattle.leaves.specs.Floors.{f1, finiteF}
 use Rattle.leaves.specs.Words.{words, unwords, length-words, words-unwords, length-unwords, Bytes}
 use Rattle.nodes.specs.Cell.{takesNumber, valueFits}
 use Rattle.nodes.specs.declared.kind.NodeKind.{NodeKind}
-use Rattle.nodes.specs.declared.kind.NodeKind.the-variants.{Pass, Sum, Destination, Balance, Mul, Add, Delay, AllPass, OnePole, Sine}
+use Rattle.nodes.proofs.Rows.{row-laws}
 use Rattle.graph.specs.Answer.{answer}
-use Rattle.graph.specs.Board.{Parsed, Reading, going, refused, whole, memoryLength}
+use Rattle.graph.specs.Board.{Parsed, Progress, going, refused, whole, memoryLength}
 use Rattle.graph.specs.Judge.{readBoard}
 use Rattle.context.specs.Memory.{passed, nodeAt, kindAt}
 use Rattle.context.specs.Calls.{andThen, checkMemory, changeBy, checkNumber, checkMessage, setNumber, messageOf}
@@ -37,31 +37,9 @@ use Rattle.plate.proofs.Mixing.{MulAt, MixTold, mix-told}
 
 -- ---- a mul takes every finite number
 
-mul-takes : (k : NodeKind) → isMul k ≡ true → takesNumber k ≡ true
-unfolding takesNumber
-mul-takes Pass e = e
-mul-takes Sum e = e
-mul-takes Destination e = e
-mul-takes Balance e = e
-mul-takes (Mul f) e = refl
-mul-takes (Add f) e = refl
-mul-takes (Delay n) e = e
-mul-takes (AllPass n f) e = refl
-mul-takes (OnePole f) e = e
-mul-takes (Sine f) e = refl
-
-mul-fits : (k : NodeKind) (x : Float) → isMul k ≡ true → finiteF x ≡ true → valueFits k x ≡ true
-unfolding valueFits
-mul-fits Pass x e n = e
-mul-fits Sum x e n = e
-mul-fits Destination x e n = e
-mul-fits Balance x e n = e
-mul-fits (Mul f) x e n = n
-mul-fits (Add f) x e n = n
-mul-fits (Delay n) x e f = e
-mul-fits (AllPass n f) x e q = q
-mul-fits (OnePole f) x e n = e
-mul-fits (Sine f) x e n = absurd (false≢true e)
+mul-takes : (k : NodeKind) → isMul k ≡ true → (takesNumber k ≡ true) × ((x : Float) → finiteF x ≡ true → valueFits k x ≡ true)
+unfolding takesNumber valueFits
+mul-takes k e = (row-laws k .mul e f1 .0, λ x n. row-laws k .mul e x .1 ∙ n)
 
 -- ---- one number message to a mul
 
@@ -82,8 +60,9 @@ module _ (s : List ℕ) (p : Parsed) (reads : readBoard s ≡ whole p) (fine : F
     sent : messageOf s m k x ≡ (passed, unwords (setNumber p k x ws))
     unfolding messageOf
     sent =
+        let is = mul-takes (kindAt p k) (mul .1) in
         let takes : checkNumber p k x ≡ passed =
-        λ i. cond (lt-ltb k (length (p .nodes)) (mul .0) i && mul-takes (kindAt p k) (mul .1) i) (cond (mul-fits (kindAt p k) x (mul .1) number i) passed (answer 12 k)) (answer 11 k) in
+        λ i. cond (lt-ltb k (length (p .nodes)) (mul .0) i && is .0 i) (cond (is .1 x number i) passed (answer 12 k)) (answer 11 k) in
         let checks : checkMessage p m k x ≡ passed = λ i. andThen (checked m ws r i) (takes i) in
         ap (changeBy m (λ q. checkMessage q m k x) (λ q. setNumber q k x (words m))) reads
         ∙ (λ i. cond (eqb (checks i .number) 0) (passed, unwords (setNumber p k x (r .is i))) (checks i, m))
@@ -92,7 +71,7 @@ module _ (s : List ℕ) (p : Parsed) (reads : readBoard s ≡ whole p) (fine : F
     ready = record {
       is = words-unwords (setNumber p k x ws);
       size = length-unwords (setNumber p k x ws) ∙ omega (arith, set-long p fine ws all k x (mul .0), all);
-      judged = set-judged p fine ws all k x (mul .0) fit (mul-fits (kindAt p k) x (mul .1) number) (r .judged);
+      judged = set-judged p fine ws all k x (mul .0) fit (mul-takes (kindAt p k) (mul .1) .1 x number) (r .judged);
     }
 
   -- ---- the four
@@ -202,7 +181,7 @@ told-of : (s m : List ℕ) (mix : Float) → (mixOf s m mix) .0 .number ≡ 0 �
 unfolding mixOf
 told-of s m mix = go (readBoard s) refl (board-ends s)
   where
-    go : (r : Reading) → readBoard s ≡ r → Ended r → (changeBy m (λ p. checkMixed p m mix) (λ p. setMix p mix (words m)) r) .0 .number ≡ 0 → Told s m mix
+    go : (r : Progress) → readBoard s ≡ r → Ended r → (changeBy m (λ p. checkMixed p m mix) (λ p. setMix p mix (words m)) r) .0 .number ≡ 0 → Told s m mix
     go (going at last p) e n z = absurd (omega arith)
     go (refused k w) e n z = absurd (omega arith)
     go (whole p) e n z =

@@ -9,14 +9,16 @@ use borrow.Author.Tests.{ltb-true, lt-ltb}
 use lib.ListN.{length}
 use lib.Dec.{T, ltb}
 use lib.Ieee.{Float, binary32, ofBits, toBits, fits, round, mul, div, eq, lt, le}
+use lib.Ieee.Bits.{ofBits-toBits}
 use lib.Ieee.Fits.{sub-fits}
 use Rattle.leaves.specs.Floors.{f1, finiteF, within, floorOf}
 use Rattle.leaves.specs.Lengths.{samplesOf, delayOf, allPassOf, placeOf}
 use Rattle.leaves.specs.declared.lengths.Length.the-variants.{Samples}
-use Rattle.leaves.proofs.Patterns.{pattern-lt, finite-float}
-use Rattle.nodes.specs.Kind.{lineOf, finite, ruleOf}
-use Rattle.nodes.specs.declared.kind.Rule.{Rule}
-use Rattle.nodes.specs.declared.kind.Rule.the-variants.{Is, Broken}
+use Rattle.leaves.proofs.Patterns.{pattern-lt}
+use Rattle.nodes.specs.Kind.{lineOf, ruleOf}
+use Rattle.leaves.specs.Floats.{finiteBits}
+use Rattle.nodes.specs.declared.kind.Fields.{Fields}
+use Rattle.nodes.specs.declared.kind.Fields.the-variants.{Is, Broken}
 use Rattle.reading.specs.Order.{Wire}
 use Rattle.graph.specs.Answer.{answer}
 use Rattle.graph.specs.Board.{wire, whole, memoryLength, nodeFits, wireFits}
@@ -32,13 +34,13 @@ use Rattle.graph.proofs.RoundRun.{NodeFits, NodesFit, WireFits, WiresFit}
 use Rattle.graph.proofs.RoundSix.{Free, six-told}
 use Rattle.graph.proofs.Round.{judge-written}
 use Rattle.plate.specs.Plate.{plateNodes, plateWires, plateCard, dryOf}
-use Rattle.plate.specs.Facts.{allPassLines, milliseconds, PlateFacts, WrittenPlate}
+use Rattle.plate.specs.Facts.{allPassLines, milliseconds, plateList, PlateFacts, WrittenPlate}
 use Rattle.plate.proofs.Written.{answer-of, bytes-of, plate-long, size-in, written}
 use Rattle.plate.proofs.Dry.{dry-finite}
 
 -- ---- what a card must obey, as tests that antt computes
 
-abbrev kept : Rule → Bool
+abbrev kept : Fields → Bool
 kept (Is k) = true
 kept Broken = false
 
@@ -63,7 +65,7 @@ both a b = and-eq-true-iff a b .0
 kept-kind : (d : NodeCard) → kept (ruleOf (d .type) (d .n) (d .f)) ≡ true → ruleOf (d .type) (d .n) (d .f) ≡ Is (kindOf d)
 kept-kind d = go (ruleOf (d .type) (d .n) (d .f)) refl
   where
-    go : (r : Rule) → ruleOf (d .type) (d .n) (d .f) ≡ r → kept r ≡ true → ruleOf (d .type) (d .n) (d .f) ≡ Is (kindOf d)
+    go : (r : Fields) → ruleOf (d .type) (d .n) (d .f) ≡ r → kept r ≡ true → ruleOf (d .type) (d .n) (d .f) ≡ Is (kindOf d)
     go (Is k) e h = e ∙ ap Is (sym (kind-told d k e .3))
     go Broken e h = absurd (false≢true h)
 
@@ -144,6 +146,10 @@ module _ (N mix dry : ℕ) where
   unfolding plateNodes plateWires kindOf tailOf tailBy visitingList lateWires isLate
   tail-endless = refl
 
+  walked : visitingList plateWires ≡ plateList
+  unfolding plateWires visitingList
+  walked = refl
+
   late-one : lateWires (visitingList plateWires) plateWires ≡ wire 14 15 ∷ []
   unfolding plateWires visitingList lateWires isLate
   late-one = refl
@@ -152,9 +158,9 @@ module _ (N mix dry : ℕ) where
   unfolding plateNodes allPassOf within samplesOf floorOf round mul div eq lt le ofBits
   asked = refl
 
-  module _ (mix-fits : mix < 4294967296) (mix-finite : finite mix ≡ true) (dry-fits : dry < 4294967296) (dry-finite : finite dry ≡ true) where
+  module _ (mix-fits : mix < 4294967296) (mix-finite : finiteBits mix ≡ true) (dry-fits : dry < 4294967296) (dry-finite : finiteBits dry ≡ true) where
     nodes-right : nodesTest 0 0 (plate .nodes) ≡ true
-    unfolding plateNodes kindOf ruleOf ofBits le
+    unfolding plateNodes kindOf ruleOf ofBits within le
     nodes-right = rw (lt-ltb mix 4294967296 mix-fits, mix-finite, lt-ltb dry 4294967296 dry-fits, dry-finite)
 
     module _ (least : 1 ≤ N) (most : N ≤ 128) where
@@ -171,6 +177,7 @@ module _ (N mix dry : ℕ) where
         all-passes-asked = asked;
         delay-asked = delay-long;
         repeats = refl;
+        list = walked;
         late = late-one;
         tail = tail-endless;
         obeys = plate-obeys;
@@ -179,8 +186,8 @@ module _ (N mix dry : ℕ) where
 
 -- ---- the written plate
 
-finite-bits : (x : Float) → T (fits binary32 x) → finiteF x ≡ true → finite (toBits binary32 x) ≡ true
-finite-bits x h e = sym (finite-float x h) ∙ e
+finite-bits : (x : Float) → T (fits binary32 x) → finiteF x ≡ true → finiteBits (toBits binary32 x) ≡ true
+finite-bits x h e = ap finiteF (ofBits-toBits binary32 x h) ∙ e
 
 pub plate-written : (N : ℕ) (mix : Float) (b : List ℕ) → 1 ≤ N → N ≤ 128 → T (fits binary32 mix) → finiteF mix ≡ true → length b ≡ 1270 → WrittenPlate N mix b
 plate-written N mix b least most mix-fits number long =

@@ -39,6 +39,11 @@ abbrev pub repeatsAfter : List Wire → List Wire → List Wire
 repeatsAfter earlier [] = []
 repeatsAfter earlier (w ∷ ws) = cond (stands w earlier) (w ∷ repeatsAfter (w ∷ earlier) ws) (repeatsAfter (w ∷ earlier) ws)
 
+abbrev pub plateList : List ℕ
+plateList =
+    2 ∷ 43 ∷ 3 ∷ 4 ∷ 5 ∷ 6 ∷ 7 ∷ 8 ∷ 15 ∷ 16 ∷ 17 ∷ 18 ∷ 19 ∷ 20 ∷ 11 ∷ 12 ∷ 13 ∷ 21 ∷ 22 ∷ 23 ∷ 24 ∷ 25 ∷ 26 ∷ 27 ∷ 28 ∷
+    29 ∷ 30 ∷ 31 ∷ 32 ∷ 33 ∷ 34 ∷ 35 ∷ 36 ∷ 37 ∷ 9 ∷ 10 ∷ 14 ∷ 38 ∷ 39 ∷ 40 ∷ 41 ∷ 42 ∷ 49 ∷ 44 ∷ 45 ∷ 46 ∷ 47 ∷ 48 ∷ 50 ∷ 0 ∷ []
+
 -- the plate of block size N, for the bits of mix and of 1 − mix
 pub record PlateFacts (N mix dry : ℕ) : Type 0 where
   pub node-count : length (plateNodes mix dry) ≡ 51
@@ -51,7 +56,8 @@ pub record PlateFacts (N mix dry : ℕ) : Type 0 where
   pub delay-asked : delayOf (ofBits binary32 0x4248_0000) ≡ Samples 2205
   -- mod1 to mod2 and mod2 to mod3
   pub repeats : repeatsAfter [] plateWires ≡ wire 11 12 ∷ wire 12 13 ∷ []
-  -- aa to ab
+  pub list : visitingList plateWires ≡ plateList
+  -- aa to ab; not fb2 to wet7, 37 to 9, where a listener would break the loop
   pub late : lateWires (visitingList plateWires) plateWires ≡ wire 14 15 ∷ []
   pub tail : tailOf (parsedOf (plateCard N mix dry)) ≡ endless
   -- so the judge accepts its bytes, and every call goes on with them

@@ -2,15 +2,15 @@
 -- Its answer, and every byte of the memory afterwards. Definitions only.
 use Prim.Native.Nat.{ℕ}
 use mathlib.Core.Path.{_≡_}
-use mathlib.Core.Bool.{Bool, true, false, cond, _&&_}
+use mathlib.Core.Bool.{Bool, cond, _&&_}
 use mathlib.Core.List.{List}
 use lib.ListN.{length, getD}
-use lib.Dec.{ltb}
+use lib.Dec.{ltb, eqb}
 use lib.Ieee.{Float, binary32, toBits}
 use Rattle.leaves.specs.Floors.{finiteF}
 use Rattle.leaves.specs.Words.{words}
+use Rattle.nodes.specs.Kind.{typeOf}
 use Rattle.nodes.specs.declared.kind.NodeKind.{NodeKind}
-use Rattle.nodes.specs.declared.kind.NodeKind.the-variants.{Pass, Sum, Destination, Balance, Mul, Add, Delay, AllPass, OnePole, Sine}
 use Rattle.graph.specs.Answer.{answer}
 use Rattle.graph.specs.Board.{Parsed}
 use Rattle.graph.specs.Judge.{readBoard}
@@ -22,16 +22,7 @@ use Rattle.plate.specs.Plate.{dryOf}
 -- ---- the checks
 
 abbrev pub isMul : NodeKind → Bool
-isMul Pass = false
-isMul Sum = false
-isMul Destination = false
-isMul Balance = false
-isMul (Mul f) = true
-isMul (Add f) = false
-isMul (Delay n) = false
-isMul (AllPass n f) = false
-isMul (OnePole f) = false
-isMul (Sine f) = false
+isMul k = eqb (typeOf k) 5
 
 -- 11: node k is there and is a mul
 abbrev pub checkMul : Parsed → ℕ → Answer

@@ -18,16 +18,8 @@ fn is_mul(kind: NodeKind) -> bool
     ensures { λ r. ⌜ r ≡ isMul kind ⌝ }
 {
     match kind {
-        NodeKind::Pass => false,
-        NodeKind::Sum => false,
-        NodeKind::Destination => false,
-        NodeKind::Balance => false,
-        NodeKind::Mul(_f) => true,
-        NodeKind::Add(_f) => false,
-        NodeKind::Delay(_n) => false,
-        NodeKind::AllPass(_n, _f) => false,
-        NodeKind::OnePole(_f) => false,
-        NodeKind::Sine(_f) => false,
+        NodeKind::Mul(_) => true,
+        _ => false,
     }
 }
 

@@ -1,19 +1,20 @@
 // The plate: its 51 nodes in order of creation and its 68 wires in order of connection, and the writer of
 // its bytes.
 ghost use mathlib.Core.Path.{_≡_};
-ghost use mathlib.Core.List.{_++_};
-ghost use Prim.Native.Nat.{_+_, _≤_};
+ghost use Prim.Native.Nat.{_≤_};
 ghost use lib.ListN.{length};
 ghost use lib.Seq.{sets};
-ghost use Rattle.leaves.specs.Bytes.{u16Bytes};
-ghost use Rattle.graph.specs.Write.{nodeBytes, nodesBytes, wiresBytes, writeBoard};
-ghost use Rattle.plate.specs.Plate.{node, plateNodes, plateWires, plateCard, writeOf};
+ghost use Rattle.graph.specs.Write.{nodesBytes, wiresBytes, writeBoard};
+ghost use Rattle.plate.specs.Plate.{plateNodes, plateWires, plateCard, writeOf};
 use graph::answer::Answer;
-use graph::record::put_four;
-use leaves::bytes::put_u16;
-use leaves::bytes::put_u32;
+use graph::writer::put_end;
+use graph::writer::put_head;
+use graph::writer::put_node;
+use graph::writer::put_wire;
 use leaves::float::finite;
 use leaves::float::to_bits;
+use leaves::onepole::B_ONE_FIFTH;
+use leaves::onepole::B_SEVEN_FIFTHS;
 
 // Each node's type, whole number and bits of the float; those of the mix, 41, 47, 43 and 49, are put in
 // as the plate is written.
@@ -129,7 +130,7 @@ const FLOATS: [u32; 51] = [
     0,
     0,
     0,
-    0x3c49_8223,
+    B_SEVEN_FIFTHS,
     0,
     0x3f40_0000,
     0x3f40_0000,
@@ -144,7 +145,7 @@ const FLOATS: [u32; 51] = [
     0,
     0,
     0,
-    0x3f08_92ad,
+    B_ONE_FIFTH,
     0x3f00_0000,
     0x3f00_0000,
     0x3f00_0000,
@@ -156,7 +157,7 @@ const FLOATS: [u32; 51] = [
     0,
     0,
     0,
-    0x3f08_92ad,
+    B_ONE_FIFTH,
     0x3f33_3333,
     0x3f33_3333,
     0x3f33_3333,
@@ -325,18 +326,6 @@ const TARGETS: [u16; 68] = [
 // How long the plate's bytes are.
 const LENGTH: usize = 1270;
 
-// A node's record.
-fn put_node(board: &mut [u8], at: usize, kind: u16, whole: u32, float: u32)
-    requires { ⌜ at + 14 ≤ length (now board) ⌝ }
-    ensures { λ _. ⌜ now (board .exit) ≡ sets (now (board .entry)) at (nodeBytes (node kind whole float)) ⌝ }
-{
-    put_u16(board, at, 14);
-    put_u16(board, at + 2, 2);
-    put_u16(board, at + 4, kind);
-    put_u32(board, at + 6, whole);
-    put_u32(board, at + 10, float);
-}
-
 // The nodes' records, behind the head.
 fn put_nodes(board: &mut [u8], mix: u32, dry: u32)
     requires { ⌜ 722 ≤ length (now board) ⌝ }
@@ -361,7 +350,7 @@ fn put_wires(board: &mut [u8])
 {
     let mut i = 0;
     while i < 68 {
-        put_four(board, 722 + 8 * i, 3, SOURCES[i], TARGETS[i]);
+        put_wire(board, 722 + 8 * i, SOURCES[i], TARGETS[i]);
         i += 1;
     }
 }
@@ -371,11 +360,10 @@ fn put_plate(board: &mut [u8], size: u16, mix: u32, dry: u32)
     requires { ⌜ length (now board) ≡ 1270 ⌝ }
     ensures { λ _. ⌜ now (board .exit) ≡ writeBoard (plateCard size mix dry) ⌝ }
 {
-    put_four(board, 0, 1, size, 2);
+    put_head(board, size, 2);
     put_nodes(board, mix, dry);
     put_wires(board);
-    put_u16(board, 1266, 4);
-    put_u16(board, 1268, 4);
+    put_end(board, 1266);
 }
 
 // The plate writer. Checks 3, 12 and 7 come first, so a refusal leaves every byte as found.

@@ -10,6 +10,7 @@ use graph::judge::read_board;
 use graph::tail::tail_of;
 use leaves::bytes::u16_at;
 use leaves::bytes::u32_at;
+use leaves::bytes::wide;
 use leaves::float::of_bits;
 use nodes::kind::NodeRecord;
 
@@ -109,8 +110,8 @@ fn cells_hash(nodes: [NodeRecord; 64], count: usize, size: usize, memory: &[u8])
         if 278720 < node.cell {
             return h;
         }
-        let from = 4 * (node.cell + 3);
-        let to = from + samples(node.channels, size);
+        let from = 4 * (node.cell as usize + 3);
+        let to = from + samples(wide(node.channels), size);
         if memory.len() < to {
             return h;
         }

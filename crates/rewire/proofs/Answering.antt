@@ -8,7 +8,7 @@ use borrow.Author.Tests.{eqb-true, eqb-false}
 use lib.Dec.{eqb}
 use lib.ListN.{length, getD, replicate, length-append, length-replicate, List·getD-append}
 use lib.Seq.{take-at}
-use Rattle.graph.specs.Board.{Reading}
+use Rattle.graph.specs.Board.{Progress}
 use Rattle.graph.specs.Judge.{readBoard}
 use Rattle.graph.specs.Read.{parsedOf, Read}
 use Rattle.graph.specs.Visit.{visitingList, Lists}
@@ -37,7 +37,7 @@ module _ (s : List ℕ) (b : Board) (read : Read (readBoard s) b) (w : Wiring) (
       go true e = eqb-true (b .refused .number) 0 e
       go false e =
           let other = eqb-false (b .refused .number) 0 e in
-          absurd (other (sym (ap (λ (v : Reading). wiringBy v .number) (refused-board s b read other)) ∙ sym (ap (λ (x : Wiring). x .number) is) ∙ zero))
+          absurd (other (sym (ap (λ (v : Progress). wiringBy v .number) (refused-board s b read other)) ∙ sym (ap (λ (x : Wiring). x .number) is) ∙ zero))
 
   pub answer-lists : Lists (visitingList (parsedOf b .wires)) (w .listed) (w .count)
   answer-lists =

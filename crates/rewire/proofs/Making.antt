@@ -10,7 +10,7 @@ use lib.ListN.{length, take}
 use lib.Seq.{length-take-le}
 use Rattle.leaves.specs.Words.{Bytes}
 use Rattle.reading.specs.Order.{Wire}
-use Rattle.graph.specs.Board.{Parsed, Reading, going, refused, whole, memoryLength}
+use Rattle.graph.specs.Board.{Parsed, Progress, going, refused, whole, memoryLength}
 use Rattle.graph.specs.Judge.{readBoard, answerBy, judgeOf}
 use Rattle.graph.proofs.Ending.{Ended, board-ends}
 use Rattle.graph.proofs.RoundBytes.{bytes-front}
@@ -75,9 +75,9 @@ module _ (c : Change) (bytes : List ℕ) (n : ℕ) (plays : Plays bytes n) (smal
   made-plays : (r : Wiring × List ℕ) (m : ℕ) → Made r m → r .0 .number ≡ 0 → Plays (r .1) m
   made-plays r m d z = go (readBoard (take m (r .1))) refl (board-ends (take m (r .1)))
     where
-      go : (v : Reading) → readBoard (take m (r .1)) ≡ v → Ended v → Plays (r .1) m
+      go : (v : Progress) → readBoard (take m (r .1)) ≡ v → Ended v → Plays (r .1) m
       go (going at last p) e f = absurd f
-      go (refused k w) e f = absurd (omega (arith, f, sym (ap (λ (x : Reading). wiringBy x .number) e) ∙ sym (ap (λ (x : Wiring). x .number) (d .answers)) ∙ z))
+      go (refused k w) e f = absurd (omega (arith, f, sym (ap (λ (x : Progress). wiringBy x .number) e) ∙ sym (ap (λ (x : Wiring). x .number) (d .answers)) ∙ z))
       go (whole p) e f = record { within = d .within; parsed = p; reads = e }
 
   refused-plays : ((madeOf c bytes n) .0 .number ≡ 0 → ⊥) → Plays ((madeOf c bytes n) .1) (lengthAfter c n ((madeOf c bytes n) .0))
@@ -96,7 +96,7 @@ pub judged-plays : (bytes : List ℕ) (n : ℕ) → n ≤ length bytes → judge
 unfolding judgeOf
 judged-plays bytes n h z = go (readBoard (take n bytes)) refl (board-ends (take n bytes)) z
   where
-    go : (v : Reading) → readBoard (take n bytes) ≡ v → Ended v → answerBy memoryLength v .number ≡ 0 → Plays bytes n
+    go : (v : Progress) → readBoard (take n bytes) ≡ v → Ended v → answerBy memoryLength v .number ≡ 0 → Plays bytes n
     go (going at last p) e f z = absurd f
     go (refused k w) e f z = absurd (omega (arith, f, z))
     go (whole p) e f z = record { within = h; parsed = p; reads = e }

@@ -14,9 +14,8 @@ use lib.ListN.{getD}
 use Rattle.nodes.specs.declared.kind.NodeKind.{NodeKind}
 use Rattle.nodes.specs.declared.kind.NodeKind.the-variants.{Pass, Delay}
 use Rattle.nodes.proofs.Kept.{both}
-use Rattle.reading.specs.Table.{mem}
+use Rattle.reading.specs.Table.{mem, All}
 use Rattle.reading.specs.Order.{Wire, late}
-use Rattle.reading.specs.Keeps.{All}
 use Rattle.reading.proofs.Order.{each-source}
 use Rattle.graph.specs.Board.{Parsed, wire}
 use Rattle.graph.specs.Late.{isLate, lateWires}

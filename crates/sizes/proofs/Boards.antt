@@ -20,9 +20,8 @@ use Rattle.nodes.specs.Node.{LineFits}
 use Rattle.nodes.specs.declared.kind.NodeKind.{NodeKind}
 use Rattle.nodes.specs.declared.kind.NodeKind.the-variants.{Pass, Delay}
 use Rattle.nodes.specs.declared.kind.NodeRecord.{NodeRecord}
-use Rattle.reading.specs.Table.{mem}
+use Rattle.reading.specs.Table.{mem, All}
 use Rattle.reading.specs.Order.{Wire, Each, sources}
-use Rattle.reading.specs.Keeps.{All}
 use Rattle.reading.proofs.Table.{or-false}
 use Rattle.graph.specs.Board.{Parsed, blank, wire}
 use Rattle.graph.specs.Late.{isLate, lateWires}

@@ -15,8 +15,7 @@ use borrow.Author.Tests.{leb-true, ltb-true}
 use Rattle.leaves.specs.Floors.{zeroF}
 use Rattle.nodes.specs.Kind.{sourcesFit, channelsOf}
 use Rattle.nodes.specs.Rule.{Brought, Frame, keeps}
-use Rattle.nodes.specs.Cell.{numberOf}
-use Rattle.nodes.specs.History.{Heard, xs, freshHeard, setNumber, sampleHeard, heardAfter}
+use Rattle.nodes.specs.History.{Heard, xs, freshHeard, sampleHeard, heardAfter}
 use Rattle.nodes.specs.declared.kind.NodeKind.{NodeKind}
 use Rattle.nodes.specs.declared.kind.NodeKind.the-variants.{Delay}
 use Rattle.nodes.specs.declared.kind.NodeRecord.{NodeRecord}
@@ -24,6 +23,8 @@ use Rattle.nodes.proofs.Arms.{kinds}
 use Rattle.nodes.proofs.Unread.{unread, heard-sample-unread, heard-unread}
 use Rattle.reading.specs.Table.{mem}
 use Rattle.reading.specs.Order.{sources, late}
+use Rattle.reading.specs.Effect.{Effect, inputs}
+use Rattle.reading.specs.Time.{Timed}
 use Rattle.reading.proofs.Table.{map-agree}
 use Rattle.graph.specs.Board.{Parsed, blank}
 use Rattle.graph.specs.Sources.{distinctSources, secondSource}
@@ -31,12 +32,13 @@ use Rattle.graph.proofs.RoundSources.{mem-distinct}
 use Rattle.context.specs.Memory.{kindAt}
 use Rattle.context.specs.Calls.{listed}
 use Rattle.context.specs.Fine.{Fine}
-use Rattle.context.specs.Reading.{Call, mono, silence, Timed, reached, rightSample, inputs, end, inputAt, numberAt, earlier, brings, broughtTo, heldAt, IsReading}
+use Rattle.context.specs.Reading.{Fixed, mono, silence, reached, rightSample, end, inputAt, toldIn, toldAt, agoN, brings, broughtTo, heldAt, IsReading}
 use Rattle.context.proofs.DemandAfter.{Blocks}
+use Rattle.context.proofs.Told.{told-xs, told-at-xs}
 use Rattle.context.proofs.FineBoard.{lists, listed-there}
 use Rattle.context.proofs.ShownRun.{second-source}
-use Rattle.sizes.specs.Sizes.{join, events}
-use Rattle.sizes.proofs.Streams.{length-join, input-joined, same-samples, numberBy, number-by}
+use Rattle.sizes.specs.Sizes.{join, Event, events}
+use Rattle.sizes.proofs.Streams.{length-join, input-joined, same-samples, toldNow, told-by, told-start}
 use Rattle.sizes.proofs.Line.{again, taken, same-line, delayed, has-taken}
 
 -- ---- what stands at a node's place
@@ -82,7 +84,7 @@ pub data Alike (p q : Parsed) (j : ℕ) : Type 0 where
   corrected : Corrected p q j → Alike p q j
 
 -- the samples s, of a reading of the calls es on p, are those of a reading of the calls fs on q too, and both are as long
-pub record ReadsToo (p q : Parsed) (es fs : List Call) (s : Timed Frame) : Type 0 where
+pub record ReadsToo (p q : Parsed) (es fs : List (Effect Fixed ℕ ℕ)) (s : Timed Frame) : Type 0 where
   pub known : Timed Heard
   pub reads : IsReading q fs s known
   pub same-end : end p es ≡ end q fs
@@ -90,6 +92,11 @@ pub record ReadsToo (p q : Parsed) (es fs : List Call) (s : Timed Frame) : Type 
 alike-channels : (p q : Parsed) (j : ℕ) → Alike p q j → channelsOf (kindAt p j) ≡ channelsOf (kindAt q j)
 alike-channels p q j (same e h) = ap channelsOf (sym e)
 alike-channels p q j (corrected c) = ap channelsOf (c .delay) ∙ sym (ap channelsOf (c .delay-there))
+
+-- messages leave what a node has taken, at first nothing
+told-none : (x : Parsed) (es : List (Effect Fixed ℕ ℕ)) (j : ℕ) → xs (toldIn x es 0 j (freshHeard (kindAt x j))) ≡ []
+unfolding freshHeard
+told-none x es j = told-xs es 0 j (freshHeard (kindAt x j))
 
 module _ (p : Parsed) (fine : Fine p) (M : ℕ) (ns : List NodeRecord) (least : 1 ≤ M)
     (alike : (j : ℕ) → reached p j ≡ true → Alike p (resized p M ns) j) where
@@ -136,7 +143,7 @@ module _ (p : Parsed) (fine : Fine p) (M : ℕ) (ns : List NodeRecord) (least : 
 
   -- ---- the reading
 
-  module _ (es fs : List Call) (blocks : Blocks (p .size) (inputs es)) (blocks′ : Blocks M (inputs fs)) (brought : events es ≡ events fs)
+  module _ (es fs : List (Effect Fixed ℕ ℕ)) (blocks : Blocks (p .size) (inputs es)) (blocks′ : Blocks M (inputs fs)) (brought : events es ≡ events fs)
       (s : Timed Frame) (u : Timed Heard) (f : IsReading p es s u) where
     same-stream : join (inputs es) ≡ join (inputs fs)
     same-stream = same-samples es fs brought
@@ -150,16 +157,18 @@ module _ (p : Parsed) (fine : Fine p) (M : ℕ) (ns : List NodeRecord) (least : 
         ∙ ap (λ (l : List ℕ). getD l t 0) same-stream
         ∙ sym (input-joined M least (inputs fs) blocks′ t (omega (arith, same-end)))
 
-    same-number : (t j : ℕ) → kindAt q j ≡ kindAt p j → numberAt p es t j ≡ numberAt q fs t j
-    same-number t j e =
-        number-by (p .size) (fine .least-size) es blocks t j (toBits binary32 (numberOf (kindAt p j)))
-        ∙ (λ i. numberBy (brought i) t j (toBits binary32 (numberOf (sym e i))))
-        ∙ sym (number-by M least fs blocks′ t j (toBits binary32 (numberOf (kindAt q j))))
+    same-first : (j : ℕ) (h : Heard) → toldIn p es 0 j h ≡ toldIn q fs 0 j h
+    same-first j h =
+        told-start (p .size) (fine .least-size) es blocks j h ∙ ap (λ (l : List Event). toldNow l 0 j h) brought ∙ sym (told-start M least fs blocks′ j h)
+
+    same-told : (t j : ℕ) (h : Heard) → toldAt p es t j h ≡ toldAt q fs t j h
+    same-told t j h =
+        told-by (p .size) (fine .least-size) es blocks t j h ∙ ap (λ (l : List Event). toldNow l t j h) brought ∙ sym (told-by M least fs blocks′ t j h)
 
     -- what is known of each node on the other board
     abbrev known : Timed Heard
-    known zero j = setNumber (numberAt q fs 0 j) (freshHeard (kindAt q j))
-    known (suc t) j = setNumber (numberAt q fs (suc t) j) (heardAfter (kindAt q j) (known t j) (broughtTo q s t j))
+    known zero j = toldIn q fs 0 j (freshHeard (kindAt q j))
+    known (suc t) j = toldAt q fs (suc t) j (heardAfter (kindAt q j) (known t j) (broughtTo q s t j))
 
     -- ---- a pass that keeps its block and is not the input node is silent
 
@@ -170,14 +179,14 @@ module _ (p : Parsed) (fine : Fine p) (M : ℕ) (ns : List NodeRecord) (least : 
       silent-below (suc c) t b h =
           f .sample t j h r
           ∙ kept-is (kindAt p j) (u t j) (heldAt p es s t j) (broughtTo p s t j) (holds t)
-          ∙ ap (λ (b : Bool). cond b (mono (inputAt p es t)) (earlier p s t j)) no-input
+          ∙ ap (λ (b : Bool). cond b (mono (inputAt p es t)) (agoN p s t j)) no-input
           ∙ go (leb (p .size) t) refl (λ l. silent-below c (t - p .size) (omega (arith, l, fine .least-size)) (omega arith))
         where
           go : (b : Bool) → leb (p .size) t ≡ b → (p .size ≤ t → s (t - p .size) j ≡ silence) → cond b (s (t - p .size) j) silence ≡ silence
           go true e ih = ih (leb-true (p .size) t e)
           go false e ih = refl
 
-      silent-earlier : (x : Parsed) (t : ℕ) → t < end p es → earlier x s t j ≡ silence
+      silent-earlier : (x : Parsed) (t : ℕ) → t < end p es → agoN x s t j ≡ silence
       silent-earlier x t h = go (leb (x .size) t)
         where
           go : (b : Bool) → cond b (s (t - x .size) j) silence ≡ silence
@@ -191,11 +200,12 @@ module _ (p : Parsed) (fine : Fine p) (M : ℕ) (ns : List NodeRecord) (least : 
       d = kindAt p j
 
       same-known : (t : ℕ) → t ≤ end p es → known t j ≡ u t j
-      same-known zero h = sym (f .first j r ∙ (λ i. setNumber (same-number 0 j kind i) (freshHeard (sym kind i))))
+      same-known zero h = sym (f .first j r ∙ same-first j (freshHeard d) ∙ ap (λ (x : NodeKind). toldIn q fs 0 j (freshHeard x)) (sym kind))
       same-known (suc t) h =
-          ap (λ (x : Heard). setNumber (numberAt q fs (suc t) j) (heardAfter (kindAt q j) x (broughtTo q s t j))) (same-known t (omega arith))
-          ∙ (λ i. setNumber (sym (same-number (suc t) j kind) i) (heardAfter (kind i) (u t j) (broughtTo q s t j)))
-          ∙ ap (setNumber (numberAt p es (suc t) j))
+          ap (λ (x : Heard). toldAt q fs (suc t) j (heardAfter (kindAt q j) x (broughtTo q s t j))) (same-known t (omega arith))
+          ∙ (λ i. toldAt q fs (suc t) j (heardAfter (kind i) (u t j) (broughtTo q s t j)))
+          ∙ sym (same-told (suc t) j (heardAfter d (u t j) (broughtTo q s t j)))
+          ∙ ap (toldAt p es (suc t) j)
           (heard-unread d (broughtTo q s t j) (u t j)
           ∙ ap (heardAfter d (u t j)) (sym (brought-same s t j r on-time))
           ∙ sym (heard-unread d (broughtTo p s t j) (u t j)))
@@ -212,7 +222,7 @@ module _ (p : Parsed) (fine : Fine p) (M : ℕ) (ns : List NodeRecord) (least : 
       same-held t h true e = ap (λ (x : Frame). sampleHeard d (u t j) x (broughtTo p s t j)) (go (eqb j (p .input)) refl)
         where
           go : (b : Bool) → eqb j (p .input) ≡ b
-              → cond b (mono (inputAt p es t)) (earlier p s t j) ≡ cond b (mono (inputAt q fs t)) (earlier q s t j)
+              → cond b (mono (inputAt p es t)) (agoN p s t j) ≡ cond b (mono (inputAt q fs t)) (agoN q s t j)
           go true i = ap mono (same-input t h)
           go false i =
               let holds : (x : ℕ) → keeps d (broughtTo p s x j) ≡ true = λ x. keeps-by d (broughtTo p s x j) (broughtTo p s t j) (left-long p x ∙ sym (left-long p t)) ∙ e in
@@ -236,9 +246,11 @@ module _ (p : Parsed) (fine : Fine p) (M : ℕ) (ns : List NodeRecord) (least : 
       sample-corrected t h =
           let w : ℕ → ℕ = λ x. s x (c .source) .left in
           let here : xs (u t j) ≡ taken (p .size) w t =
-          has-taken p s (c .source) j (c .one-in) (c .is-late) (kindAt p j) (λ x. u x j) (λ x. numberAt p es x j) (end p es) (f .first j r) (λ x l. f .next x j l r) t (omega arith) in
+          has-taken p s (c .source) j (c .one-in) (c .is-late) (kindAt p j) (λ x. u x j) (end p es) (ap xs (f .first j r) ∙ told-none p es j)
+          (λ x l. ap xs (f .next x j l r) ∙ told-at-xs p es (suc x) j _) t (omega arith) in
           let there : xs (known t j) ≡ taken M w t =
-          has-taken q s (c .source) j (c .one-in) (c .is-late) (kindAt q j) (λ x. known x j) (λ x. numberAt q fs x j) (end p es) refl (λ x l. refl) t (omega arith) in
+          has-taken q s (c .source) j (c .one-in) (c .is-late) (kindAt q j) (λ x. known x j) (end p es) (told-none q fs j)
+          (λ x l. told-at-xs q fs (suc x) j _) t (omega arith) in
           let line : getD (xs (u t j)) (c .n) 0 ≡ getD (xs (known t j)) (c .m) 0 =
           ap (λ (l : List ℕ). getD l (c .n) 0) here ∙ same-line (p .size) M w (c .n) (c .m) t (c .as-long) ∙ ap (λ (l : List ℕ). getD l (c .m) 0) (sym there) in
           f .sample t j h r

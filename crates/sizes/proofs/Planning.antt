@@ -24,8 +24,8 @@ use Rattle.nodes.specs.declared.kind.NodeKind.{NodeKind}
 use Rattle.nodes.specs.declared.kind.NodeKind.the-variants.{Delay}
 use Rattle.nodes.specs.declared.kind.NodeRecord.{NodeRecord}
 use Rattle.nodes.proofs.Arms.{kinds as each}
+use Rattle.reading.specs.Table.{All}
 use Rattle.reading.specs.Order.{Wire, Each}
-use Rattle.reading.specs.Keeps.{All}
 use Rattle.graph.specs.Board.{Parsed, whole, blank, wire, linesOf, sizeFits}
 use Rattle.graph.specs.Judge.{readBoard}
 use Rattle.graph.specs.Wires.{wiresOf}

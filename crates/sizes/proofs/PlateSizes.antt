@@ -8,10 +8,11 @@ use borrow.Author.Tests.{le-leb, lt-leb, ne-eqb}
 use lib.Dec.{T, leb}
 use lib.ListN.{set}
 use lib.Ieee.{Float, binary32, toBits, fits}
+use lib.Ieee.Bits.{ofBits-toBits}
 use lib.Ieee.Fits.{sub-fits}
 use Rattle.leaves.specs.Floors.{f1, finiteF}
-use Rattle.leaves.proofs.Patterns.{pattern-lt, finite-float}
-use Rattle.nodes.specs.Kind.{finite}
+use Rattle.leaves.proofs.Patterns.{pattern-lt}
+use Rattle.leaves.specs.Floats.{finiteBits}
 use Rattle.nodes.specs.declared.kind.NodeKind.the-variants.{Delay}
 use Rattle.graph.specs.Answer.{answer}
 use Rattle.graph.specs.Board.{Parsed, whole, linesOf, memoryLength}
@@ -55,7 +56,7 @@ module _ (N M mix dry : ℕ) where
   unfolding plateNodes kindOf
   memory-long = omega arith
 
-  module _ (mix-fits : mix < 4294967296) (mix-finite : finite mix ≡ true) (dry-fits : dry < 4294967296) (dry-finite : finite dry ≡ true)
+  module _ (mix-fits : mix < 4294967296) (mix-finite : finiteBits mix ≡ true) (dry-fits : dry < 4294967296) (dry-finite : finiteBits dry ≡ true)
       (least : 1 ≤ M) (larger : M < N) (most : N ≤ 128) where
     facts : PlateFacts N mix dry
     facts = plate-facts N mix dry mix-fits mix-finite dry-fits dry-finite (omega arith) most
@@ -94,7 +95,7 @@ module _ (N M mix dry : ℕ) where
     pub plate-carries : PlateCarries N M mix dry
     plate-carries = record { line = resized; bytes = two-stores; judged = facts .judged; judged-after = judged-after; carried = carried }
 
-pub studio-and-stage : (mix dry : ℕ) → mix < 4294967296 → finite mix ≡ true → dry < 4294967296 → finite dry ≡ true → StudioAndStage mix dry
+pub studio-and-stage : (mix dry : ℕ) → mix < 4294967296 → finiteBits mix ≡ true → dry < 4294967296 → finiteBits dry ≡ true → StudioAndStage mix dry
 studio-and-stage mix dry mix-fits mix-finite dry-fits dry-finite =
     let plate = plate-carries 128 64 mix dry mix-fits mix-finite dry-fits dry-finite (omega arith) (omega arith) (omega arith) in
     record { line = plate .line; judged = plate .judged; judged-after = plate .judged-after; carried = plate .carried }
@@ -103,5 +104,5 @@ studio-and-stage mix dry mix-fits mix-finite dry-fits dry-finite =
 pub mix-stage : (mix : Float) → T (fits binary32 mix) → finiteF mix ≡ true → StudioAndStage (toBits binary32 mix) (toBits binary32 (dryOf mix))
 mix-stage mix mix-fits number =
     let dry-fits = sub-fits binary32 f1 mix in
-    studio-and-stage (toBits binary32 mix) (toBits binary32 (dryOf mix)) (pattern-lt mix mix-fits) (sym (finite-float mix mix-fits) ∙ number)
-    (pattern-lt (dryOf mix) dry-fits) (sym (finite-float (dryOf mix) dry-fits) ∙ dry-finite mix mix-fits number)
+    studio-and-stage (toBits binary32 mix) (toBits binary32 (dryOf mix)) (pattern-lt mix mix-fits) (ap finiteF (ofBits-toBits binary32 mix mix-fits) ∙ number)
+    (pattern-lt (dryOf mix) dry-fits) (ap finiteF (ofBits-toBits binary32 (dryOf mix) dry-fits) ∙ dry-finite mix mix-fits number)

@@ -5,10 +5,10 @@ use mathlib.Core.List.{List, [], _∷_}
 use native.Mathlib.Omega.{arith}
 use lib.ListN.{set}
 use lib.Seq.{sets}
+use Rattle.reading.specs.Table.{All}
 use Rattle.leaves.specs.Bytes.{u16Bytes, u32Bytes}
 use Rattle.leaves.specs.Words.{Bytes}
-use Rattle.reading.specs.Keeps.{All}
-use Rattle.graph.specs.Board.{Parsed, Reading, going, refused, whole}
+use Rattle.graph.specs.Board.{Parsed, Progress, going, refused, whole}
 use Rattle.graph.specs.Judge.{readBoard}
 use Rattle.sizes.specs.declared.resize.Resized.{Resized}
 use Rattle.sizes.specs.declared.resize.Resized.the-variants.{Same, Size, Line, Kept}
@@ -71,7 +71,7 @@ pub settled : (s : List ℕ) → Bytes s → (M : ℕ) → Settled s M (resizedO
 unfolding resizedOf
 settled s bytes M = go (readBoard s) refl
   where
-    go : (r : Reading) → readBoard s ≡ r → Settled s M (planBy M r)
+    go : (r : Progress) → readBoard s ≡ r → Settled s M (planBy M r)
     go (going at last p) e = tt
     go (refused n w) e = tt
     go (whole p) e = by-plan s bytes M p e (plan-view p M)

@@ -12,10 +12,10 @@ use native.Mathlib.Omega.{arith}
 use lib.ListN.{length, replicate}
 use Rattle.leaves.specs.Words.{Bytes, unwords}
 use Rattle.nodes.specs.Rule.{Frame}
-use Rattle.reading.specs.Table.{tab}
+use Rattle.reading.specs.Table.{tab, All}
 use Rattle.reading.proofs.Table.{tab-agree}
+use Rattle.reading.specs.Time.{Timed}
 use Rattle.reading.specs.Calls.{replies}
-use Rattle.reading.specs.Keeps.{All}
 use Rattle.graph.specs.Answer.{answer}
 use Rattle.graph.specs.Board.{Parsed, whole, memoryLength}
 use Rattle.graph.specs.Judge.{readBoard, answerBy, judgeOf}
@@ -23,7 +23,7 @@ use Rattle.graph.specs.declared.answer.Answer.{Answer}
 use Rattle.context.specs.Memory.{passed}
 use Rattle.context.specs.Calls.{listed, freshOf}
 use Rattle.context.specs.Fine.{Fine}
-use Rattle.context.specs.Reading.{Call, Reply, Timed, reached, accepted, inputs, end, outputs, repliesTo}
+use Rattle.context.specs.Reading.{Call, Reply, reached, accepted, end, outputs, repliesTo}
 use Rattle.context.specs.Silence.{played}
 use Rattle.context.specs.Claim.{Claim, callIn, freshMemory}
 use Rattle.context.proofs.DemandAfter.{accepted-whole}
@@ -31,7 +31,7 @@ use Rattle.context.proofs.FineBoard.{fine-board}
 use Rattle.context.proofs.Demand.{board-claim, own-order, demand}
 use Rattle.sizes.specs.Sizes.{OneLine, SizeOnly, join, inputStream, stereoOf, outputStream, SameSound, events, AllFinite, runsOf, plays, SamePlayed, SoundsAs}
 use Rattle.sizes.proofs.Streams.{stream-is, same-events}
-use Rattle.sizes.proofs.Plays.{Taken, taken-still, accepted-taken, played-taken, answers-taken, replies-long, runs-taken, runs-inputs, runs-long, join-cut}
+use Rattle.sizes.proofs.Plays.{Taken, played-taken, answers-taken, replies-long, runs-taken, runs-inputs, runs-still, runs-long, join-cut}
 use Rattle.sizes.proofs.Apart.{one-line-alike, size-only-alike}
 use Rattle.sizes.proofs.Carried.{Alike, resized, ReadsToo, carried}
 
@@ -83,23 +83,23 @@ module _ (P Q : List ℕ) (bytes : Bytes P) (bytes′ : Bytes Q) (p q : Parsed) 
     is-q : replies (callIn listed Q) ds (freshMemory q) ≡ repliesTo q s 0 ds
     is-q = board-claim Q bytes′ q reads′ ds .as-read s (there .known) (there .reads) listed (own-order Q bytes′ q reads′) .replies
 
-    -- g takes a reply's block of one channel, and w is the samples of that channel
-    same-channel : (g : Reply → List ℕ) (w : ℕ → ℕ)
-        → ((x : Parsed) (b : ℕ) (a : Answer) → g (outputs x s b a) ≡ unwords (tab (x .size) (λ i. w (b * x .size + i))))
+    -- g takes a reply's block of one channel
+    same-channel : (g : Reply → List ℕ) (channel : Frame → ℕ) → ((a : Answer) (fs : List Frame) → g (outputs a fs) ≡ unwords (map channel fs))
         → join (map g (played p cs (replies (callIn listed P) cs (freshMemory p)))) ≡ join (map g (played q ds (replies (callIn listed Q) ds (freshMemory q))))
-    same-channel g w writes =
+    same-channel g channel writes =
+        let w : ℕ → ℕ = λ t. channel (s t 0) in
         ap (λ (rs : List Reply). join (map g (played p cs rs))) is-p
-        ∙ stream-is p s g w (writes p) cs
+        ∙ stream-is p s g channel writes cs
         ∙ ap unwords (tab-agree (end p (accepted p cs)) (λ i. w (0 * p .size + i)) (λ i. w (0 * q .size + i))
         (λ i h. let e : 0 * p .size + i ≡ 0 * q .size + i = omega arith in ap w e))
         ∙ ap (λ (n : ℕ). unwords (tab n (λ i. w (0 * q .size + i)))) (there .same-end)
-        ∙ sym (stream-is q s g w (writes q) ds)
+        ∙ sym (stream-is q s g channel writes ds)
         ∙ ap (λ (rs : List Reply). join (map g (played q ds rs))) (sym is-q)
 
     same-stream : outputStream P p cs ≡ outputStream Q q ds
     same-stream =
-        let lefts = same-channel (λ r. r .left) (λ t. s t 0 .left) (λ x b a. refl) in
-        let rights = same-channel (λ r. r .right) (λ t. s t 0 .right) (λ x b a. refl) in
+        let lefts = same-channel (λ r. r .left) (λ f. f .left) (λ a fs. refl) in
+        let rights = same-channel (λ r. r .right) (λ f. f .right) (λ a fs. refl) in
         λ i. record { left = lefts i; right = rights i }
 
   same-sound : SameSound P Q p q
@@ -117,12 +117,10 @@ module _ (P Q : List ℕ) (bytes : Bytes P) (bytes′ : Bytes Q) (p q : Parsed) 
 
     same-samples : inputStream p cs ≡ inputStream q ds
     same-samples =
-        ap (λ (l : List Call). join (inputs l)) (accepted-taken p cs (runs-taken p b xs long number))
-        ∙ ap join (runs-inputs b (p .size) xs)
+        ap join (runs-inputs p b xs long number)
         ∙ join-cut b (p .size) xs long
         ∙ sym (join-cut c (q .size) xs long′)
-        ∙ ap join (sym (runs-inputs c (q .size) xs))
-        ∙ ap (λ (l : List Call). join (inputs l)) (sym (accepted-taken q ds (runs-taken q c xs long′ number)))
+        ∙ ap join (sym (runs-inputs q c xs long′ number))
 
     -- a board's answers and its stream, where every call is accepted
     module _ (board : List ℕ) (h : Bytes board) (x : Parsed) (e : readBoard board ≡ whole x) (w : List ℕ) (j : judgeOf board ≡ answer 0 (length w))
@@ -150,7 +148,7 @@ module _ (P Q : List ℕ) (bytes : Bytes P) (bytes′ : Bytes Q) (p q : Parsed) 
       accepted = answers P bytes p reads m judged b long;
       accepted-too = answers Q bytes′ q reads′ m′ judged′ c long′;
       same = all-played P bytes p reads m judged b long
-          ∙ same-sound cs ds (taken-still p cs (runs-taken p b xs long number)) (taken-still q ds (runs-taken q c xs long′ number)) same-samples
+          ∙ same-sound cs ds (runs-still p b xs long number) (runs-still q c xs long′ number) same-samples
           ∙ sym (all-played Q bytes′ q reads′ m′ judged′ c long′);
     }
 

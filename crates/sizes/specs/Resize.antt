@@ -10,10 +10,11 @@ use lib.Seq.{sets}
 use lib.Dec.{eqb, leb}
 use Rattle.leaves.specs.Bytes.{u16Bytes, u32Bytes}
 use Rattle.leaves.specs.Words.{Bytes}
+use Rattle.nodes.specs.Kind.{typeOf}
+use Rattle.nodes.specs.History.{lengthOf}
 use Rattle.nodes.specs.declared.kind.NodeKind.{NodeKind}
-use Rattle.nodes.specs.declared.kind.NodeKind.the-variants.{Pass, Sum, Destination, Balance, Mul, Add, Delay, AllPass, OnePole, Sine}
 use Rattle.reading.specs.Order.{Wire}
-use Rattle.graph.specs.Board.{Parsed, Reading, going, refused, whole, linesOf, sizeFits}
+use Rattle.graph.specs.Board.{Parsed, Progress, going, refused, whole, linesOf, sizeFits}
 use Rattle.graph.specs.Judge.{readBoard}
 use Rattle.graph.specs.Late.{lateWires}
 use Rattle.context.specs.Memory.{kindAt}
@@ -27,16 +28,7 @@ use Rattle.sizes.specs.Sizes.{OneLine, SizeOnly, SoundsAs}
 
 -- a delay's line; 0 stands for another type
 abbrev pub delayOf : NodeKind → ℕ
-delayOf Pass = 0
-delayOf Sum = 0
-delayOf Destination = 0
-delayOf Balance = 0
-delayOf (Mul f) = 0
-delayOf (Add f) = 0
-delayOf (Delay n) = n
-delayOf (AllPass n f) = 0
-delayOf (OnePole f) = 0
-delayOf (Sine f) = 0
+delayOf k = cond (eqb (typeOf k) 7) (lengthOf k) 0
 
 -- the late wire leads into node k, a delay of n samples, or of 0 where it is none: the line at blocks of M is n + N − M, 1 to 132,300, and
 -- all lines together are at most 262,144
@@ -58,7 +50,7 @@ lateBy p M (w ∷ v ∷ ws) = Kept (ManyLate (suc (suc (length ws))))
 unfoldable pub planOf : Parsed → ℕ → Resized
 planOf p M = cond (sizeFits M) (cond (eqb M (p .size)) Same (lateBy p M (lateWires (listed p) (p .wires)))) (Kept NoSize)
 
-abbrev pub planBy : ℕ → Reading → Resized
+abbrev pub planBy : ℕ → Progress → Resized
 planBy M (going at last p) = Kept (Refused 1 at)
 planBy M (refused n w) = Kept (Refused n w)
 planBy M (whole p) = planOf p M

@@ -7,10 +7,12 @@ use mathlib.Core.Bool.{true}
 use mathlib.Core.List.{List, [], _∷_, _++_, map}
 use lib.ListN.{length, getD, set, take, drop, replicate}
 use Rattle.leaves.specs.Words.{words, unwords}
-use Rattle.nodes.specs.Kind.{finite}
+use Rattle.leaves.specs.Floats.{finiteBits}
 use Rattle.nodes.specs.declared.kind.NodeKind.{NodeKind}
 use Rattle.nodes.specs.declared.kind.NodeKind.the-variants.{Delay}
 use Rattle.reading.specs.Order.{sources}
+use Rattle.reading.specs.Effect.{Effect, run, rewire, inputs}
+use Rattle.reading.specs.Effect as effect
 use Rattle.reading.specs.Calls.{replies}
 use Rattle.graph.specs.Answer.{answer}
 use Rattle.graph.specs.Board.{Parsed, wire}
@@ -18,7 +20,7 @@ use Rattle.graph.specs.Judge.{judgeOf}
 use Rattle.graph.specs.Late.{lateWires}
 use Rattle.context.specs.Memory.{kindAt, passed}
 use Rattle.context.specs.Calls.{listed, freshOf}
-use Rattle.context.specs.Reading.{Call, block, message, Reply, accepted, inputs}
+use Rattle.context.specs.Reading.{Call, block, Reply, Fixed, accepted}
 use Rattle.context.specs.Claim.{callIn, freshMemory}
 use Rattle.context.specs.Silence.{played}
 
@@ -57,10 +59,12 @@ pub record SizeOnly (p q : Parsed) : Type 0 where
 
 -- ---- calls without messages, and the streams
 
-abbrev pub NoMessage : List Call → Type 0
+-- no number is set
+abbrev pub NoMessage : List (Effect Fixed ℕ ℕ) → Type 0
 NoMessage [] = Unit {0}
-NoMessage (block x l r ∷ cs) = NoMessage cs
-NoMessage (message k w ∷ cs) = ⊥
+NoMessage (run x ∷ es) = NoMessage es
+NoMessage (effect.set k v ∷ es) = ⊥
+NoMessage (rewire w ∷ es) = NoMessage es
 
 -- lists one behind another
 abbrev pub join : {A : Type 0} → List (List A) → List A
@@ -84,10 +88,10 @@ abbrev pub outputStream : List ℕ → Parsed → List Call → Stereo
 outputStream board p cs = stereoOf (played p cs (replies (callIn listed board) cs (freshMemory p)))
 
 -- Boards' bytes P and Q, read as p and q: without messages, from fresh memory, the same input stream gives the same stereo stream. Refused
--- block runs may stand among the calls: they count for nothing. That both sizes divide the stream's length is what its being cut into whole
+-- calls may stand among the others: they count for nothing. That both sizes divide the stream's length is what its being cut into whole
 -- blocks says.
 abbrev pub SameSound : List ℕ → List ℕ → Parsed → Parsed → Type 0
-SameSound P Q p q = (cs ds : List Call) → NoMessage cs → NoMessage ds → inputStream p cs ≡ inputStream q ds
+SameSound P Q p q = (cs ds : List Call) → NoMessage (accepted p cs) → NoMessage (accepted q ds) → inputStream p cs ≡ inputStream q ds
     → outputStream P p cs ≡ outputStream Q q ds
 
 -- ---- beyond the request: the same messages between the same samples
@@ -97,10 +101,11 @@ pub data Event : Type 0 where
   numbered : ℕ → ℕ → Event
 
 -- what calls bring, one after the other: the samples of input blocks, and number messages
-abbrev pub events : List Call → List Event
+abbrev pub events : List (Effect Fixed ℕ ℕ) → List Event
 events [] = []
-events (block x l r ∷ cs) = map sampled (words x) ++ events cs
-events (message k w ∷ cs) = numbered k w ∷ events cs
+events (run x ∷ es) = map sampled x ++ events es
+events (effect.set k v ∷ es) = numbered k v ∷ events es
+events (rewire w ∷ es) = events es
 
 -- from fresh memory, the same accepted samples and messages in the same order give the same stereo stream. As messages stand between blocks, it
 -- speaks of those that stand where blocks of both sizes end
@@ -111,7 +116,7 @@ SameWithMessages P Q p q = (cs ds : List Call) → events (accepted p cs) ≡ ev
 
 -- each sample is the pattern of a finite float
 abbrev pub AllFinite : List ℕ → Type 0
-AllFinite xs = (i : ℕ) → i < length xs → finite (getD xs i 0) ≡ true
+AllFinite xs = (i : ℕ) → i < length xs → finiteBits (getD xs i 0) ≡ true
 
 -- a list cut into c pieces of n
 abbrev pub cut : {A : Type 0} → ℕ → ℕ → List A → List (List A)

@@ -1,20 +1,21 @@
 -- Digits read one after the other: a step, a stop, and what a run up to the end says. Assumes nothing.
-use mathlib.Core.Path.{_≡_, refl, sym, ap, _∙_}
-use mathlib.Core.Bool.{Bool, true, false, cond}
+use mathlib.Core.Path.{_≡_, refl, sym, ap, subst, _∙_}
+use mathlib.Core.Bool.{Bool, true, false, cond, not, _||_}
 use mathlib.Core.List.{List, [], _∷_}
-use Prim.Native.Nat.{ℕ, zero, suc, _+_, _-_, _*_, _^_, _<_, _≤_}
+use Prim.Native.Nat.{ℕ, suc, _+_, _-_, _*_, _^_, _<_, _≤_}
 use native.Mathlib.Decide.{decLt}
 use native.Mathlib.Nat.{pow-suc, pow-le-pow-right}
 use native.Mathlib.Numerals.{add-one}
 use native.Mathlib.Omega.{arith}
 use borrow.Author.Tests.{lt-ltb, le-ltb, le-leb, lt-leb, eq-eqb, ne-eqb}
-use lib.Dec.{ltb}
+use lib.Dec.{ltb, eqb}
 use lib.ListN.{length, drop, getD, drop-of-length-le}
 use lib.Seq.{drop-cons}
 use Rattle.text.specs.declared.number.Float.the-variants.{Is, Bad}
+use Rattle.text.specs.declared.number.Digits.{Digits}
+use Rattle.text.specs.declared.number.Power.{Power}
 use Rattle.text.specs.declared.number.Run.{Run}
-use Rattle.text.specs.declared.number.Whole.{Whole}
-use Rattle.text.specs.Number.{digitOf, more, digitsFrom, is, none, readFrom, upto, wholeOf, hexFrom, bitsOf}
+use Rattle.text.specs.Number.{digitOf, more, digitsFrom, is, none, readFrom, upto, wholeOf, hexFrom, bitsOf, noPoint, behind, pointed, digitsOf, power, powerOf, powered, decimalBy, decimalAt, floatOf}
 
 -- ---- a digit, by its range
 
@@ -168,3 +169,35 @@ hex-room k h = pow-le-pow-right {n = 16} (omega arith) {i = k} {j = 8} h
 
 pub hex-grow : (k : ℕ) → 16 ^ (k + 1) ≡ 16 ^ k * 16
 hex-grow k = ap (λ (n : ℕ). 16 ^ n) (add-one k) ∙ pow-suc 16 k
+
+-- ---- decimals
+
+-- the digits of a decimal, by their first run r
+module _ (word : List ℕ) (at : ℕ) (r : Run) (is-run : r ≡ digitsFrom (drop at word) 0 at) where
+  pub digits-whole : (eqb (r .next) at || not (eqb (getD word (r .next) 0) 46)) ≡ true → noPoint r ≡ digitsOf word at
+  unfolding digitsOf
+  digits-whole t = rw t at (ap (pointed word at) is-run)
+
+  pub digits-pointed : (eqb (r .next) at || not (eqb (getD word (r .next) 0) 46)) ≡ false
+      → behind (r .next) (digitsFrom (drop (r .next + 1) word) (r .value) (r .next + 1)) ≡ digitsOf word at
+  unfolding digitsOf
+  digits-pointed t = rw t at (ap (pointed word at) is-run)
+
+-- a power that is made of numbers in reach
+pub power-made : (p q : Power) (up down : ℕ) (good : Bool) → p ≡ power up down good → power up down good ≡ q → up ≤ 42949672960 → down ≤ 42949672960
+    → (p .up ≤ 42949672960) × (p .down ≤ 42949672960) × (p ≡ q)
+power-made p q up down good e f a b =
+    (subst (λ (x : Power). x .up ≤ 42949672960) (sym e) a, subst (λ (x : Power). x .down ≤ 42949672960) (sym e) b, e ∙ f)
+
+-- a decimal, by its digits and its power of ten
+pub decimal-by : (word : List ℕ) (at : ℕ) (minus : Bool) (d : Digits) (p : Power) → d ≡ digitsOf word at → p ≡ powerOf word (d .next)
+    → (d .next ≡ at → ⊥) → d .places ≤ 4294967295 → powered minus d p ≡ decimalAt word at minus
+unfolding decimalAt
+decimal-by word at minus d p e f n few =
+    ap (powered minus d) f ∙ (rw (ne-eqb (d .next) at n, le-ltb 4294967295 (d .places) few) at (ap (decimalBy word at minus) e))
+
+-- an empty word is no float
+pub float-empty : (word : List ℕ) → length word ≡ 0 → Bad ≡ floatOf word
+unfolding floatOf decimalAt digitsOf digitsFrom
+float-empty [] e = refl
+float-empty (c ∷ word) e = absurd (omega arith)

@@ -1,7 +1,7 @@
 -- A whole number times or over another, both held exactly, is one rounding of the exact result. Assumes nothing.
-use mathlib.Core.Path.{_≡_, sym, ap, subst, _∙_}
+use mathlib.Core.Path.{_≡_, sym, ap, _∙_}
 use mathlib.Core.Bool.{Bool, false, cond}
-use Prim.Native.Nat.{ℕ, zero, suc, _+_, _*_, _^_, _≤_, _<_}
+use Prim.Native.Nat.{ℕ, zero, suc, _*_, _^_, _<_}
 use native.Mathlib.Nat.{mul-assoc, mul-comm, mul-one, mul-pos, mul-mul-mul-comm, zero-lt-suc, le-of-lt, one-le-pow}
 use native.Mathlib.Omega.{arith}
 use borrow.Author.Tests.{ne-eqb}
@@ -12,6 +12,7 @@ use lib.Ieee.Fits.{up-pos, down-pos}
 use lib.Ieee.Exact.{HasValue}
 use lib.Ieee.Back.{round-whole}
 use lib.Ieee.Scale.{round-same}
+use Rattle.text.specs.Decimal.{times, over}
 
 -- the exact fractions, each side a product of four
 cross-over : (a b n k du dd : ℕ) → a ≡ n * du → b ≡ k * dd → a * dd * k ≡ n * (b * du)
@@ -20,7 +21,7 @@ cross-over a b n k du dd p q = rw (p, q) (mul-assoc (n * du) dd k ∙ mul-assoc 
 cross-times : (a b n k du dd : ℕ) → a ≡ n * du → b ≡ k * dd → a * b * 1 ≡ n * k * (du * dd)
 cross-times a b n k du dd p q = rw (p, q, mul-one) (mul-mul-mul-comm n du k dd)
 
-pub over-at : (x y : Float) (n k : ℕ) → 0 < k → HasValue x false n 1 → HasValue y false k 1 → div binary32 x y ≡ round binary32 false n k
+over-at : (x y : Float) (n k : ℕ) → 0 < k → HasValue x false n 1 → HasValue y false k 1 → div binary32 x y ≡ round binary32 false n k
 unfolding div
 over-at nan y n k h v w = absurd v
 over-at (inf s) y n k h v w = absurd v
@@ -34,7 +35,7 @@ over-at (fin s m e) (fin t (suc p) d) n k h v w =
     ∙ round-same binary32 false (m * up e * down d) (suc p * up d * down e) n k (mul-pos (mul-pos (zero-lt-suc p) (up-pos d)) (down-pos e)) h
     (cross-over (m * up e) (suc p * up d) n k (down e) (down d) (sym (mul-one _) ∙ v .1) (sym (mul-one _) ∙ w .1))
 
-pub times-at : (x y : Float) (n k : ℕ) → HasValue x false n 1 → HasValue y false k 1 → mul binary32 x y ≡ round binary32 false (n * k) 1
+times-at : (x y : Float) (n k : ℕ) → HasValue x false n 1 → HasValue y false k 1 → mul binary32 x y ≡ round binary32 false (n * k) 1
 unfolding mul
 times-at nan y n k v w = absurd v
 times-at (inf s) y n k v w = absurd v
@@ -51,9 +52,18 @@ pub digits-fit : (n : ℕ) → n < 2 ^ 24 → T (inFloat binary32 (pos n))
 unfolding inFloat
 digits-fit n h = le→leb n (2 ^ 24) (le-of-lt h)
 
-pub digits-value : (n : ℕ) → n < 2 ^ 24 → HasValue (ofInt binary32 (pos n)) false n 1
+digits-value : (n : ℕ) → n < 2 ^ 24 → HasValue (ofInt binary32 (pos n)) false n 1
 unfolding ofInt
 digits-value n h = round-whole binary32 false n (le-of-lt h)
 
-pub tens-pos : (k : ℕ) → 0 < 10 ^ k
+tens-pos : (k : ℕ) → 0 < 10 ^ k
 tens-pos k = omega (arith, one-le-pow k 10 (omega arith))
+
+-- digits times or over a power of ten
+pub product-at : (d k : ℕ) (tens : Float) → d < 2 ^ 24 → HasValue tens false (10 ^ k) 1 → mul binary32 (ofInt binary32 (pos d)) tens ≡ times d k
+unfolding times
+product-at d k tens h v = times-at (ofInt binary32 (pos d)) tens d (10 ^ k) (digits-value d h) v
+
+pub quotient-at : (d k : ℕ) (tens : Float) → d < 2 ^ 24 → HasValue tens false (10 ^ k) 1 → div binary32 (ofInt binary32 (pos d)) tens ≡ over d k
+unfolding over
+quotient-at d k tens h v = over-at (ofInt binary32 (pos d)) tens d (10 ^ k) (tens-pos k) (digits-value d h) v

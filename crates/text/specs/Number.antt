@@ -1,11 +1,15 @@
--- Numbers of a text: what a word of digits says. Definitions only.
-use mathlib.Core.Bool.{true, false, cond}
+-- Numbers of a text: what a word says as a whole number, and as a float. Definitions only.
+use mathlib.Core.Bool.{Bool, true, false, cond, not, _||_}
 use mathlib.Core.List.{List, [], _∷_}
 use Prim.Native.Nat.{ℕ, _+_, _-_, _*_, min}
 use lib.Dec.{ltb, leb, eqb}
-use lib.ListN.{length, drop}
+use lib.Ieee as ieee
+use lib.ListN.{length, drop, getD}
 use Rattle.text.specs.declared.number.Float.{Float}
-use Rattle.text.specs.declared.number.Float.the-variants.{Is, Bad}
+use Rattle.text.specs.Decimal.{times, over}
+use Rattle.text.specs.declared.number.Digits.{Digits}
+use Rattle.text.specs.declared.number.Float.the-variants.{Is, Bad, Long}
+use Rattle.text.specs.declared.number.Power.{Power}
 use Rattle.text.specs.declared.number.Run.{Run}
 use Rattle.text.specs.declared.number.Whole.{Whole}
 
@@ -49,3 +53,59 @@ hexFrom (c ∷ s) v = cond (ltb (digitOf c) 16) (hexFrom s (v * 16 + digitOf c))
 -- a float's bits: 8 digits of base 16 after an `x`
 unfoldable pub bitsOf : List ℕ → Float
 bitsOf word = cond (eqb (length word) 9) (hexFrom (drop 1 word) 0) Bad
+
+-- ---- decimals: 45 is `-`, 46 the point, 101 `e`
+
+-- the digits of a decimal from a place of a word on, its point aside: their number, how many follow the point, and the place behind them
+abbrev pub noPoint : Run → Digits
+noPoint run = record { value = run .value; places = 0; next = run .next }
+
+abbrev pub behind : ℕ → Run → Digits
+behind point run = record { value = run .value; places = run .next - (point + 1); next = run .next }
+
+abbrev pub pointed : List ℕ → ℕ → Run → Digits
+pointed word at run =
+    cond (eqb (run .next) at || not (eqb (getD word (run .next) 0) 46)) (noPoint run)
+    (behind (run .next) (digitsFrom (drop (run .next + 1) word) (run .value) (run .next + 1)))
+
+unfoldable pub digitsOf : List ℕ → ℕ → Digits
+digitsOf word at = pointed word at (digitsFrom (drop at word) 0 at)
+
+-- the power of ten from a place of a word on: none at the end; or an `e` and a whole number, perhaps with a minus
+abbrev pub power : ℕ → ℕ → Bool → Power
+power up down good = record { up = up; down = down; good = good }
+
+abbrev pub exponentOf : List ℕ → Power
+exponentOf s =
+    cond (eqb (getD s 0 0) 45) (power 0 (wholeOf (drop 1 s) 42949672960 .value) (wholeOf (drop 1 s) 42949672960 .good))
+    (power (wholeOf s 42949672960 .value) 0 (wholeOf s 42949672960 .good))
+
+unfoldable pub powerOf : List ℕ → ℕ → Power
+powerOf word at =
+    cond (eqb at (length word)) (power 0 0 true) (cond (eqb (getD word at 0) 101) (exponentOf (drop (at + 1) word)) (power 0 0 false))
+
+-- the float nearest to digits × 10^up / 10^down, where one rounding gives it
+abbrev pub signed : Bool → ieee.Float → Float
+signed minus x = Is (ieee.toBits ieee.binary32 (cond minus (ieee.neg x) x))
+
+unfoldable pub scaled : Bool → ℕ → ℕ → ℕ → Float
+scaled minus digits up down =
+    cond (leb 16777216 digits || ltb 10 (up - down) || ltb 10 (down - up)) Long
+    (signed minus (cond (leb down up) (times digits (up - down)) (over digits (down - up))))
+
+-- the float of the decimal from a place of a word on
+abbrev pub powered : Bool → Digits → Power → Float
+powered minus digits p = cond (p .good) (scaled minus (digits .value) (p .up) (digits .places + p .down)) Bad
+
+abbrev pub decimalBy : List ℕ → ℕ → Bool → Digits → Float
+decimalBy word at minus digits =
+    cond (eqb (digits .next) at) Bad (cond (ltb 4294967295 (digits .places)) Long (powered minus digits (powerOf word (digits .next))))
+
+unfoldable pub decimalAt : List ℕ → ℕ → Bool → Float
+decimalAt word at minus = decimalBy word at minus (digitsOf word at)
+
+-- the float that a word says: an `x` and its bits; or a decimal, perhaps with a minus
+unfoldable pub floatOf : List ℕ → Float
+floatOf word =
+    cond (eqb (getD word 0 0) 120) (bitsOf word)
+    (cond (eqb (getD word 0 0) 45) (decimalAt word 1 true) (decimalAt word 0 false))

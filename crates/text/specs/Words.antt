@@ -1,5 +1,5 @@
--- Words of a line: what parts them, and which is which. Definitions only.
-use mathlib.Core.Bool.{Bool, cond, not, _||_}
+-- Words of a line: what parts them, which is which, and how many there are; and the lines of a text. Definitions only.
+use mathlib.Core.Bool.{Bool, false, cond, not, _||_}
 use mathlib.Core.List.{List, [], _∷_}
 use Prim.Native.Nat.{ℕ, zero, suc, _+_}
 use lib.Dec.{eqb}
@@ -38,3 +38,26 @@ unspaced s = drop (ahead OfWord s) s
 unfoldable pub wordAt : ℕ → List ℕ → List ℕ
 wordAt zero s = take (ahead Space (unspaced s)) (unspaced s)
 wordAt (suc k) s = wordAt k (drop (ahead Space (unspaced s)) (unspaced s))
+
+-- one more if a byte that is no space starts a word: it follows a space, or nothing
+abbrev pub begins : Bool → Bool → ℕ
+begins inside space = cond (inside || space) 0 1
+
+-- how many words start in a text, of which the first byte may stand inside one
+unfoldable pub countFrom : Bool → List ℕ → ℕ
+countFrom inside [] = 0
+countFrom inside (c ∷ s) = begins inside (isSpace c) + countFrom (not (isSpace c)) s
+
+-- how many words a text has
+abbrev pub wordCount : List ℕ → ℕ
+wordCount = countFrom false
+
+-- a byte in front of the first of some lines
+abbrev pub onFirst : ℕ → List (List ℕ) → List (List ℕ)
+onFirst c [] = (c ∷ []) ∷ []
+onFirst c (l ∷ ls) = (c ∷ l) ∷ ls
+
+-- the lines of a text, each up to a line feed or to the text's end
+unfoldable pub linesOf : List ℕ → List (List ℕ)
+linesOf [] = []
+linesOf (c ∷ s) = cond (eqb c 10) ([] ∷ linesOf s) (onFirst c (linesOf s))

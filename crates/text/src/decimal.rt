@@ -3,7 +3,6 @@
 ghost use mathlib.Core.Path.{_≡_};
 ghost use mathlib.Core.Bool.{false};
 ghost use Prim.Native.Nat.{_*_, _^_, _<_, _≤_};
-ghost use lib.Ieee.{binary32, toBits};
 ghost use lib.Ieee.Exact.{HasValue};
 ghost use Rattle.text.specs.Decimal.{times, over, Prints};
 use leaves::float::to_bits;

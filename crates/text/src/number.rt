@@ -1,8 +1,8 @@
 // Numbers of a text: whole numbers, and floats as decimals or as bits.
 ghost use mathlib.Core.Path.{_≡_};
 ghost use Prim.Native.Nat.{_<_, _≤_};
-ghost use lib.ListN.{length, drop, getD};
-ghost use Rattle.text.specs.Number.{digitOf, more, digitsFrom, wholeOf, bitsOf};
+ghost use lib.ListN.{length, drop};
+ghost use Rattle.text.specs.Number.{digitOf, more, digitsFrom, wholeOf, digitsOf, power, powerOf, signed, scaled, decimalAt, bitsOf, floatOf};
 use crate::decimal::product;
 use crate::decimal::quotient;
 use leaves::float::to_bits;
@@ -30,7 +30,7 @@ pub struct Power {
 
 impl Power {
     fn new(up: u64, down: u64, good: bool) -> Self
-        ensures { λ r. ⌜ (r .up ≡ up) × (r .down ≡ down) ⌝ }
+        ensures { λ r. ⌜ r ≡ power up down good ⌝ }
     {
         Power { up, down, good }
     }
@@ -128,7 +128,7 @@ pub fn whole_of(word: &[u8], most: u64) -> Whole
 // The digits of a decimal from `at` on: some, and then perhaps a point and more.
 fn digits_of(word: &[u8], at: usize) -> Digits
     requires { ⌜ at ≤ length (now word) ⌝ }
-    ensures { λ r. ⌜ (at ≤ r .next) × (r .next ≤ length (now (word .entry))) ⌝ }
+    ensures { λ r. ⌜ (at ≤ r .next) × (r .next ≤ length (now (word .entry))) × (r ≡ digitsOf (now (word .entry)) at) ⌝ }
 {
     let run = digits_from(word, at, 0);
     let point = run.next;
@@ -158,7 +158,7 @@ fn digits_of(word: &[u8], at: usize) -> Digits
 // The power of ten from `at` on: none, or `e` and a whole number, perhaps with a minus.
 fn power_of(word: &[u8], at: usize) -> Power
     requires { ⌜ at ≤ length (now word) ⌝ }
-    ensures { λ r. ⌜ (r .up ≤ 42949672960) × (r .down ≤ 42949672960) ⌝ }
+    ensures { λ r. ⌜ (r .up ≤ 42949672960) × (r .down ≤ 42949672960) × (r ≡ powerOf (now (word .entry)) at) ⌝ }
 {
     if at == word.len() {
         return Power::new(0, 0, true);
@@ -180,7 +180,9 @@ fn power_of(word: &[u8], at: usize) -> Power
 }
 
 // The float of a decimal's sign and size.
-fn signed(minus: bool, x: f32) -> Float {
+fn signed(minus: bool, x: f32) -> Float
+    ensures { λ r. ⌜ r ≡ signed minus x ⌝ }
+{
     if minus {
         Float::Is(to_bits(-x))
     } else {
@@ -189,7 +191,9 @@ fn signed(minus: bool, x: f32) -> Float {
 }
 
 // The float nearest to digits × 10^up / 10^down, where one rounding gives it.
-fn scaled(minus: bool, digits: u64, up: u64, down: u64) -> Float {
+fn scaled(minus: bool, digits: u64, up: u64, down: u64) -> Float
+    ensures { λ r. ⌜ r ≡ scaled minus digits up down ⌝ }
+{
     if 0x100_0000 <= digits {
         return Float::Long;
     }
@@ -210,6 +214,7 @@ fn scaled(minus: bool, digits: u64, up: u64, down: u64) -> Float {
 // The float of the decimal from `at` on.
 fn decimal_at(word: &[u8], at: usize, minus: bool) -> Float
     requires { ⌜ at ≤ length (now word) ⌝ }
+    ensures { λ r. ⌜ r ≡ decimalAt (now (word .entry)) at minus ⌝ }
 {
     let digits = digits_of(word, at);
     if digits.next == at {
@@ -247,7 +252,7 @@ fn bits_of(word: &[u8]) -> Float
 
 // The float that a word says: a decimal, or `x` and its bits.
 pub fn float_of(word: &[u8]) -> Float
-    ensures { λ r. ⌜ (getD (now (word .entry)) 0 0 ≡ 120 → r ≡ bitsOf (now (word .entry))) ⌝ }
+    ensures { λ r. ⌜ r ≡ floatOf (now (word .entry)) ⌝ }
 {
     if word.len() == 0 {
         return Float::Bad;

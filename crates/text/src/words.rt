@@ -2,7 +2,7 @@
 ghost use mathlib.Core.Path.{_≡_};
 ghost use Prim.Native.Nat.{_+_, _≤_};
 ghost use lib.ListN.{length, drop};
-ghost use Rattle.text.specs.Words.{isSpace, stopsAt, ahead, nextWord, wordAt};
+ghost use Rattle.text.specs.Words.{isSpace, stopsAt, ahead, nextWord, wordAt, begins, wordCount};
 
 // What a place is looked for by: a byte, any space, or anything else.
 pub enum Stop {
@@ -73,4 +73,27 @@ pub fn word_at(line: &[u8], k: usize) -> &[u8]
     let from = found.from;
     let to = found.to;
     &line[from..to]
+}
+
+// One more if a byte that is no space starts a word.
+fn begins(inside: bool, space: bool) -> usize
+    ensures { λ r. ⌜ (r ≡ begins inside space) × (r ≤ 1) ⌝ }
+{
+    if inside | space { 0 } else { 1 }
+}
+
+// How many words a line has.
+pub fn word_count(line: &[u8]) -> usize
+    ensures { λ r. ⌜ r ≡ wordCount (now (line .entry)) ⌝ }
+{
+    let mut count = 0;
+    let mut inside = false;
+    let mut i = 0;
+    while i < line.len() {
+        let space = is_space(line[i]);
+        count += begins(inside, space);
+        inside = !space;
+        i += 1;
+    }
+    count
 }

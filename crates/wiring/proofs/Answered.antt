@@ -8,7 +8,7 @@ use borrow.Author.Tests.{eq-eqb, ne-eqb}
 use lib.Dec.{eqb, ltb}
 use lib.ListN.{length}
 use Rattle.leaves.specs.Words.{Bytes}
-use Rattle.graph.specs.Board.{Parsed, Reading, going, refused, whole, wireFits}
+use Rattle.graph.specs.Board.{Parsed, Progress, going, refused, whole, wireFits}
 use Rattle.graph.specs.Judge.{readBoard, checkSix}
 use Rattle.graph.specs.Parts.{wired as withWires}
 use Rattle.graph.proofs.Ending.{Ended, board-ends}
@@ -59,7 +59,7 @@ module _ (s : List ℕ) (x y : ℕ) (p : Parsed) (e : readBoard s ≡ whole p) w
 pub added-accepted : (s : List ℕ) (x y : ℕ) → (addedBoard x y s) .0 .number ≡ 0 → (p : Parsed) × (readBoard s ≡ whole p)
 added-accepted s x y z = go (readBoard s) refl (board-ends s)
   where
-    go : (r : Reading) → readBoard s ≡ r → Ended r → (p : Parsed) × (readBoard s ≡ whole p)
+    go : (r : Progress) → readBoard s ≡ r → Ended r → (p : Parsed) × (readBoard s ≡ whole p)
     go (going at last p) e d = absurd d
     go (refused n w) e d = absurd (omega (arith, d, sym (ap (λ (d : Wiring × List ℕ). d .0 .number) (added-refused s x y n w e)) ∙ z))
     go (whole p) e d = (p, e)
@@ -67,7 +67,7 @@ added-accepted s x y z = go (readBoard s) refl (board-ends s)
 pub pulled-accepted : (s : List ℕ) (x y : ℕ) → (pulledBoard x y s) .0 .number ≡ 0 → (p : Parsed) × (readBoard s ≡ whole p)
 pulled-accepted s x y z = go (readBoard s) refl (board-ends s)
   where
-    go : (r : Reading) → readBoard s ≡ r → Ended r → (p : Parsed) × (readBoard s ≡ whole p)
+    go : (r : Progress) → readBoard s ≡ r → Ended r → (p : Parsed) × (readBoard s ≡ whole p)
     go (going at last p) e d = absurd d
     go (refused n w) e d = absurd (omega (arith, d, sym (ap (λ (d : Wiring × List ℕ). d .0 .number) (pulled-refused s x y n w e)) ∙ z))
     go (whole p) e d = (p, e)

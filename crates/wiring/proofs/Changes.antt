@@ -16,7 +16,7 @@ use lib.Seq.{take-at, drop-at, length-take-le}
 use Rattle.leaves.specs.Bytes.{u16Bytes}
 use Rattle.leaves.specs.Words.{Bytes}
 use Rattle.reading.specs.Order.{Wire}
-use Rattle.graph.specs.Board.{Parsed, Reading, going, refused, whole, wire, wireFits}
+use Rattle.graph.specs.Board.{Parsed, Progress, going, refused, whole, wire, wireFits}
 use Rattle.graph.specs.Judge.{readBoard, checkSix}
 use Rattle.graph.specs.Parts.{wired as withWires}
 use Rattle.graph.specs.Visit.{visitingList}
@@ -46,7 +46,7 @@ front-bytes board bytes h k = append-bytes board (drop (length board) bytes) h (
 zero-whole : (s : List ℕ) (q : Parsed) → readBoard s ≡ checkSix q → wiringBy (readBoard s) .number ≡ 0 → readBoard s ≡ whole q
 zero-whole s q e z = go (readBoard s) refl (board-ends s) z
   where
-    go : (r : Reading) → readBoard s ≡ r → Ended r → wiringBy r .number ≡ 0 → readBoard s ≡ whole q
+    go : (r : Progress) → readBoard s ≡ r → Ended r → wiringBy r .number ≡ 0 → readBoard s ≡ whole q
     go (going at last p) f d z = absurd d
     go (refused n w) f d z = absurd (omega (arith, d, z))
     go (whole p) f d z = f ∙ ap whole (sym (six-same q p (sym e ∙ f)))
@@ -107,7 +107,7 @@ leaves : (p : Parsed) (ws : List Wire) (bytes : List ℕ) → Bytes bytes → (n
     → readBoard new ≡ whole (withWires p ws) → length new ≡ n → d ≡ judgedAnew new → Passed bytes needed d → Leaves p ws (lentFor bytes needed d) n
 leaves p ws bytes small needed d n new new-small r long by ok =
     let left : lentFor bytes needed d ≡ (wiring 0 0 (visitingList ws), inFront new bytes) =
-    ok .left ∙ ap (λ (f : Wiring × List ℕ). (f .0, inFront (f .1) bytes)) by ∙ ap (λ (v : Reading). (wiringBy v, inFront new bytes)) r in
+    ok .left ∙ ap (λ (f : Wiring × List ℕ). (f .0, inFront (f .1) bytes)) by ∙ ap (λ (v : Progress). (wiringBy v, inFront new bytes)) r in
     subst (λ (f : Wiring × List ℕ). Leaves p ws f n) (sym left) (record {
       answer = refl;
       are-bytes = front-bytes new bytes new-small small;
@@ -290,7 +290,7 @@ module _ (bytes : List ℕ) (small : Bytes bytes) (n : ℕ) (p : Parsed) (e : re
     pulled-back : pulledBoard x y new ≡ (wiring 0 0 (visitingList (p .wires)), board)
     unfolding q
     pulled-back =
-        pulled-by new x y q reads-new true (wired-last (p .wires) x y) ∙ ap judgedAnew closed ∙ ap (λ (r : Reading). (wiringBy r, board)) e
+        pulled-by new x y q reads-new true (wired-last (p .wires) x y) ∙ ap judgedAnew closed ∙ ap (λ (r : Progress). (wiringBy r, board)) e
 
     -- what stands behind the old board then
     behind : drop (length board) ((addOf bytes n x y) .1) ≡ wireEnd ++ drop (n + 8) bytes

@@ -12,7 +12,7 @@ use lib.ListN.{length, getD}
 use Rattle.nodes.specs.Kind.{sourcesFit}
 use Rattle.nodes.specs.declared.kind.NodeRecord.{NodeRecord}
 use Rattle.reading.specs.Order.{Wire, sources}
-use Rattle.graph.specs.Board.{Parsed, Reading, going, refused, whole, blank, readRecords}
+use Rattle.graph.specs.Board.{Parsed, Progress, going, refused, whole, blank, readRecords}
 use Rattle.graph.specs.Formed.{Formed}
 use Rattle.graph.specs.Judge.{passAt, inputFits, checkSources, checkSix, thenSix, readBoard}
 use Rattle.graph.specs.Parts.{wired as withWires}
@@ -35,7 +35,7 @@ pub input-fits : (s : List ℕ) (p : Parsed) → readBoard s ≡ whole p → inp
 unfolding readBoard
 input-fits s p e = go (readRecords s) e
   where
-    go : (r : Reading) → thenSix r ≡ whole p → inputFits p ≡ true
+    go : (r : Progress) → thenSix r ≡ whole p → inputFits p ≡ true
     go (going at last q) h = going-is-not-whole at last q p h
     go (refused n w) h = refused-is-not-whole n w p h
     go (whole q) h = input-passed p (subst (λ (x : Parsed). checkSix x ≡ whole p) (six-same q p h) h)

@@ -8,7 +8,7 @@ use lib.Dec.{eqb, ltb}
 use lib.ListN.{length, take, drop, replicate}
 use Rattle.leaves.specs.Words.{Bytes}
 use Rattle.reading.specs.Order.{Wire}
-use Rattle.graph.specs.Board.{Parsed, Reading, going, refused, whole, wire}
+use Rattle.graph.specs.Board.{Parsed, Progress, going, refused, whole, wire}
 use Rattle.graph.specs.Judge.{readBoard}
 use Rattle.graph.specs.Parts.{wired as withWires}
 use Rattle.graph.specs.Visit.{visitingList}
@@ -27,7 +27,7 @@ abbrev pub refusal : ℕ → ℕ → Wiring
 refusal n w = wiring n w []
 
 -- of a changed board as it is judged: the refusal, or 0 and the visiting list
-abbrev pub wiringBy : Reading → Wiring
+abbrev pub wiringBy : Progress → Wiring
 wiringBy (going at last p) = refusal 1 at
 wiringBy (refused n w) = refusal n w
 wiringBy (whole p) = wiring 0 0 (visitingList (p .wires))
@@ -53,7 +53,7 @@ pulledFrom p s t board = closedUp (wireAt p (length (older (p .wires) s t))) boa
 -- ---- the checks: 15; then the old board by 1 to 6; then 16; then the changed board by 5 and 6
 
 -- the answer and the board of a change f on a board as it was read
-abbrev pub onBoard : List ℕ → (Parsed → Wiring × List ℕ) → Reading → Wiring × List ℕ
+abbrev pub onBoard : List ℕ → (Parsed → Wiring × List ℕ) → Progress → Wiring × List ℕ
 onBoard board f (going at last p) = (refusal 1 at, board)
 onBoard board f (refused n w) = (refusal n w, board)
 onBoard board f (whole p) = f p

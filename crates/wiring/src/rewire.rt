@@ -16,8 +16,8 @@ use graph::board::wire_fits;
 use graph::graph::Order;
 use graph::graph::visiting_list;
 use graph::judge::read_board;
-use graph::record::put_four;
-use leaves::bytes::put_u16;
+use graph::writer::put_end;
+use graph::writer::put_wire;
 use leaves::bytes::wide;
 use nodes::kind::sources_fit;
 
@@ -194,13 +194,12 @@ fn pulled(s: &[u8], source: u16, target: u16) -> Pull
 }
 
 // A wire record and the end record behind it.
-fn put_wire(bytes: &mut [u8], at: usize, source: u16, target: u16)
+fn put_last(bytes: &mut [u8], at: usize, source: u16, target: u16)
     requires { ⌜ at + 12 ≤ length (now bytes) ⌝ }
     ensures { λ _. ⌜ now (bytes .exit) ≡ sets (now (bytes .entry)) at (wireBytes (wire source target) ++ endBytes) ⌝ }
 {
-    put_four(bytes, at, 3, source, target);
-    put_u16(bytes, at + 8, 4);
-    put_u16(bytes, at + 10, 4);
+    put_wire(bytes, at, source, target);
+    put_end(bytes, at + 8);
 }
 
 // The first n bytes without the 8 from `at` on; those behind the new end are left alone.
@@ -229,7 +228,7 @@ pub fn add_wire(bytes: &mut [u8], n: usize, source: u16, target: u16) -> Wiring
     }
     let answer = added(&bytes[..n], source, target);
     if answer.number == 0 {
-        put_wire(bytes, n - 4, source, target);
+        put_last(bytes, n - 4, source, target);
     }
     answer
 }

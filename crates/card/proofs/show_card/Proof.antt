@@ -3,7 +3,7 @@ use mathlib.Core.Path.{sym, subst}
 use Prim.Native.Nat.{_≤_}
 use lib.ListN.{length}
 use lib.Seq.{length-take-le}
-use Rattle.card.specs.Board.{Given}
+use Rattle.cards.specs.Adding.{Within}
 use borrow.Author.Needs.{needs}
 use Rattle.card.proofs.show_card.Statement.{statement}
 use Rattle.card.proofs.show_card.Tie as tie
@@ -12,7 +12,7 @@ use Rattle.card.proofs.show_card.Tie as tie
 within : (c : tie.After-known-told) → c .before .n .given .0 .0 ≤ length (c .before .before .before .before .board-of .last .1 .0)
 within c =
     let read = c .before in
-    subst (Given _) (read .n .given .1) (read .before .before .before .board-of .ensures) .0
+    subst (Within _) (read .n .given .1) (read .before .before .before .board-of .ensures .0)
 
 array-borrow-prefix-out : tie.Need-array-borrow-prefix-out
 array-borrow-prefix-out c = within c

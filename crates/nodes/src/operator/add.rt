@@ -5,42 +5,45 @@ ghost use lib.ListN.{length};
 ghost use lib.Ieee as ieee;
 ghost use lib.Ieee.{Float, binary32};
 ghost use Rattle.leaves.specs.Words.{words};
+ghost use Rattle.nodes.specs.Kind.{samplesFrom};
 ghost use Rattle.nodes.specs.Block.{stored, opNumber, opSources, given};
 ghost use Rattle.nodes.specs.Cell.{runValues};
+use crate::cell::NUMBER;
+use crate::cell::SAMPLES;
 use crate::kind::NodeKind;
 use leaves::float::load;
 use leaves::float::store;
 
 fn add_number(cell: &mut [u8], number: f32, size: usize, x: &[f32; 128])
-    requires { ⌜ (size ≤ 128) × (4 * (3 + size) ≤ length (now cell)) ⌝ }
-    ensures { λ _. ⌜ words (now (cell .exit)) ≡ stored (opNumber (ieee.add binary32) (now (x .entry)) number) 3 size (words (now (cell .entry))) ⌝ }
+    requires { ⌜ (size ≤ 128) × (4 * (samplesFrom + size) ≤ length (now cell)) ⌝ }
+    ensures { λ _. ⌜ words (now (cell .exit)) ≡ stored (opNumber (ieee.add binary32) (now (x .entry)) number) samplesFrom size (words (now (cell .entry))) ⌝ }
 {
     let mut i = 0;
     while i < size {
-        store(cell, 3 + i, x[i] + number);
+        store(cell, SAMPLES + i, x[i] + number);
         i += 1;
     }
 }
 
 fn add_sources(cell: &mut [u8], size: usize, x: &[f32; 128], m: &[f32; 128])
-    requires { ⌜ (size ≤ 128) × (4 * (3 + size) ≤ length (now cell)) ⌝ }
-    ensures { λ _. ⌜ words (now (cell .exit)) ≡ stored (opSources (ieee.add binary32) (now (x .entry)) (now (m .entry))) 3 size (words (now (cell .entry))) ⌝ }
+    requires { ⌜ (size ≤ 128) × (4 * (samplesFrom + size) ≤ length (now cell)) ⌝ }
+    ensures { λ _. ⌜ words (now (cell .exit)) ≡ stored (opSources (ieee.add binary32) (now (x .entry)) (now (m .entry))) samplesFrom size (words (now (cell .entry))) ⌝ }
 {
     let mut i = 0;
     while i < size {
-        store(cell, 3 + i, x[i] + m[i]);
+        store(cell, SAMPLES + i, x[i] + m[i]);
         i += 1;
     }
 }
 
 pub fn add(cell: &mut [u8], size: usize, two: bool, x: &[f32; 128], m: &[f32; 128])
-    requires { ⌜ (size ≤ 128) × (length (now cell) ≡ 4 * (3 + size)) ⌝ }
+    requires { ⌜ (size ≤ 128) × (length (now cell) ≡ 4 * (samplesFrom + size)) ⌝ }
     ensures { λ _. ⌜ ((f : Float) → words (now (cell .exit)) ≡ runValues (NodeKind.Add f) size (given two (now (x .entry)) (now (m .entry))) (words (now (cell .entry)))) ⌝ }
 {
     if two {
         add_sources(cell, size, x, m);
     } else {
-        let number = load(cell, 0);
+        let number = load(cell, NUMBER);
         add_number(cell, number, size, x);
     }
 }

@@ -170,5 +170,5 @@ pub block-spec : {M : Type 1} → statement M
 block-spec =
     tie.close
     (tie.spec (λ c κs. search needs) returns block-judged-requires (λ c. search needs) returns-2 (λ c. search needs) element-copy-out-node
-    add-copy mul-copy (λ c. search needs) copy-requires visiting-list-requires run-requires mul-copy-3 copy-requires-2 mul-copy-4 add-copy-2
+    (λ c. search needs) add-copy mul-copy (λ c. search needs) copy-requires visiting-list-requires run-requires mul-copy-3 copy-requires-2 mul-copy-4 add-copy-2
     mul-copy-5 copy-requires-3 (λ c κs. search needs) (λ c. search needs) (λ c. search needs) (λ c. search needs) returns-3)

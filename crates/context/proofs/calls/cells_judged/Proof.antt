@@ -19,18 +19,18 @@ loop-holds : tie.Need-loop-holds Inv-loop μ-loop
 loop-holds c = (omega arith, refl)
 
 cell-fits-requires : tie.Need-cell-fits-requires Inv-loop μ-loop
-cell-fits-requires c κs = c .before .before .before .before .pre .2 (c .before .before .loop .i) (c .before .loop-test .taken)
+cell-fits-requires c κs = c .before .before .before .before .before .pre .2 (c .before .before .before .loop .i) (c .before .before .loop-test .taken)
 
 loop-again : tie.Need-loop-again Inv-loop μ-loop
 loop-again c =
-    let start = c .before .before .before .before .before .before in
-    let at = c .before .before .before .before in
+    let start = c .before .before .before .before .before .before .before in
+    let at = c .before .before .before .before .before in
     (omega arith, cells-next (words (start .args .memory .now)) (start .args .t1) (start .args .count) (omega arith) (at .loop .i) (omega arith) (sym (c .before .cell-fits .ensures) ∙ c .if1 .taken) ∙ at .loop .inv .1)
 
 returns : tie.Need-returns Inv-loop μ-loop
 returns c =
-    let start = c .before .before .before .before .before .before .before in
-    let at = c .before .before .before .before .before in
+    let start = c .before .before .before .before .before .before .before .before in
+    let at = c .before .before .before .before .before .before in
     c .new .ensures ∙ sym (cells-wrong (words (start .args .memory .now)) (start .args .t1) (start .args .count) (omega arith) (at .loop .i) (omega arith) (sym (c .before .before .cell-fits .ensures) ∙ c .before .if1 .left)) ∙ at .loop .inv .1
 
 returns-2 : tie.Need-returns-2 Inv-loop μ-loop
@@ -42,5 +42,5 @@ returns-2 c =
 pub cells-judged-spec : {M : Type 1} → statement M
 cells-judged-spec =
     tie.close
-    (tie.spec Inv-loop μ-loop loop-holds (λ c. omega arith) (λ c. omega arith) cell-fits-requires (λ c. omega arith) (λ c. omega arith)
+    (tie.spec Inv-loop μ-loop loop-holds (λ c. omega arith) (λ c. omega arith) (λ c. omega arith) cell-fits-requires (λ c. omega arith) (λ c. omega arith)
     loop-again (λ c κs. omega arith) returns (λ c κs. omega arith) returns-2)

@@ -23,14 +23,14 @@ loop-holds c = (omega arith, refl, refl)
 
 store-requires : tie.Need-store-requires Inv-loop μ-loop
 store-requires c κs =
-    let start = c .before .before .before .before .before .before in
-    let at = c .before .before .before .before .loop in
-    omega (arith, start .pre .2 (at .i) (c .before .before .before .loop-test .taken))
+    let start = c .before .before .before .before .before .before .before in
+    let at = c .before .before .before .before .before .loop in
+    omega (arith, start .pre .2 (at .i) (c .before .before .before .before .loop-test .taken))
 
 loop-again : tie.Need-loop-again Inv-loop μ-loop
 loop-again c =
-    let start = c .before .before .before .before .before .before .before .before .before in
-    let at = c .before .before .before .before .before .before .before .loop in
+    let start = c .before .before .before .before .before .before .before .before .before .before in
+    let at = c .before .before .before .before .before .before .before .before .loop in
     let node = nodeIn (start .args .t1) (at .i) in
     let stored : words (c .before .before .store .last .0) ≡ setFloat (words (at .memory)) (node .cell) (numberOf (node .kind)) =
     c .before .before .store .ensures ∙ ap (setFloat (words (at .memory)) (node .cell)) (c .before .before .before .number-of .ensures) in (
@@ -53,5 +53,5 @@ returns c =
 pub put-numbers-spec : {M : Type 1} → statement M
 put-numbers-spec =
     tie.close
-    (tie.spec Inv-loop μ-loop loop-holds (λ c. omega arith) (λ c. omega arith) (λ c κs. tt) store-requires (λ c. omega arith)
+    (tie.spec Inv-loop μ-loop loop-holds (λ c. omega arith) (λ c. omega arith) (λ c. omega arith) (λ c κs. tt) store-requires (λ c. omega arith)
     (λ c. omega arith) loop-again same-length returns)

@@ -11,7 +11,6 @@ use Rattle.graph.specs.Board.{memoryLength}
 use Rattle.context.specs.Memory.{nodeIn, runNode}
 use Rattle.graph.specs.Read.{parsedOf}
 use Rattle.graph.specs.declared.board.Board.{Board}
-use Rattle.context.proofs.CallStarts.{starts-left}
 use Rattle.context.proofs.CallRun.{starts-fit, turn-run, turn-ready, Running, running-none, running-end, running-more, node-listed}
 use Rattle.context.proofs.calls.run.Statement.{statement}
 use Rattle.context.proofs.calls.run.Tie as tie
@@ -25,35 +24,30 @@ abbrev μ-loop : tie.MeasureT-loop
 
 starts-requires : tie.Need-starts-requires Inv-loop μ-loop
 starts-requires c κs =
-    let start = c .before .before .before .before .before .before in
-    (start .pre .sound .nodes-long, start .pre .sound .few-nodes, omega arith, starts-fit (start .args .board) (start .pre .sound) (start .pre .fine))
-
-starts-requires-2 : tie.Need-starts-requires-2 Inv-loop μ-loop
-starts-requires-2 c κs =
-    let start = c .before .before .before .before .before .before .before in
-    (start .pre .sound .nodes-long, start .pre .sound .few-nodes, start .pre .sound .small-size, starts-fit (start .args .board) (start .pre .sound) (start .pre .fine))
+    let start = c .before .before .before .before .before .before .before .before in
+    ((start .pre .sound .nodes-long, start .pre .sound .few-nodes, start .pre .sound .small-size, starts-fit (start .args .board) (start .pre .sound) (start .pre .fine)), (refl, refl))
 
 loop-holds : tie.Need-loop-holds Inv-loop μ-loop
 loop-holds c =
-    let start = c .before .before .before .before .before .before .before .before in
+    let start = c .before .before .before .before .before .before .before .before .before in
     (running-none (start .args .board) (start .args .order) (start .args .memory .now) (start .pre), refl, refl)
 
 array-read-wide : tie.Need-array-read-wide Inv-loop μ-loop
-array-read-wide c = omega (arith, c .before .before .before .before .before .before .before .before .before .before .before .pre .lists .fits)
+array-read-wide c = omega (arith, c .before .before .before .before .before .before .before .before .before .before .before .before .pre .lists .fits)
 
 -- a turn's node is the board's, and has few sources
-node-here : (c : tie.After-wide Inv-loop μ-loop) → c .wide .result < c .before .before .before .before .before .before .before .before .before .before .before .before .args .board .count
+node-here : (c : tie.After-wide Inv-loop μ-loop) → c .wide .result < c .before .before .before .before .before .before .before .before .before .before .before .before .before .args .board .count
 node-here c =
-    let start = c .before .before .before .before .before .before .before .before .before .before .before .before in
+    let start = c .before .before .before .before .before .before .before .before .before .before .before .before .before in
     subst (λ (k : ℕ). k < start .args .board .count) (sym (c .wide .ensures))
     (node-listed (start .args .board) (start .args .order) (start .args .memory .now) (start .pre) (c .before .before .before .loop .i) (c .before .if1 .taken))
 
 node-small : (c : tie.After-wide Inv-loop μ-loop) → c .wide .result < 64
-node-small c = omega (arith, node-here c, c .before .before .before .before .before .before .before .before .before .before .before .before .pre .sound .few-nodes)
+node-small c = omega (arith, node-here c, c .before .before .before .before .before .before .before .before .before .before .before .before .before .pre .sound .few-nodes)
 
 count-small : (c : tie.After-wide2 Inv-loop μ-loop) → c .wide2 .result ≤ 8
 count-small c =
-    let start = c .before .before .before .before .before .before .before .before .before .before .before .before .before in
+    let start = c .before .before .before .before .before .before .before .before .before .before .before .before .before .before in
     subst (λ (n : ℕ). n ≤ 8) (sym (c .wide2 .ensures)) (start .pre .table (c .before .wide .result) (node-small (c .before)) .few)
 
 mul-from : tie.Need-mul-from Inv-loop μ-loop
@@ -80,7 +74,7 @@ part-step-end c = omega (arith, node-small (c .before .before .before .before .b
 -- a turn, from where its numbers are read
 module _ (c : tie.After-wide3 Inv-loop μ-loop) where
   abbrev start : tie.Start Inv-loop μ-loop
-  start = c .before .before .before .before .before .before .before .before .before .before .before .before .before .before
+  start = c .before .before .before .before .before .before .before .before .before .before .before .before .before .before .before
 
   abbrev at : tie.At-loop Inv-loop μ-loop
   at = c .before .before .before .before .before
@@ -101,22 +95,22 @@ module _ (c : tie.After-wide3 Inv-loop μ-loop) where
   long = at .loop .inv .0 .kept ∙ start .pre .long
 
   ready : Ready (at .loop .memory) (nodeIn (board .nodes) k .kind) (board .size) (nodeIn (board .nodes) k .cell)
-      (take (8 * k + n - 8 * k) (drop (8 * k) (board .lists))) (at .before .before .starts .result) (at .before .starts2 .result) (c .wide3 .result)
+      (take (8 * k + n - 8 * k) (drop (8 * k) (board .lists))) (at .before .starts .last .1 .1 .1 .0) (at .before .starts .last .1 .1 .1 .1 .0) (c .wide3 .result)
   ready =
       turn-ready board (start .pre .sound) (start .pre .fine) (start .pre .table) k (node-here (c .before .before)) (8 * k + n - 8 * k) sized
-      (at .before .before .starts .result) (at .before .starts2 .result) (starts-left (at .before .before .starts .ensures)) (at .before .starts2 .ensures)
+      (at .before .starts .last .1 .1 .1 .0) (at .before .starts .last .1 .1 .1 .1 .0) (at .before .starts .ensures .0) (at .before .starts .ensures .1)
       (c .wide3 .result) (c .wide3 .ensures) (at .loop .memory) long (at .loop .inv .0 .judged)
 
   -- the node's block is the definition's
   ran : (m : List ℕ)
       → words m ≡ nodeRun (nodeIn (board .nodes) k .kind) (board .size) (nodeIn (board .nodes) k .cell)
-      (broughtAt (words (at .loop .memory)) (at .before .before .starts .result) (at .before .starts2 .result) (take (8 * k + n - 8 * k) (drop (8 * k) (board .lists))) (c .wide3 .result))
+      (broughtAt (words (at .loop .memory)) (at .before .starts .last .1 .1 .1 .0) (at .before .starts .last .1 .1 .1 .1 .0) (take (8 * k + n - 8 * k) (drop (8 * k) (board .lists))) (c .wide3 .result))
       (words (at .loop .memory))
       → words m ≡ runNode (parsedOf board) (getD (start .args .order .nodes) (at .loop .i) 0) (words (at .loop .memory))
   ran m e =
       e
       ∙ turn-run board (start .pre .sound) (start .pre .fine) (start .pre .table) k (node-here (c .before .before)) (8 * k + n - 8 * k) sized
-      (at .before .before .starts .result) (at .before .starts2 .result) (starts-left (at .before .before .starts .ensures)) (at .before .starts2 .ensures)
+      (at .before .starts .last .1 .1 .1 .0) (at .before .starts .last .1 .1 .1 .1 .0) (at .before .starts .ensures .0) (at .before .starts .ensures .1)
       (c .wide3 .result) (c .wide3 .ensures) (at .loop .memory)
       ∙ ap (λ (j : ℕ). runNode (parsedOf board) j (words (at .loop .memory))) (c .before .before .wide .ensures)
 
@@ -126,7 +120,7 @@ step-requires c κs =
     (ready t, (at t .loop .inv .1, at t .loop .inv .2))
 
 add-i : tie.Need-add-i Inv-loop μ-loop
-add-i c = omega (arith, c .before .before .before .before .before .before .before .before .before .before .before .before .before .before .before .before .before .before .before .before .before .before .before .before .before .pre .lists .fits)
+add-i c = omega (arith, c .before .before .before .before .before .before .before .before .before .before .before .before .before .before .before .before .before .before .before .before .before .before .before .before .before .before .pre .lists .fits)
 
 loop-again : tie.Need-loop-again Inv-loop μ-loop
 loop-again c =
@@ -146,13 +140,13 @@ same-length c = c .before .before .loop .inv .0 .kept
 
 returns : tie.Need-returns Inv-loop μ-loop
 returns c =
-    let start = c .before .before .before .before .before .before .before .before .before .before .before in
+    let start = c .before .before .before .before .before .before .before .before .before .before .before .before in
     let at = c .before .before .loop in
     running-end (start .args .board) (start .args .order) (start .args .memory .now) (start .pre) (at .memory) (at .i) (c .if1 .left) (at .inv .0)
 
 pub run-spec : {M : Type 1} → statement M
 run-spec =
     tie.close
-    (tie.spec Inv-loop μ-loop starts-requires starts-requires-2 loop-holds array-read-wide (λ c κs. tt) mul-from array-read-wide-2
+    (tie.spec Inv-loop μ-loop starts-requires loop-holds array-read-wide (λ c κs. tt) mul-from array-read-wide-2
     (λ c κs. tt) add-to array-read-wide-3 (λ c κs. tt) mul-node array-copy-out-node (λ c. omega arith) (λ c. omega arith) part-step-end
     step-requires add-i (λ c. omega arith) loop-again same-length returns)

@@ -1,10 +1,10 @@
 -- `context::calls::samples_judged` meets its contract. The samples passed are finite, so what is left decides. Assumes nothing.
 use Prim.Native.Nat.{_≤_, _-_}
-use mathlib.Core.Path.{_≡_, refl, sym, _∙_}
+use mathlib.Core.Path.{_≡_, refl, sym, ap, _∙_}
 use native.Mathlib.Omega.{arith}
-use borrow.Author.Tests.{lt-ltb, le-ltb}
 use lib.ListN.{drop}
 use Rattle.leaves.specs.Words.{words, length-words}
+use Rattle.leaves.specs.Floats.{finiteBits}
 use Rattle.context.specs.Calls.{checkSamples}
 use Rattle.context.proofs.CallChecks.{samples-next, samples-wrong, samples-end}
 use Rattle.context.proofs.calls.samples_judged.Statement.{statement}
@@ -21,20 +21,19 @@ loop-holds c = (omega arith, refl)
 
 loop-again : tie.Need-loop-again Inv-loop μ-loop
 loop-again c =
-    let start = c .before .before .before .before .before in
-    let i = c .before .before .before .loop .i in
+    let start = c .before .before .before .before .before .before in
+    let at = c .before .before .before .before .loop in
     let ws = words (start .args .input .now) in
-    let fits = lt-ltb _ _ (c .if1 .taken) in
-    (omega arith, samples-next ws i (omega (arith, length-words (start .args .input .now))) (rw (← c .before .word-at .ensures) fits) ∙ c .before .before .before .loop .inv .1)
+    let fits = sym (ap finiteBits (c .before .before .word-at .ensures)) ∙ sym (c .before .finite-bits .ensures) ∙ c .if1 .taken in
+    (omega arith, samples-next ws (at .i) (omega (arith, length-words (start .args .input .now))) fits ∙ at .inv .1)
 
 returns : tie.Need-returns Inv-loop μ-loop
 returns c =
-    let start = c .before .before .before .before .before .before in
-    let i = c .before .before .before .before .loop .i in
+    let start = c .before .before .before .before .before .before .before in
+    let at = c .before .before .before .before .before .loop in
     let ws = words (start .args .input .now) in
-    let wrong = le-ltb _ _ (c .before .if1 .left) in
-    c .new .ensures ∙ sym (samples-wrong ws i (omega (arith, length-words (start .args .input .now))) (rw (← c .before .before .word-at .ensures) wrong))
-    ∙ c .before .before .before .before .loop .inv .1
+    let wrong = sym (ap finiteBits (c .before .before .before .word-at .ensures)) ∙ sym (c .before .before .finite-bits .ensures) ∙ c .before .if1 .left in
+    c .new .ensures ∙ sym (samples-wrong ws (at .i) (omega (arith, length-words (start .args .input .now))) wrong) ∙ at .inv .1
 
 returns-2 : tie.Need-returns-2 Inv-loop μ-loop
 returns-2 c =
@@ -45,5 +44,5 @@ returns-2 c =
 pub samples-judged-spec : {M : Type 1} → statement M
 samples-judged-spec =
     tie.close
-    (tie.spec Inv-loop μ-loop loop-holds (λ c κs. omega arith) (λ c. omega arith) (λ c. omega arith) loop-again (λ c κs. omega arith)
+    (tie.spec Inv-loop μ-loop loop-holds (λ c κs. omega arith) (λ c κs. tt) (λ c. omega arith) (λ c. omega arith) loop-again (λ c κs. omega arith)
     returns (λ c κs. omega arith) returns-2)

@@ -11,12 +11,12 @@ use Rattle.context.proofs.message.put_number.Tie as tie
 
 store-requires : tie.Need-store-requires
 store-requires c κs =
-    let start = c .before .before .before in
+    let start = c .before .before .before .before in
     omega (arith, cells-in (start .args .t1) (start .pre .0) (start .pre .1 .0) (start .args .memory .now) (start .pre .1 .1 .1) (start .args .k) (start .pre .1 .1 .0))
 
 returns : tie.Need-returns
 returns c =
-    let start = c .before .before .before .before .before .before in
+    let start = c .before .before .before .before .before .before .before in
     let b = start .args .t1 in
     let m = words (start .args .memory .now) in
     c .before .before .store .ensures
@@ -24,4 +24,4 @@ returns c =
 
 pub put-number-spec : {M : Type 1} → statement M
 put-number-spec =
-    tie.close (tie.spec (λ c. search needs) (λ c. search needs) store-requires (λ c. search needs) returns)
+    tie.close (tie.spec (λ c. search needs) (λ c. search needs) (λ c. search needs) store-requires (λ c. search needs) returns)

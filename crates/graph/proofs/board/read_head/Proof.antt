@@ -12,27 +12,27 @@ use borrow.Author.Needs.{needs}
 use Rattle.graph.proofs.board.read_head.Statement.{statement}
 use Rattle.graph.proofs.board.read_head.Tie as tie
 
-taken : (c : tie.After-read-record) (f : Found) → c .read-record .result ≡ f → takeFound (now (c .before .before .args .s)) 0 (headed 0 0) f ≡ stepOf (now (c .before .before .args .s)) (going 0 0 (headed 0 0))
-taken c f is = step-takes (now (c .before .before .args .s)) 0 0 (headed 0 0) f (sym (c .read-record .ensures) ∙ is)
+taken : (c : tie.After-read-record) (f : Found) → c .read-record .result ≡ f → takeFound (now (c .before .before .before .args .s)) 0 (headed 0 0) f ≡ stepOf (now (c .before .before .before .args .s)) (going 0 0 (headed 0 0))
+taken c f is = step-takes (now (c .before .before .before .args .s)) 0 0 (headed 0 0) f (sym (c .read-record .ensures .0) ∙ is)
 
 head-body-requires : tie.Need-head-body-requires
-head-body-requires c κs = omega (arith, room-of _ _ _ (c .before .before .read-record .ensures) (c .enum-told .given .1) .0)
+head-body-requires c κs = omega (arith, room-of _ _ _ (c .before .before .read-record .ensures .0) (c .enum-told .given .1) .0)
 
 no-head-requires-4 : tie.Need-no-head-requires-4
-no-head-requires-4 c κs = room-of _ _ _ (c .before .before .before .read-record .ensures) (c .before .number .given .1)
+no-head-requires-4 c κs = room-of _ _ _ (c .before .before .before .read-record .ensures .0) (c .before .number .given .1)
 
 returns : tie.Need-returns
 unfolding takeFound
 returns c = head-as (taken (c .before .before .before) Head (c .before .enum-told .given .1)) (c .head-body .ensures)
 
 returns-2 : tie.Need-returns-2
-returns-2 c = absurd (omega (arith, room-of _ _ _ (c .before .before .before .read-record .ensures) (c .before .enum-told2 .given .1) .1))
+returns-2 c = absurd (omega (arith, room-of _ _ _ (c .before .before .before .read-record .ensures .0) (c .before .enum-told2 .given .1) .1))
 
 returns-3 : tie.Need-returns-3
-returns-3 c = absurd (omega (arith, room-of _ _ _ (c .before .before .before .read-record .ensures) (c .before .enum-told3 .given .1) .1))
+returns-3 c = absurd (omega (arith, room-of _ _ _ (c .before .before .before .read-record .ensures .0) (c .before .enum-told3 .given .1) .1))
 
 returns-4 : tie.Need-returns-4
-returns-4 c = absurd (omega (arith, room-of _ _ _ (c .before .before .before .read-record .ensures) (c .before .enum-told4 .given .1) .1))
+returns-4 c = absurd (omega (arith, room-of _ _ _ (c .before .before .before .read-record .ensures .0) (c .before .enum-told4 .given .1) .1))
 
 returns-5 : tie.Need-returns-5
 unfolding takeFound

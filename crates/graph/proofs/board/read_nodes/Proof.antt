@@ -1,7 +1,7 @@
 -- `graph::board::read_nodes` meets its contract. The loop's invariant is `NodesSoFar`, and its measure what is left of the bytes.
 -- Assumes nothing.
-use Prim.Native.Nat.{_+_, _-_, _*_, _≤_}
-use mathlib.Core.Path.{refl}
+use Prim.Native.Nat.{_+_, _-_, _*_, _≤_, _<_}
+use mathlib.Core.Path.{refl, _∙_}
 use native.Mathlib.Omega.{arith}
 use borrow.Author.Needs.{needs}
 use lib.ListN.{length}
@@ -14,22 +14,22 @@ use Rattle.graph.proofs.board.read_nodes.Statement.{statement}
 use Rattle.graph.proofs.board.read_nodes.Tie as tie
 
 abbrev Inv-loop : tie.InvT-loop
-Inv-loop s size nodes₀ count₀ lines₀ values₀ next₀ nodes count lines values next = NodesSoFar s size nodes count lines values next
+Inv-loop s size nodes₀ least₀ top₀ count₀ lines₀ values₀ next₀ nodes least top count lines values next = NodesSoFar s size nodes least top count lines values next
 
 abbrev μ-loop : tie.MeasureT-loop
-μ-loop s size nodes₀ count₀ lines₀ values₀ next₀ nodes count lines values next = length s - next
+μ-loop s size nodes₀ least₀ top₀ count₀ lines₀ values₀ next₀ nodes least top count lines values next = length s - next
 
 loop-holds : tie.Need-loop-holds Inv-loop μ-loop
-loop-holds c = nodes-start _ _ _ refl (c .before .before .pre .1)
+loop-holds c = nodes-start _ _ _ _ _ refl refl refl (c .before .before .pre .1)
 
 node-at-requires : tie.Need-node-at-requires Inv-loop μ-loop
-node-at-requires c κs = c .loop .inv .few-lines
+node-at-requires c κs = (c .loop .inv .few-lines, c .loop .inv .inside)
 
 -- what the node's record says
 here : (c : tie.After-kind Inv-loop μ-loop) →
     let at = c .before .before .before in
     NodeStep (now (at .before .before .before .args .s)) (at .loop .next) (at .loop .count) (at .loop .lines) (node.Is (c .kind .given .0 .0))
-here c = node-here _ _ _ _ _ _ _ (c .before .before .before .loop .inv) (c .before .before .node-at .ensures) (c .kind .given .1)
+here c = node-here _ _ _ _ _ _ _ _ _ (c .before .before .before .loop .inv) (c .before .before .node-at .ensures) (c .kind .given .1)
 
 -- the sums stay small
 samples : (c : tie.After-line-of Inv-loop μ-loop) → c .before .before .before .before .before .before .before .before .before .args .size * c .before .channels-of .result ≤ 256
@@ -40,52 +40,55 @@ samples c =
 few : (c : tie.After-line-of Inv-loop μ-loop) → c .before .before .before .before .before .before .loop .lines + c .line-of .result ≤ 262144
 few c = rw (c .line-of .ensures .0) (here (c .before .before .before) .1 .few-lines)
 
-mul-nodes : tie.Need-mul-nodes Inv-loop μ-loop
-mul-nodes c = omega (arith, here (c .before .before .before) .1 .room)
+room : (c : tie.After-line-of Inv-loop μ-loop) → c .before .before .before .before .before .before .loop .count < 64
+room c = here (c .before .before .before) .1 .room
 
-array-set-from-nodes : tie.Need-array-set-from-nodes Inv-loop μ-loop
-array-set-from-nodes c = here (c .before .before .before) .1 .room
+cast-t17 : tie.Need-cast-t17 Inv-loop μ-loop
+cast-t17 c = let h = c .before .before .before .before .before .before .loop .inv in omega (arith, h .few-values, h .few, h .few-lines)
 
-add-count : tie.Need-add-count Inv-loop μ-loop
-add-count c = omega (arith, here (c .before .before .before) .1 .room)
-
-add-lines : tie.Need-add-lines Inv-loop μ-loop
-add-lines c = omega (arith, few c)
+samples-wide : (c : tie.After-wide Inv-loop μ-loop) → c .before .before .before .before .before .before .before .before .before .before .before .before .args .size * c .wide .result ≤ 256
+samples-wide c = rw (c .wide .ensures) (samples (c .before .before .before))
 
 mul-values : tie.Need-mul-values Inv-loop μ-loop
-mul-values c = omega (arith, samples c)
+mul-values c = omega (arith, samples-wide c)
 
 add-values : tie.Need-add-values Inv-loop μ-loop
-add-values c = omega (arith, samples c)
+add-values c = omega (arith, samples-wide c)
 
 add-values-2 : tie.Need-add-values-2 Inv-loop μ-loop
-add-values-2 c = omega (arith, samples c, few c)
+add-values-2 c = omega (arith, samples-wide c, few (c .before .before .before))
 
 add-values-3 : tie.Need-add-values-3 Inv-loop μ-loop
-add-values-3 c = omega (arith, samples c, few c, c .before .before .before .before .before .before .loop .inv .few-values, c .before .before .before .before .before .before .loop .inv .few)
+add-values-3 c =
+    let h = c .before .before .before .before .before .before .before .before .before .loop .inv in
+    omega (arith, samples-wide c, few (c .before .before .before), h .few-values, h .few)
 
 add-next : tie.Need-add-next Inv-loop μ-loop
-add-next c = omega (arith, c .before .before .before .before .before .before .loop .inv .next-is, c .before .before .before .before .before .before .loop .inv .few)
+add-next c = let h = c .before .before .before .before .before .before .before .before .before .loop .inv in omega (arith, h .next-is, h .few)
 
 loop-less : tie.Need-loop-less Inv-loop μ-loop
-loop-less c = omega (arith, here (c .before .before .before) .2)
+loop-less c = omega (arith, here (c .before .before .before .before .before .before) .2)
 
 loop-again : tie.Need-loop-again Inv-loop μ-loop
-loop-again c = let start = c .before .before .before .before .before .before .before .before .before in
-    rw (c .before .channels-of .ensures, c .line-of .ensures .0) (nodes-more _ _ _ _ _ _ _ (c .before .before .before .before .before .before .loop .inv) (c .before .before .before .kind .given .0 .0) (here (c .before .before .before)) (start .pre .0))
+loop-again c = let line = c .before .before .before in
+    let kind = line .before .before .before in
+    let start = kind .before .before .before .before .before .before in
+    rw (c .wide .ensures, line .before .channels-of .ensures, line .line-of .ensures .0, c .before .before .fewest .ensures, c .before .most .ensures)
+    (nodes-more _ _ _ _ _ _ _ _ _ (kind .before .before .before .loop .inv) (kind .kind .given .0 .0) (here kind) (start .pre .0))
 
 new-requires : tie.Need-new-requires Inv-loop μ-loop
 new-requires c κs = let h = c .before .before .before .before .loop .inv in omega (arith, h .next-is, h .few)
 
 returns : tie.Need-returns Inv-loop μ-loop
 returns c =
-    let at = c .before .before .before .before .before .before in
-    rw (c .new2 .ensures)
-    (nodes-ended _ _ _ _ _ _ _ (at .loop .inv) _ (c .before .new .ensures) (node-here _ _ _ _ _ _ _ (at .loop .inv) (c .before .before .before .before .before .node-at .ensures) (c .before .before .before .number .given .1)))
+    let at = c .before .before .before .before .before in
+    nodes-ended _ _ _ _ _ _ _ _ _ (at .loop .inv) _ (c .new .ensures) (node-here _ _ _ _ _ _ _ _ _ (at .loop .inv) (c .before .before .before .before .node-at .ensures) (c .before .before .number .given .1))
 
 pub read-nodes-spec : {M : Type 1} → statement M
 read-nodes-spec =
     tie.close
     (tie.spec Inv-loop μ-loop (λ c κs. search needs) loop-holds node-at-requires (λ c. search needs) (λ c κs. search needs)
-    (λ c κs. search needs) mul-nodes array-set-from-nodes add-count add-lines mul-values add-values add-values-2 add-values-3
-    add-next loop-less loop-again (λ c. search needs) new-requires (λ c κs. search needs) returns)
+    (λ c κs. search needs) cast-t17 (λ c. omega (arith, room c)) room (λ c κs. search needs) (λ c. room (c .before)) (λ c κs. search needs)
+    (λ c. room (c .before .before)) (λ c. omega (arith, room (c .before .before))) (λ c. omega (arith, few (c .before .before)))
+    (λ c κs. search needs) mul-values add-values add-values-2 add-values-3 add-next loop-less loop-again (λ c. search needs) new-requires
+    returns)

@@ -1,64 +1,115 @@
--- `graph::board::read_wires` meets its contract. The loop's invariant is `WiresSoFar`, and its measure what is left of the bytes.
--- Assumes nothing.
-use Prim.Native.Nat.{_-_}
-use mathlib.Core.Path.{refl}
+-- `graph::board::read_wires` meets its contract. The loop's invariant: the wires passed are those of the definition, and the table is
+-- theirs. The measure is what is left of the bytes. Assumes nothing.
+use Prim.Native.Nat.{ℕ, _+_, _-_, _≤_, _<_}
+use mathlib.Core.Path.{_≡_, sym, _∙_}
+use mathlib.Core.List.{List}
 use native.Mathlib.Omega.{arith}
 use borrow.Author.Needs.{needs}
-use lib.ListN.{length}
+use lib.ListN.{length, getD}
 use denote.Ref.{now}
-use Rattle.graph.specs.declared.board.WireRead.the-variants as wire
-use Rattle.graph.proofs.Parts.{WireStep}
-use Rattle.graph.proofs.Loops.{WiresSoFar, wires-start, wire-here, wires-more, wires-ended}
+use Rattle.leaves.specs.Bytes.{u16At}
+use Rattle.graph.specs.Wires.{wiresOf}
+use Rattle.graph.proofs.Wiring.{wires-stored, wires-length}
+use Rattle.graph.proofs.Tabling.{Tabling, tabling-started, ins-few, counts-few, tabling-more}
+use Rattle.graph.proofs.Parts.{WireHere, wire-here, wire-ends}
+use Rattle.graph.proofs.Loops.{WiresSoFar, wires-start, wires-more, wires-ended}
 use Rattle.graph.proofs.board.read_wires.Statement.{statement}
 use Rattle.graph.proofs.board.read_wires.Tie as tie
 
 abbrev Inv-loop : tie.InvT-loop
-Inv-loop s start i sources₀ targets₀ count₀ next₀ sources targets count next = WiresSoFar s start i sources targets count next
+Inv-loop s start i sources₀ targets₀ counts₀ lists₀ seconds₀ ins₀ count₀ next₀ sources targets counts lists seconds ins count next =
+    WiresSoFar s start i sources targets count next × Tabling (wiresOf sources targets count) counts lists seconds ins
 
 abbrev μ-loop : tie.MeasureT-loop
-μ-loop s start i sources₀ targets₀ count₀ next₀ sources targets count next = length s - next
+μ-loop s start i sources₀ targets₀ counts₀ lists₀ seconds₀ ins₀ count₀ next₀ sources targets counts lists seconds ins count next = length s - next
 
 loop-holds : tie.Need-loop-holds Inv-loop μ-loop
-loop-holds c = wires-start _ _ _ _ _ refl refl (c .before .pre .2)
+loop-holds c =
+    let p = c .before .pre in
+    (wires-start _ _ _ _ _ (p .0 .3) (p .0 .4) (p .0 .2), tabling-started (p .1))
 
-wire-at-requires : tie.Need-wire-at-requires Inv-loop μ-loop
-wire-at-requires c κs = c .before .before .pre .0
+-- a wire stands at the offset
+here : (c : tie.Then1 Inv-loop μ-loop) →
+    let at = c .before .before in
+    WireHere (now (at .before .before .args .s)) (at .loop .next) (at .before .before .args .i) (at .loop .count)
+here c = wire-here _ _ _ _ (sym (c .before .is-wire .ensures) ∙ c .if1 .taken)
 
--- what the wire's record says
-here : (c : tie.After-source Inv-loop μ-loop) →
-    let at = c .before .before .before in
-    WireStep (now (at .before .before .args .s)) (at .loop .next) (at .before .before .args .i) (at .loop .count) (wire.Is (c .source .given .0 .0) (c .source .given .0 .1 .0))
-here c = wire-here _ _ _ _ _ _ _ (c .before .before .before .loop .inv) (c .before .before .wire-at .ensures) (c .source .given .1)
+-- a number below 256 is its low byte
+low : (s : List ℕ) (at n : ℕ) → u16At s at < n → n ≤ 64 → getD s at 0 ≡ u16At s at
+low s at n h few = omega arith
 
-array-write-sources : tie.Need-array-write-sources Inv-loop μ-loop
-array-write-sources c = here (c .before) .1 .room
+source-is : (c : tie.After-wide Inv-loop μ-loop) →
+    let at = c .before .before .before .before .before in
+    let a = at .before .before .args in
+    (getD (now (a .s)) (at .loop .next + 4) 0 ≡ u16At (now (a .s)) (at .loop .next + 4)) × (getD (now (a .s)) (at .loop .next + 6) 0 ≡ u16At (now (a .s)) (at .loop .next + 6))
+source-is c =
+    let at = c .before .before .before .before .before in
+    let start = at .before .before in
+    let fits = here (c .before .before .before) .1 .obeys in
+    let s = now (start .args .s) in
+    let n = at .loop .next in
+    (low s (n + 4) (start .args .i) (fits .source-there) (start .pre .0 .0), low s (n + 6) (start .args .i) (fits .target-there) (start .pre .0 .0))
 
-array-write-targets : tie.Need-array-write-targets Inv-loop μ-loop
-array-write-targets c = here (c .before) .1 .room
+-- the wire's target is a node
+target : (c : tie.After-wide Inv-loop μ-loop) → c .wide .result < 64
+target c =
+    let start = c .before .before .before .before .before .before .before in
+    omega (arith, c .wide .ensures, source-is c .1, here (c .before .before .before) .1 .obeys .target-there, start .pre .0 .0)
 
-add-count : tie.Need-add-count Inv-loop μ-loop
-add-count c = omega (arith, here (c .before) .1 .room)
+room : (c : tie.After-wide Inv-loop μ-loop) → c .before .before .before .before .before .loop .count < 128
+room c = here (c .before .before .before) .1 .room
 
-add-next : tie.Need-add-next Inv-loop μ-loop
-add-next c = omega (arith, c .before .before .before .before .loop .inv .next-is, c .before .before .before .before .loop .inv .few)
+-- the table of the wires so far
+table : (c : tie.After-wide Inv-loop μ-loop) →
+    let at = c .before .before .before .before .before .loop in
+    Tabling (wiresOf (at .sources) (at .targets) (at .count)) (at .counts) (at .lists) (at .seconds) (at .ins)
+table c = c .before .before .before .before .before .loop .inv .1
 
-loop-less : tie.Need-loop-less Inv-loop μ-loop
-loop-less c = omega (arith, here (c .before) .2)
+add-ins : tie.Need-add-ins Inv-loop μ-loop
+add-ins c =
+    let w = c .before .before in
+    let at = w .before .before .before .before .before .loop in
+    omega (arith, ins-few _ _ _ _ _ (table w) (w .wide .result) (target w), wires-length (at .sources) (at .targets) (at .count), room w)
+
+add-source-requires : tie.Need-add-source-requires Inv-loop μ-loop
+add-source-requires c κs =
+    let w = c .before .before .before .before in
+    (omega (arith, target w), counts-few _ _ _ _ _ (table w) (w .wide .result) (target w))
 
 loop-again : tie.Need-loop-again Inv-loop μ-loop
-loop-again c = wires-more _ _ _ _ _ _ _ (c .before .before .before .before .loop .inv) (c .before .source .given .0 .0) (c .before .source .given .0 .1 .0) (here (c .before))
+loop-again c =
+    let w = c .before .before .before .before .before in
+    let at = w .before .before .before .before .before in
+    let so-far = at .loop .inv .0 in
+    let stored = wires-stored (at .loop .sources) (at .loop .targets) (at .loop .count) (getD (now (at .before .before .args .s)) (at .loop .next + 4) 0) (getD (now (at .before .before .args .s)) (at .loop .next + 6) 0)
+    (omega (arith, so-far .sources-long, room w)) (omega (arith, so-far .targets-long, room w)) in (
+      wires-more _ _ _ _ _ _ _ so-far _ _ (source-is w .0) (source-is w .1) (here (w .before .before .before)),
+      rw (stored, ← w .wide .ensures, c .add-source .ensures .0, c .add-source .ensures .1, c .before .before .before .second .ensures)
+          (tabling-more _ _ _ _ _ (table w) (getD (now (at .before .before .args .s)) (at .loop .next + 4) 0) (w .wide .result) (target w)),
+    )
 
 new-requires : tie.Need-new-requires Inv-loop μ-loop
-new-requires c κs = let h = c .before .before .before .before .loop .inv in omega (arith, h .next-is, h .few)
+new-requires c κs =
+    let at = c .before .before .before in
+    omega (arith, at .loop .inv .0 .next-is, at .loop .inv .0 .few, at .before .before .pre .0 .1)
 
 returns : tie.Need-returns Inv-loop μ-loop
 returns c =
-    let at = c .before .before .before .before .before .before in
-    rw (c .new2 .ensures)
-    (wires-ended _ _ _ _ _ _ _ (at .loop .inv) _ (c .before .new .ensures) (wire-here _ _ _ _ _ _ _ (at .loop .inv) (c .before .before .before .before .before .wire-at .ensures) (c .before .before .before .number .given .1)))
+    let at = c .before .before .before .before in
+    let a = at .before .before .args in (
+      wires-ended _ _ _ _ _ _ _ (at .loop .inv .0) _ (rw (c .before .part-end .ensures) at (c .new .ensures))
+          (wire-ends (now (a .s)) (at .loop .next) (a .i) (at .loop .count) (sym (c .before .before .before .is-wire .ensures) ∙ c .before .before .if1 .left)),
+      at .loop .inv .1 .table,
+    )
 
 pub read-wires-spec : {M : Type 1} → statement M
 read-wires-spec =
     tie.close
-    (tie.spec Inv-loop μ-loop loop-holds wire-at-requires (λ c. search needs) array-write-sources array-write-targets add-count
-    add-next loop-less loop-again (λ c. search needs) new-requires (λ c κs. search needs) returns)
+    (tie.spec Inv-loop μ-loop loop-holds (λ c κs. c .loop .inv .0 .inside) (λ c. omega (arith, here c .2)) (λ c. omega (arith, here (c .before) .2))
+    (λ c. omega (arith, here (c .before) .2)) (λ c. omega (arith, here (c .before .before) .2)) (λ c κs. search needs) room room target target
+    (λ c κs. search needs) (λ c. target (c .before .before)) add-ins (λ c. target (c .before .before))
+    (λ c. omega (arith, target (c .before .before .before))) (λ c. target (c .before .before .before)) add-source-requires
+    (λ c. target (c .before .before .before .before .before)) (λ c. omega (arith, room (c .before .before .before .before .before)))
+    (λ c. omega (arith, here (c .before .before .before .before .before .before .before .before) .2))
+    (λ c. omega (arith, here (c .before .before .before .before .before .before .before .before) .2)) loop-again (λ c κs. search needs)
+    new-requires returns)

@@ -1,36 +1,66 @@
 -- `graph::judge::judged` meets its contract: each arm knows the test that the definition makes there. Assumes nothing.
-use mathlib.Core.Path.{_≡_, sym, _∙_}
+use Prim.Native.Nat.{ℕ, _<_}
+use mathlib.Core.Path.{_≡_, sym, ap, subst, _∙_}
+use mathlib.Core.Bool.{true, false}
+use mathlib.Core.List.{List}
 use native.Mathlib.Omega.{arith}
-use lib.ListN.{length, take}
-use Rattle.graph.specs.Read.{parsedOf}
-use Rattle.graph.proofs.Answers.{refused-as}
-use Rattle.graph.proofs.Six.{counted, six-none, six-walked, six-input}
+use borrow.Author.Tests.{not-true, not-false}
+use lib.ListN.{length, getD}
+use Rattle.graph.specs.Board.{Parsed, refused}
+use Rattle.graph.specs.Judge.{passAt, checkSources, checkSix}
+use Rattle.graph.specs.Parts.{AllFit, Counts}
+use Rattle.graph.proofs.Answers.{accepted-as, refused-as}
+use Rattle.graph.proofs.Six.{six-none, six-no-pass, six-entered, six-open, check-all}
 use borrow.Author.Needs.{needs}
 use Rattle.graph.proofs.judge.judged.Statement.{statement}
 use Rattle.graph.proofs.judge.judged.Tie as tie
 
--- the code's count is the list's
-total : (c : tie.Start) → length (take (c .args .board .count) (c .args .board .nodes)) ≡ c .args .board .count
-total c = counted (c .args .board .nodes) (c .args .board .count) (omega (arith, c .pre .nodes-long, c .pre .few-nodes))
+-- the input node is one of the nodes
+there : (c : tie.Else2) → c .before .before .args .input < c .before .before .args .count
+there c = c .before .before .pre .2 (not-false _ (c .if2 .left))
+
+-- a board as the contract speaks of it
+module _ (p : Parsed) (count input : ℕ) (least top counts : List ℕ) (n : length (p .nodes) ≡ count) (i : p .input ≡ input) (h : Counts p least top counts)
+    (some : count ≡ 0 → ⊥) where
+  nodes-some : length (p .nodes) ≡ 0 → ⊥
+  nodes-some e = some (sym n ∙ e)
+
+  no-pass : passAt (p .nodes) input ≡ false → checkSix p ≡ refused 6 input
+  no-pass e = six-no-pass p nodes-some (rw i e) ∙ ap (refused 6) i
+
+  module _ (pass : passAt (p .nodes) input ≡ true) (below : input < count) where
+    entered : (getD counts input 0 ≡ 0 → ⊥) → checkSix p ≡ refused 6 input
+    entered e = six-entered p nodes-some (rw i pass) counts (h .counted (p .input) (omega arith)) (rw i e) ∙ ap (refused 6) i
+
+    open-in : getD counts input 0 ≡ 0 → checkSix p ≡ checkSources p 0 (p .nodes)
+    open-in e = six-open p nodes-some (rw i pass) counts (h .counted (p .input) (omega arith)) (rw i e)
 
 returns : tie.Need-returns
-returns c =
-    six-none (parsedOf (c .before .before .before .args .board)) (total (c .before .before .before) ∙ c .before .if1 .taken) ∙ refused-as _ (c .new .ensures) (omega arith)
+returns c = λ p n i b h. six-none p (n ∙ c .before .if1 .taken) ∙ refused-as _ (c .new .ensures) (omega arith)
 
 returns-2 : tie.Need-returns-2
-returns-2 c =
-    let start = c .before .before .before .before .before in
-    six-walked (parsedOf (start .args .board)) (λ e. c .before .before .before .if1 .left (sym (total start) ∙ e)) (sym (c .before .before .input-fits .ensures) ∙ c .before .if2 .taken)
-    ∙ c .sources-judged .ensures
+returns-2 c = λ p n i b h.
+    no-pass p _ _ _ _ _ n i h (c .before .before .if1 .left) (b ∙ not-true _ (c .before .if2 .taken)) ∙ refused-as _ (c .new2 .ensures) (omega arith)
 
 returns-3 : tie.Need-returns-3
-returns-3 c =
-    let start = c .before .before .before .before .before in
-    six-input (parsedOf (start .args .board)) (λ e. c .before .before .before .if1 .left (sym (total start) ∙ e)) (sym (c .before .before .input-fits .ensures) ∙ c .before .if2 .left)
-    ∙ refused-as _ (c .new2 .ensures) (omega arith)
+returns-3 c = λ p n i b h.
+    let t = c .before .before .before in
+    entered p _ _ _ _ _ n i h (t .before .if1 .left) (b ∙ not-false _ (t .if2 .left)) (there t) (c .before .if3 .taken) ∙ refused-as _ (c .new3 .ensures) (omega arith)
+
+returns-4 : tie.Need-returns-4
+returns-4 c = λ p n i b h.
+    let t = c .before .before .before .before .before in
+    open-in p _ _ _ _ _ n i h (t .before .if1 .left) (b ∙ not-false _ (t .if2 .left)) (there t) (c .before .before .before .if3 .left)
+    ∙ check-all p _ _ _ h (rw n (c .before .before .all-fit .ensures (c .before .if4 .taken))) ∙ accepted-as _ (c .new4 .ensures)
+
+returns-5 : tie.Need-returns-5
+returns-5 c = λ p n i b h.
+    let t = c .before .before .before .before .before in
+    open-in p _ _ _ _ _ n i h (t .before .if1 .left) (b ∙ not-false _ (t .if2 .left)) (there t) (c .before .before .before .if3 .left)
+    ∙ c .sources-judged .ensures p n h
 
 pub judged-spec : {M : Type 1} → statement M
 judged-spec =
     tie.close
-    (tie.spec (λ c κs. search needs) returns (λ c κs. search needs) (λ c κs. search needs) (λ c κs. search needs) returns-2
-    returns-3)
+    (tie.spec (λ c κs. search needs) returns (λ c κs. search needs) returns-2 (λ c. omega (arith, there c)) (λ c κs. search needs) returns-3
+    (λ c κs. search needs) (λ c κs. search needs) (λ c κs. search needs) returns-4 returns-5)

@@ -7,7 +7,7 @@ use lib.ListN.{length, set}
 use lib.Ieee.{Float, binary32, ofBits, toBits}
 use Rattle.leaves.specs.Words.{words, length-words}
 use Rattle.leaves.specs.Floats.{floatAt}
-use Rattle.nodes.specs.Kind.{cellSize}
+use Rattle.nodes.specs.Kind.{cellSize, samplesFrom, numberIndex}
 use Rattle.nodes.specs.Rule.{allPass}
 use Rattle.nodes.specs.Block.{sample, alone}
 use Rattle.nodes.specs.Ring.{stretchValues}
@@ -28,14 +28,14 @@ abbrev μ-loop : tie.MeasureT-loop
 -- a turn: what it reads, its output and its three stores
 turn : (n size place done i : ℕ) (f : Float) (x : List Float) (ws vs us ts rs : List ℕ) (g a b o : Float) (y : ℕ)
     → vs ≡ stretchValues (AllPass n f) size (alone x) place done i ws
-    → a ≡ floatAt vs (3 + size + place + i)
-    → b ≡ floatAt vs (3 + size + place + n + i)
+    → a ≡ floatAt vs (samplesFrom + size + place + i)
+    → b ≡ floatAt vs (samplesFrom + size + place + n + i)
     → o ≡ allPass g (sample x (done + i)) a b
     → y ≡ toBits binary32 o
-    → us ≡ set vs (3 + size + place + i) (toBits binary32 (sample x (done + i)))
-    → ts ≡ set us (3 + size + place + n + i) y
-    → rs ≡ set ts (3 + done + i) y
-    → g ≡ floatAt ws 0 → length ws ≡ cellSize size (AllPass n f) → place + i < n → done + i < size
+    → us ≡ set vs (samplesFrom + size + place + i) (toBits binary32 (sample x (done + i)))
+    → ts ≡ set us (samplesFrom + size + place + n + i) y
+    → rs ≡ set ts (samplesFrom + done + i) y
+    → g ≡ floatAt ws numberIndex → length ws ≡ cellSize size (AllPass n f) → place + i < n → done + i < size
     → rs ≡ stretchValues (AllPass n f) size (alone x) place done (i + 1) ws
 turn n size place done i f x ws vs us ts rs g a b o y e e-a e-b e-o e-y e-us e-ts e-rs e-g long in-ring in-block =
     all-pass-then n f size (alone x) ws place done i (done + i) _ y _ _ _ vs us ts rs e e-us e-ts e-rs refl (λ q c h v.

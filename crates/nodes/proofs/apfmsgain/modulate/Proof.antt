@@ -10,7 +10,7 @@ use Rattle.leaves.specs.Floats.{floatAt}
 use Rattle.leaves.specs.Floors.{floorOf}
 use Rattle.leaves.specs.Position.{positionOf, restOf}
 use Rattle.leaves.proofs.Floors.{upto-more, floor-le}
-use Rattle.nodes.specs.Kind.{cellSize}
+use Rattle.nodes.specs.Kind.{cellSize, samplesFrom, numberIndex}
 use Rattle.nodes.specs.Rule.{allPass, between, tap, get}
 use Rattle.nodes.specs.Block.{sample, pair}
 use Rattle.nodes.specs.Ring.{wrapOf, stretchValues}
@@ -26,21 +26,21 @@ sample-by : (n size place i : ℕ) (f : Float) (x m : List Float) (ws us ts rs :
     → (index ≡ floorOf pos) × (rest ≡ restOf pos)
     → (older ≡ (place + index) % n) × (older < n)
     → newer ≡ wrapOf (older + 1) n
-    → a ≡ between (floatAt ws (3 + size + older)) (floatAt ws (3 + size + newer)) rest
-    → b ≡ between (floatAt ws (3 + size + n + older)) (floatAt ws (3 + size + n + newer)) rest
+    → a ≡ between (floatAt ws (samplesFrom + size + older)) (floatAt ws (samplesFrom + size + newer)) rest
+    → b ≡ between (floatAt ws (samplesFrom + size + n + older)) (floatAt ws (samplesFrom + size + n + newer)) rest
     → o ≡ allPass g (sample x i) a b
     → y ≡ toBits binary32 o
-    → us ≡ set ws (3 + size + place) (toBits binary32 (sample x i))
-    → ts ≡ set us (3 + size + n + place) y
-    → rs ≡ set ts (3 + i) y
-    → g ≡ floatAt ws 0 → length ws ≡ cellSize size (AllPass n f) → place < n → i < size
+    → us ≡ set ws (samplesFrom + size + place) (toBits binary32 (sample x i))
+    → ts ≡ set us (samplesFrom + size + n + place) y
+    → rs ≡ set ts (samplesFrom + i) y
+    → g ≡ floatAt ws numberIndex → length ws ≡ cellSize size (AllPass n f) → place < n → i < size
     → rs ≡ stretchValues (AllPass n f) size (pair x m) place i 1 ws
 sample-by n size place i f x m ws us ts rs g a b o pos rest index older newer y e-pos e-at e-older e-newer e-a e-b e-o e-y e-us e-ts e-rs e-g long in-ring in-block =
     all-pass-then n f size (pair x m) ws place i 0 i _ y _ _ _ ws us ts rs (stretch-none (AllPass n f) n (all-pass-ring n f) size (pair x m) ws long place i)
     e-us e-ts e-rs refl (λ q c h v.
     let s = c .state in
     let here : place ≡ s .place = omega (arith, h .place) in
-    let read : (from at : ℕ) (z : Float) → at ≡ 3 + size + from
+    let read : (from at : ℕ) (z : Float) → at ≡ samplesFrom + size + from
     → z ≡ between (floatAt ws (at + older)) (floatAt ws (at + newer)) rest → z ≡ tap n (pair x m i) (get n from s) =
     λ from at z e-from e-z.
     e-z
@@ -51,7 +51,7 @@ sample-by n size place i f x m ws us ts rs g a b o pos rest index older newer y 
     e-y
     ∙ ap (toBits binary32)
     (e-o ∙ all-pass-reads n f s (pair x m i) g a b (e-g ∙ ap (ofBits binary32) (sym (h .number)))
-    (read 0 (3 + size) a (omega arith) e-a) (read n (3 + size + n) b refl e-b)))
+    (read 0 (samplesFrom + size) a (omega arith) e-a) (read n (samplesFrom + size + n) b refl e-b)))
     long (omega arith) in-block (omega arith) (omega arith) (omega arith) refl
 
 split-requires : tie.Need-split-requires

@@ -17,5 +17,5 @@ value-fits-spec =
     tie.close
     (next3 tie.spec (search needs)
     (λ c. let a = c .before .before .args in c .finite .ensures ∙ arm (λ k. finiteF (a .x) ≡ valueFits k (a .x)) (4 ∷ 5 ∷ 7 ∷ []) (a .kind) (c .before .match .keys1) (search needs))
-    (λ c. c .within .ensures ∙ simp (c .before .enum-told .given .1))
+    (λ c. c .is-frequency .ensures ∙ simp (c .before .enum-told .given .1))
     (λ c. let a = c .before .args in arm (λ k. false ≡ valueFits k (a .x)) (0 ∷ 1 ∷ 2 ∷ 3 ∷ 6 ∷ 8 ∷ []) (a .kind) (c .match .keys3) (search needs)))

@@ -6,7 +6,7 @@ use native.Mathlib.Omega.{arith}
 use lib.ListN.{length, getD, set}
 use lib.Ieee.{Float, binary32, ofBits, toBits}
 use Rattle.leaves.specs.Words.{words, length-words}
-use Rattle.nodes.specs.Kind.{cellSize}
+use Rattle.nodes.specs.Kind.{cellSize, samplesFrom}
 use Rattle.nodes.specs.Block.{sample, alone}
 use Rattle.nodes.specs.Ring.{stretchValues}
 use Rattle.nodes.specs.declared.kind.NodeKind.the-variants.{Delay}
@@ -18,7 +18,7 @@ use Rattle.nodes.proofs.delayn.push.Tie as tie
 abbrev Inv-loop : tie.InvT-loop
 Inv-loop cell₀ size place x done count at i₀ cell i =
     (i ≤ count) × (length cell ≡ length cell₀)
-    × ((n : ℕ) → length cell₀ ≡ 4 * (3 + size + n) → words cell ≡ stretchValues (Delay n) size (alone x) place done i (words cell₀))
+    × ((n : ℕ) → length cell₀ ≡ 4 * (samplesFrom + size + n) → words cell ≡ stretchValues (Delay n) size (alone x) place done i (words cell₀))
 
 abbrev μ-loop : tie.MeasureT-loop
 μ-loop cell₀ size place x done count at i₀ cell i = count - i
@@ -26,20 +26,20 @@ abbrev μ-loop : tie.MeasureT-loop
 -- the two stores of a turn, `old` being what was read before them
 turn : (n size place done i : ℕ) (x : List Float) (ws vs us ts : List ℕ) (old out : ℕ)
     → vs ≡ stretchValues (Delay n) size (alone x) place done i ws
-    → old ≡ getD vs (3 + size + place + i) 0
-    → us ≡ set vs (3 + size + place + i) (toBits binary32 (sample x (done + i)))
+    → old ≡ getD vs (samplesFrom + size + place + i) 0
+    → us ≡ set vs (samplesFrom + size + place + i) (toBits binary32 (sample x (done + i)))
     → out ≡ toBits binary32 (ofBits binary32 old)
-    → ts ≡ set us (3 + done + i) out
+    → ts ≡ set us (samplesFrom + done + i) out
     → length ws ≡ cellSize size (Delay n) → place + i < n → done + i < size
     → ts ≡ stretchValues (Delay n) size (alone x) place done (i + 1) ws
 turn n size place done i x ws vs us ts old out e e-old e-us e-out e-ts long a b =
     stretch-then (Delay n) n (delay-ring n) size (alone x) ws long place done i (done + i) a refl vs ts e (λ q c h v.
-    let at : 3 + size + place + i ≡ 3 + size + c .state .place = omega (arith, h .place) in
-    let to : 3 + done + i ≡ 3 + (done + i) = omega arith in
+    let at : samplesFrom + size + place + i ≡ samplesFrom + size + c .state .place = omega (arith, h .place) in
+    let to : samplesFrom + done + i ≡ samplesFrom + (done + i) = omega arith in
     let reads : old ≡ getD (c .state .line) (c .state .place) 0 = e-old ∙ line-at size q c (h .samples) vs v (c .state .place) _ at in
     let gives = delay-reads n (c .state) (alone x (done + i)) (omega (arith, h .place)) in
     e-ts
-    ∙ ap (λ (l : List ℕ). set l (3 + done + i) out) e-us
+    ∙ ap (λ (l : List ℕ). set l (samplesFrom + done + i) out) e-us
     ∙ delay-turn size q c (h .samples) vs v (alone x) (done + i) b _ _ at to n _ out refl
     (e-out ∙ ap (toBits binary32) (ap (ofBits binary32) reads ∙ gives)))
 

@@ -13,5 +13,5 @@ is-destination-spec =
     tie.close
     (tie.spec
     (λ c. search needs)
-    (λ c. search needs)
+    (λ c. simp (c .enum-told .given .1))
     (λ c. arm (λ k. false ≡ isDestination k) (0 ∷ 1 ∷ 3 ∷ 4 ∷ 5 ∷ 6 ∷ 7 ∷ 8 ∷ 9 ∷ []) (c .before .args .k) (c .match .keys2) (search needs)))

@@ -13,5 +13,5 @@ is-pass-spec =
     tie.close
     (tie.spec
     (λ c. search needs)
-    (λ c. search needs)
+    (λ c. simp (c .enum-told .given .1))
     (λ c. arm (λ k. false ≡ isPass k) (1 ∷ 2 ∷ 3 ∷ 4 ∷ 5 ∷ 6 ∷ 7 ∷ 8 ∷ 9 ∷ []) (c .before .args .k) (c .match .keys2) (search needs)))

@@ -1,11 +1,10 @@
 -- `nodes::kind::sources_fit` meets its contract. Assumes nothing.
 use borrow.Author.Needs.{needs}
-use Rattle.nodes.proofs.Answers.{next2}
 use Rattle.nodes.proofs.kind.sources_fit.Statement.{statement}
 use Rattle.nodes.proofs.kind.sources_fit.Tie as tie
 
 returns : tie.Need-returns
-returns c = simp (c .before .fewest .ensures, c .most .ensures)
+returns c = simp (c .before .before .before .fewest .ensures, c .before .before .wide .ensures, c .before .most .ensures, c .wide2 .ensures)
 
 pub sources-fit-spec : {M : Type 1} → statement M
-sources-fit-spec = tie.close (next2 tie.spec (search needs) returns)
+sources-fit-spec = tie.close (tie.spec (λ c κs. search needs) (λ c κs. search needs) (λ c κs. search needs) (λ c κs. search needs) returns)

@@ -74,7 +74,7 @@ returns c =
     let s = c .before .before .before .before .before .before in
     let x = now (s .args .x) in
     let e = c .total .ensures in
-    done s (c .before .before .enum-told .given .1) (summed s (lefts s) x (s .pre .0 .3) e) (summed-long s (lefts s) x (s .pre .0 .3) e, refl)
+    done s (c .before .before .enum-told .given .1) (λ i h. (summed s (lefts s) x (s .pre .0 .3) e i h, λ two. absurd (omega arith))) (summed-long s (lefts s) x (s .pre .0 .3) e, refl)
 
 returns-2 : tie.Need-returns-2
 returns-2 c =
@@ -85,7 +85,7 @@ returns-2 c =
     let e = c .before .before .total2 .ensures in
     let f = c .total3 .ensures in
     done s (c .before .before .before .before .enum-told2 .given .1)
-    (λ i h. (summed s (lefts s) x (s .pre .0 .3) e i h, summed s rights m (s .pre .0 .4) f i h))
+    (λ i h. (summed s (lefts s) x (s .pre .0 .3) e i h, λ two. summed s rights m (s .pre .0 .4) f i h))
     (summed-long s (lefts s) x (s .pre .0 .3) e, summed-long s rights m (s .pre .0 .4) f)
 
 returns-3 : tie.Need-returns-3

@@ -11,7 +11,7 @@ use Rattle.nodes.specs.Kind.{cellSize}
 use Rattle.nodes.specs.Cell.{cellFits, runValues}
 use Rattle.nodes.specs.Node.{broughtAt, nodeRun}
 use borrow.Author.Needs.{needs}
-use Rattle.nodes.proofs.Answers.{next7}
+use Rattle.nodes.proofs.Answers.{next8}
 use Rattle.nodes.proofs.node.step.Statement.{statement}
 use Rattle.nodes.proofs.node.step.Tie as tie
 
@@ -47,4 +47,4 @@ returns c =
     )
 
 pub step-spec : {M : Type 1} → statement M
-step-spec = tie.close (next7 (tie.spec (λ c κs. search needs)) (search needs) run-cell-requires (λ c. search needs) returns)
+step-spec = tie.close (next8 (tie.spec (λ c κs. search needs)) (search needs) run-cell-requires (λ c. search needs) returns)

@@ -12,7 +12,7 @@ use Rattle.leaves.specs.Words.{words, length-words}
 use Rattle.leaves.specs.Floats.{floatAt, setFloat}
 use Rattle.leaves.specs.OnePole.{onePoleOf, onePoleStep}
 use Rattle.leaves.specs.declared.onepole.OnePole.{OnePole}
-use Rattle.nodes.specs.Kind.{cellSize}
+use Rattle.nodes.specs.Kind.{cellSize, samplesFrom, numberIndex, carryIndex}
 use Rattle.nodes.specs.Rule.{leftOf, keeps, carryAfter, placeAfter, lineAfter, sampleBy, stateBy}
 use Rattle.nodes.specs.Cell.{Cell, putFrame, frameAt, stepCell}
 use Rattle.nodes.specs.Block.{sample, alone}
@@ -43,20 +43,20 @@ abbrev Runs : Float → ℕ → List Float → List ℕ → ℕ → List ℕ →
 Runs b N x ws₀ i ws p = (p ≡ onePoleOf b (p .y1)) × Carrying (kinds.OnePole b) N (alone x) ws₀ i ws (p .y1)
 
 module _ (b : Float) (N : ℕ) (x : List Float) (ws₀ : List ℕ) (long : length ws₀ ≡ cellSize N (kinds.OnePole b)) where
-  runs-none : (v : Float) (p : OnePole) → v ≡ floatAt ws₀ 1 → p ≡ onePoleOf b v → Runs b N x ws₀ 0 ws₀ p
+  runs-none : (v : Float) (p : OnePole) → v ≡ floatAt ws₀ carryIndex → p ≡ onePoleOf b v → Runs b N x ws₀ 0 ws₀ p
   unfolding onePoleOf
   runs-none v p ev ep =
       let y : p .y1 ≡ v = ap (λ (q : OnePole). q .y1) ep in
       (ep ∙ ap (onePoleOf b) (sym y), carrying-none (kinds.OnePole b) N (alone x) ws₀ long (p .y1) (y ∙ ev))
 
-  runs-more : (i : ℕ) (ws ws′ : List ℕ) (p q : OnePole) → i < N → q ≡ onePoleStep p (sample x i) → ws′ ≡ setFloat ws (3 + i) (q .y1)
+  runs-more : (i : ℕ) (ws ws′ : List ℕ) (p q : OnePole) → i < N → q ≡ onePoleStep p (sample x i) → ws′ ≡ setFloat ws (samplesFrom + i) (q .y1)
       → Runs b N x ws₀ i ws p → Runs b N x ws₀ (i + 1) ws′ q
   runs-more i ws ws′ p q h eq es r =
       let e : q ≡ onePoleStep (onePoleOf b (p .y1)) (sample x i) = eq ∙ ap (λ (o : OnePole). onePoleStep o (sample x i)) (r .0) in
-      let y : q .y1 ≡ output b x i (floatAt ws₀ 0) (p .y1) = ap (λ (o : OnePole). o .y1) e in (
+      let y : q .y1 ≡ output b x i (floatAt ws₀ numberIndex) (p .y1) = ap (λ (o : OnePole). o .y1) e in (
         e ∙ same-coefficients b (p .y1) (sample x i) ∙ ap (onePoleOf b) (sym y),
-        carrying-more (kinds.OnePole b) N (alone x) ws₀ (output b x) (output b x) (rule b N x) i ws ws′ (floatAt ws₀ 0) (p .y1) (q .y1)
-            long (omega arith) refl (output-fits b x i (floatAt ws₀ 0) (p .y1)) (es ∙ ap (setFloat ws (3 + i)) y) y (r .1),
+        carrying-more (kinds.OnePole b) N (alone x) ws₀ (output b x) (output b x) (rule b N x) i ws ws′ (floatAt ws₀ numberIndex) (p .y1) (q .y1)
+            long (omega arith) refl (output-fits b x i (floatAt ws₀ numberIndex) (p .y1)) (es ∙ ap (setFloat ws (samplesFrom + i)) y) y (r .1),
       )
 
 abbrev Inv-loop : tie.InvT-loop

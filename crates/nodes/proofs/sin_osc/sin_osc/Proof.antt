@@ -9,11 +9,11 @@ use lib.ListN.{length}
 use lib.Ieee.{Float}
 use Rattle.leaves.specs.Words.{words, length-words}
 use Rattle.leaves.specs.Floats.{floatAt, setFloat}
-use Rattle.leaves.specs.Floors.{whole, within}
+use Rattle.leaves.specs.Floors.{f1, f44100, within}
 use Rattle.leaves.specs.Phase.{increment, advance, phaseAfter}
 use Rattle.leaves.specs.Sine.{sineOf, phaseUnits, over23}
 use Rattle.leaves.proofs.PhaseStep.{phase-stays, phase-fits}
-use Rattle.nodes.specs.Kind.{cellSize}
+use Rattle.nodes.specs.Kind.{cellSize, samplesFrom, numberIndex, carryIndex}
 use Rattle.nodes.specs.Rule.{leftOf, keeps, carryAfter, placeAfter, lineAfter, sampleBy, stateBy}
 use Rattle.nodes.specs.Cell.{Cell, putFrame, frameAt, stepCell}
 use Rattle.nodes.specs.Block.{nothing}
@@ -36,22 +36,22 @@ rule f N i c = refl
 
 -- the phase is from 0 to 1, and the values and the phase are those of place i
 abbrev Runs : ℕ → List ℕ → ℕ → List ℕ → Float → Type 0
-Runs N ws₀ i ws v = T (within (whole 1 0) v) × ((f : Float) → Carrying (Sine f) N nothing ws₀ i ws v)
+Runs N ws₀ i ws v = T (within f1 v) × ((f : Float) → Carrying (Sine f) N nothing ws₀ i ws v)
 
 module _ (N : ℕ) (ws₀ : List ℕ) (long : (f : Float) → length ws₀ ≡ cellSize N (Sine f)) where
-  runs-none : (v : Float) → v ≡ floatAt ws₀ 1 → T (within (whole 1 0) (floatAt ws₀ 1)) → Runs N ws₀ 0 ws₀ v
-  runs-none v e h = (subst (λ (x : Float). T (within (whole 1 0) x)) (sym e) h, λ f. carrying-none (Sine f) N nothing ws₀ (long f) v e)
+  runs-none : (v : Float) → v ≡ floatAt ws₀ carryIndex → T (within f1 (floatAt ws₀ carryIndex)) → Runs N ws₀ 0 ws₀ v
+  runs-none v e h = (subst (λ (x : Float). T (within f1 x)) (sym e) h, λ f. carrying-none (Sine f) N nothing ws₀ (long f) v e)
 
-  module _ (by : Float) (eb : by ≡ increment (floatAt ws₀ 0)) (band : T (within (whole 11025 2) (floatAt ws₀ 0))) where
-    runs-more : (i : ℕ) (ws ws′ : List ℕ) (y v v′ : Float) → i < N → y ≡ over23 (sineOf (phaseUnits v)) → ws′ ≡ setFloat ws (3 + i) y → v′ ≡ advance v by
+  module _ (by : Float) (eb : by ≡ increment (floatAt ws₀ numberIndex)) (band : T (within f44100 (floatAt ws₀ numberIndex))) where
+    runs-more : (i : ℕ) (ws ws′ : List ℕ) (y v v′ : Float) → i < N → y ≡ over23 (sineOf (phaseUnits v)) → ws′ ≡ setFloat ws (samplesFrom + i) y → v′ ≡ advance v by
         → Runs N ws₀ i ws v → Runs N ws₀ (i + 1) ws′ v′
     runs-more i ws ws′ y v v′ h ey es ev r =
-        let g = floatAt ws₀ 0 in
+        let g = floatAt ws₀ numberIndex in
         let e : v′ ≡ phaseAfter g v = ev ∙ ap (advance v) eb in (
-          subst (λ (x : Float). T (within (whole 1 0) x)) (sym e) (phase-stays g v band (r .0)),
+          subst (λ (x : Float). T (within f1 x)) (sym e) (phase-stays g v band (r .0)),
           λ f.
               carrying-more (Sine f) N nothing ws₀ heard turned (rule f N) i ws ws′ g v v′ (long f) (omega arith) refl (phase-fits g v)
-              (es ∙ ap (setFloat ws (3 + i)) ey) e (r .1 f),
+              (es ∙ ap (setFloat ws (samplesFrom + i)) ey) e (r .1 f),
         )
 
 abbrev Inv-loop : tie.InvT-loop
@@ -73,7 +73,7 @@ loop-again c =
     let start = begun .before .before .before .before in
     let cell = start .args .cell .now in
     let long : (f : Float) → length (words cell) ≡ cellSize (start .args .size) (Sine f) = λ f. omega (arith, length-words cell) in
-    let by : begun .increment .result ≡ increment (floatAt (words cell) 0) = begun .increment .ensures ∙ ap increment (begun .before .load .ensures) in (
+    let by : begun .increment .result ≡ increment (floatAt (words cell) numberIndex) = begun .increment .ensures ∙ ap increment (begun .before .load .ensures) in (
       search needs,
       search needs,
       runs-more (start .args .size) (words cell) long (begun .increment .result) by (start .pre .1 .0)

@@ -1,12 +1,10 @@
--- `plate::plate::put_plate` meets its contract: its five runs of stores are one, over the whole of the lent bytes. Assumes nothing.
-use mathlib.Core.Path.{_≡_, refl, sym, ap, _∙_}
-use mathlib.Core.List.{_++_, append-assoc}
+-- `plate::plate::put_plate` meets its contract: its four runs of stores are one, over the whole of the lent bytes. Assumes nothing.
+use mathlib.Core.Path.{_≡_, refl, sym, _∙_}
+use mathlib.Core.List.{_++_}
 use Prim.Native.Nat.{_+_}
 use native.Mathlib.Omega.{arith}
 use lib.ListN.{length, length-append}
-use lib.Seq.{sets}
 use denote.Ref.{now}
-use Rattle.leaves.specs.Bytes.{u16Bytes}
 use Rattle.graph.specs.Write.{headBytes, nodesBytes, wiresBytes, endBytes, writeBoard}
 use Rattle.plate.specs.Plate.{plateNodes, plateWires}
 use Rattle.graph.proofs.Stores.{next, sets-all}
@@ -18,26 +16,21 @@ use Rattle.plate.proofs.plate.put_plate.Tie as tie
 returns : tie.Need-returns
 unfolding writeBoard
 returns c =
-    let start = c .before .before .before .before .before .before .before .before .before .before .before .before .before .before .before .before .before .before .before .before .before in
+    let start = c .before .before .before .before .before .before .before .before .before .before .before .before .before .before .before .before .before in
     let l = now (start .args .board) in
     let head = headBytes (start .args .size) 2 in
     let nodes = nodesBytes (plateNodes (start .args .mix) (start .args .dry)) in
     let wires = wiresBytes plateWires in
     let n : 0 + length (head ++ nodes) ≡ 722 = simp length-append (omega (arith, nodes-long (start .args .mix) (start .args .dry))) in
     let w : 0 + length (head ++ nodes ++ wires) ≡ 1266 = simp length-append (omega (arith, nodes-long (start .args .mix) (start .args .dry), wires-long)) in
-    let e : 0 + length (head ++ nodes ++ wires ++ u16Bytes 4) ≡ 1268 = simp length-append (omega (arith, nodes-long (start .args .mix) (start .args .dry), wires-long)) in
-    next l 0 1268 (head ++ nodes ++ wires ++ u16Bytes 4) (u16Bytes 4) e
-    (next l 0 1266 (head ++ nodes ++ wires) (u16Bytes 4) w
+    next l 0 1266 (head ++ nodes ++ wires) endBytes w
     (next l 0 722 (head ++ nodes) wires n
-    (next l 0 8 head nodes refl (c .before .before .before .before .before .before .before .before .before .before .before .before .before .before .before .before .before .before .put-four .ensures) (c .before .before .before .before .before .before .before .before .before .before .before .before .before .before .put-nodes .ensures))
-    (c .before .before .before .before .before .before .before .before .before .before .put-wires .ensures))
-    (c .before .before .before .before .before .before .put-u16 .ensures))
-    (c .before .before .put-u162 .ensures)
-    ∙ ap (sets l 0) (append-assoc (head ++ nodes ++ wires) (u16Bytes 4) (u16Bytes 4))
+    (next l 0 8 head nodes refl (c .before .before .before .before .before .before .before .before .before .before .before .before .before .before .put-head .ensures) (c .before .before .before .before .before .before .before .before .before .before .put-nodes .ensures))
+    (c .before .before .before .before .before .before .put-wires .ensures))
+    (c .before .before .put-end .ensures)
     ∙ sets-all l (head ++ nodes ++ wires ++ endBytes) (plate-long (start .args .size) (start .args .mix) (start .args .dry) ∙ sym (start .pre))
 
 pub put-plate-spec : {M : Type 1} → statement M
 put-plate-spec =
     tie.close
-    (tie.spec (λ c κs. search needs) (λ c κs. search needs) (λ c κs. search needs) (λ c κs. search needs) (λ c κs. search needs)
-    (λ c. search needs) returns)
+    (tie.spec (λ c κs. search needs) (λ c κs. search needs) (λ c κs. search needs) (λ c κs. search needs) (λ c. search needs) returns)

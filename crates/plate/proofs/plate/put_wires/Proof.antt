@@ -30,7 +30,7 @@ loop-again c =
     let i = c .before .before .before .before .before .loop .i in
     let inv = c .before .before .before .before .before .loop .inv in
     let m = c .before .before .before .before .before .loop .board in
-    let put = c .before .before .put-four in
+    let put = c .before .before .put-wire in
     let at = 722 + 8 * i in
     let room : i < length plateWires = omega arith in (
       omega arith,

@@ -6,7 +6,7 @@ use native.Mathlib.Omega.{arith}
 use borrow.Author.Needs.{needs}
 use borrow.Author.Tests.{lt-ltb, le-ltb}
 use lib.Dec.{ltb}
-use lib.ListN.{length, drop}
+use lib.ListN.{drop}
 use Rattle.text.specs.Number.{hexFrom}
 use Rattle.text.proofs.Reading.{hex-more, hex-stop, hex-end, bits-long, bits-short, hex-room, hex-grow}
 use Rattle.text.proofs.number.bits_of.Statement.{statement}

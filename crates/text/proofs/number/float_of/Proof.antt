@@ -1,21 +1,28 @@
--- `text::number::float_of` meets its contract: a word that starts with `x` is read as bits. Assumes nothing.
-use native.Mathlib.Omega.{arith}
+-- `text::number::float_of` meets its contract, by the first byte. Assumes nothing.
+use borrow.Author.Tests.{eq-eqb, ne-eqb}
+use Rattle.text.specs.Number.{floatOf}
+use Rattle.text.proofs.Reading.{float-empty}
 use borrow.Author.Needs.{needs}
-use Rattle.text.proofs.Reading.{bits-short}
 use Rattle.text.proofs.number.float_of.Statement.{statement}
 use Rattle.text.proofs.number.float_of.Tie as tie
 
 returns : tie.Need-returns
-returns c = λ e. bits-short _ (λ n. omega arith)
+returns c = float-empty _ (c .if1 .taken)
+
+returns-2 : tie.Need-returns-2
+unfolding floatOf
+returns-2 c = rw (eq-eqb _ 120 (c .before .if2 .taken)) (c .bits-of .ensures)
 
 returns-3 : tie.Need-returns-3
-returns-3 c = λ e. absurd (omega arith)
+unfolding floatOf
+returns-3 c = rw (ne-eqb _ 120 (c .before .before .before .if2 .left), eq-eqb _ 45 (c .before .if3 .taken)) (c .decimal-at .ensures)
 
 returns-4 : tie.Need-returns-4
-returns-4 c = λ e. absurd (omega arith)
+unfolding floatOf
+returns-4 c = rw (ne-eqb _ 120 (c .before .before .before .if2 .left), ne-eqb _ 45 (c .before .if3 .left)) (c .decimal-at2 .ensures)
 
 pub float-of-spec : {M : Type 1} → statement M
 float-of-spec =
     tie.close
-    (tie.spec returns (λ c. search needs) (λ c κs. search needs) (λ c. search needs) (λ c. search needs)
-    (λ c κs. search needs) returns-3 (λ c κs. search needs) returns-4)
+    (tie.spec returns (λ c. search needs) (λ c κs. search needs) returns-2 (λ c. search needs) (λ c κs. search needs)
+    returns-3 (λ c κs. search needs) returns-4)

@@ -48,8 +48,8 @@ module _ (c : tie.Then2) where
   long : 4 ≤ c .before .before .before .before .before .before .before .args .n
   long = omega (arith, read-long board small (accepted .0) (accepted .1), length-take-le (c .before .before .before .before .before .before .before .args .n) lent (omega (arith, room (c .before .before .before .before))))
 
-put-wire-requires : tie.Need-put-wire-requires
-put-wire-requires c κs = omega (arith, room (c .before .before .before .before .before), long (c .before))
+put-last-requires : tie.Need-put-last-requires
+put-last-requires c κs = omega (arith, room (c .before .before .before .before .before), long (c .before))
 
 returns-2 : tie.Need-returns-2
 unfolding addOf
@@ -62,7 +62,7 @@ returns-2 c =
     let done = lent-done (lent then) (a .n + 8) (addedBoard x y (board then)) (sym (then .before .before .before .before .before .too-short .ensures) ∙ then .before .before .before .before .if1 .left)
     (sym (ap (λ (r : Wiring). r .number) (then .before .before .added .ensures)) ∙ then .if2 .taken) in (
       then .before .before .added .ensures ∙ sym (ap (λ (d : Wiring × List ℕ). d .0) done),
-      c .before .before .put-wire .ensures
+      c .before .before .put-last .ensures
           ∙ sym (ap (λ (d : Wiring × List ℕ). d .1) done
           ∙ ap (λ (d : Wiring × List ℕ). inFront (d .1) (lent then)) (added-whole (board then) x y (p .0) (p .1))
           ∙ added-front (lent then) (a .n) x y (room (then .before .before .before .before)) (long then) (read-ends (board then) (small then) (p .0) (p .1))),
@@ -87,7 +87,7 @@ add-wire-spec =
     (λ c. let a = c .before .before .before .before .args in sym (length-take-le (a .n) (a .bytes .now) (omega (arith, room (c .before)))))
     (λ c κs. search needs)
     (λ c. long (c .before))
-    put-wire-requires
+    put-last-requires
     (λ c. search needs)
     returns-2
     (λ c. search needs)
