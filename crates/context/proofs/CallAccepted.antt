@@ -1,6 +1,6 @@
 -- What an accepted block run knows, on the board as the code holds it.
 --     words-paste       the words of bytes with a part replaced
---     Checked, block-checked    what the checks behind 6 say where they pass
+--     Checked           what the checks behind 6 say where they pass
 --     board-table, board-gathered    the sources as the visiting list asks for them
 --     AcceptedRun       an accepted call; few-bytes, input-room, output-room: its memory is small, and the blocks lie within it
 --     input-put, input-runs    the input block put, and what the run of the listed nodes then asks
@@ -15,20 +15,19 @@ use Rattle.leaves.specs.Words.{words, length-words, words-append, words-take, w
 use Rattle.nodes.specs.Kind.{cellSize}
 use Rattle.nodes.specs.declared.kind.NodeRecord.{NodeRecord}
 use Rattle.graph.specs.Board.{Parsed, cellsOf, memoryLength}
-use Rattle.graph.specs.Judge.{readBoard}
+use Rattle.graph.specs.Formed.{TableAt}
 use Rattle.graph.specs.Visit.{Lists}
 use Rattle.graph.specs.Walking.{Table, Gathered}
 use Rattle.context.specs.Memory.{nodeIn, nodeAt, kindAt, putInput}
-use Rattle.context.specs.Calls.{andThen, checkMemory, checkBlocks, checkSamples, checkBlock, listed}
-use Rattle.graph.specs.Read.{parsedOf, Read}
+use Rattle.context.specs.Calls.{andThen, checkBlocks, checkSamples, listed}
+use Rattle.graph.specs.Read.{parsedOf, Sound}
 use Rattle.context.specs.Fine.{Fine}
 use Rattle.context.specs.Parts.{Runs}
 use Rattle.graph.specs.declared.board.Board.{Board}
 use Rattle.graph.specs.declared.graph.Order.{Order}
-use Rattle.graph.proofs.Accepted.{table-at}
 use Rattle.context.proofs.CallCells.{cell-in, node-in, count-nodes}
 use Rattle.context.proofs.CallChecks.{sizes-accepted, then-both}
-use Rattle.context.proofs.CallLaws.{Whole, Judged, judged-passed, memory-told, input-judged}
+use Rattle.context.proofs.CallLaws.{Whole, Judged, judged-passed, input-judged}
 
 -- ---- bytes
 
@@ -51,54 +50,38 @@ pub record Checked (p : Parsed) (m x l r : List ℕ) : Type 0 where
   pub left-long : length l ≡ 4 * p .size
   pub right-long : length r ≡ 4 * p .size
 
-pub block-checked : (p : Parsed) (m x l r : List ℕ) → checkBlock p m x l r .number ≡ 0 → Checked p m x l r
-block-checked p m x l r ok =
-    let eight = then-both (checkMemory p m) (andThen (checkBlocks p x l r) (checkSamples 0 (words x))) ok in
-    let nine = then-both (checkBlocks p x l r) (checkSamples 0 (words x)) (eight .1) in
-    let told = memory-told p m (eight .0) in
-    let sizes = sizes-accepted (p .size) (length x) (length l) (length r) (nine .0) in
-    record {
-      long = told .0;
-      judged = told .1;
-      input-long = sizes .0;
-      left-long = sizes .1;
-      right-long = sizes .2;
-    }
-
 -- ---- the board
 
-module _ (s : List ℕ) (b : Board) (read : Read (readBoard s) b) (accepted : b .refused .number ≡ 0) where
+module _ (b : Board) (sound : Sound b) (table : (v : ℕ) → v < 64 → TableAt b v) where
   -- the sources, as the visiting list asks for them
   pub board-table : Table (b .counts) (b .lists)
-  board-table = record {
-    few = λ v h. table-at s b read accepted v h .few;
-    nodes = λ v j h l. omega (arith, table-at s b read accepted v h .source-in j l, read .sound .few-nodes);
-  }
+  board-table = record { few = λ v h. table v h .few; nodes = λ v j h l. omega (arith, table v h .source-in j l, sound .few-nodes) }
 
   pub board-gathered : Gathered (parsedOf b .wires) (b .counts) (b .lists)
-  board-gathered = record {
-    size = λ v h. table-at s b read accepted v h .count-is;
-    source = λ v j h l. table-at s b read accepted v h .source-is j l;
-  }
+  board-gathered = record { size = λ v h. table v h .count-is; source = λ v j h l. table v h .source-is j l }
 
 -- ---- the call
 
--- the board is read whole, and the checks behind 6 pass
-pub record AcceptedRun (s m x l r : List ℕ) (b : Board) : Type 0 where
-  pub read : Read (readBoard s) b
-  pub accepted : b .refused .number ≡ 0
+-- the board is read whole, and the checks pass
+pub record AcceptedRun (m x l r : List ℕ) (b : Board) : Type 0 where
+  pub sound : Sound b
   pub fine : Fine (parsedOf b)
-  pub passes : checkBlock (parsedOf b) m x l r .number ≡ 0
+  pub table : (v : ℕ) → v < 64 → TableAt b v
+  pub long : length m ≡ memoryLength (parsedOf b)
+  pub judged : Judged (parsedOf b) (words m)
+  pub passes : andThen (checkBlocks (parsedOf b) x l r) (checkSamples 0 (words x)) .number ≡ 0
 
-module _ {s m x l r : List ℕ} {b : Board} (run : AcceptedRun s m x l r b) where
+module _ {m x l r : List ℕ} {b : Board} (run : AcceptedRun m x l r b) where
   pub checked : Checked (parsedOf b) m x l r
-  checked = block-checked (parsedOf b) m x l r (run .passes)
+  checked =
+      let sizes = sizes-accepted (b .size) (length x) (length l) (length r) (then-both (checkBlocks (parsedOf b) x l r) (checkSamples 0 (words x)) (run .passes) .0) in
+      record { long = run .long; judged = run .judged; input-long = sizes .0; left-long = sizes .1; right-long = sizes .2 }
 
   abbrev start : ℕ
   start = nodeIn (b .nodes) (b .input) .cell + 3
 
   there : b .input < b .count
-  there = omega (arith, run .fine .input-there, count-nodes b (run .read .sound))
+  there = omega (arith, run .fine .input-there, count-nodes b (run .sound))
 
   -- the input node is a pass
   input-cell : nodeAt (parsedOf b) (b .input) .cell + (3 + b .size) ≤ cellsOf (b .size) (parsedOf b .nodes)
@@ -107,7 +90,7 @@ module _ {s m x l r : List ℕ} {b : Board} (run : AcceptedRun s m x l r b) wher
       omega (arith, cell-in (parsedOf b) (run .fine) (b .input) (run .fine .input-there))
 
   start-is : nodeAt (parsedOf b) (b .input) .cell + 3 ≡ start
-  start-is = ap (λ (n : NodeRecord). n .cell + 3) (node-in b (run .read .sound) (b .input) there)
+  start-is = ap (λ (n : NodeRecord). n .cell + 3) (node-in b (run .sound) (b .input) there)
 
   pub input-room : 4 * (nodeIn (b .nodes) (b .input) .cell + 3) + 4 * b .size ≤ length m
   input-room = omega (arith, input-cell, start-is, checked .long)
@@ -119,7 +102,7 @@ module _ {s m x l r : List ℕ} {b : Board} (run : AcceptedRun s m x l r b) wher
       omega (arith, cell-in (parsedOf b) (run .fine) 0 (run .fine .formed .some-nodes), checked .long)
 
   pub few-bytes : length m ≤ 1114880
-  few-bytes = omega (arith, checked .long, run .read .sound .values-sum, run .read .sound .few-values)
+  few-bytes = omega (arith, checked .long, run .sound .values-sum, run .sound .few-values)
 
   -- ---- the input block copied in
 
@@ -135,9 +118,9 @@ module _ {s m x l r : List ℕ} {b : Board} (run : AcceptedRun s m x l r b) wher
         let block : length (words x) ≡ b .size = length-words x ∙ omega (arith, checked .input-long) in
         let whole-memory : Whole (parsedOf b) (words m) = length-words m ∙ omega (arith, checked .long) in
         record {
-          sound = run .read .sound;
+          sound = run .sound;
           fine = run .fine;
-          table = table-at s b (run .read) (run .accepted);
+          table = run .table;
           lists = lists;
           long = ap length put ∙ length-paste m (4 * start) x (4 * b .size) (omega (arith, input-room)) (omega (arith, checked .input-long)) ∙ checked .long;
           judged = judged-passed (parsedOf b) (words m₁) (rw input-put (input-judged (parsedOf b) (run .fine) (words m) whole-memory (words x) block (checked .judged)));

@@ -10,10 +10,9 @@ use Rattle.leaves.specs.Words.{words, unwords, unwords-words, Bytes}
 use Rattle.leaves.specs.Parts.{part, words-part}
 use Rattle.graph.specs.Board.{cellsOf}
 use Rattle.context.specs.Memory.{passed, runBlock}
-use Rattle.context.specs.Calls.{asLeft, checkBlock, ranBlock, blockIn, blockOf, listed}
+use Rattle.context.specs.Calls.{asLeft, ranBlock, listed}
 use Rattle.graph.specs.Read.{parsedOf}
 use Rattle.graph.specs.declared.board.Board.{Board}
-use Rattle.context.proofs.CallBy.{call-done}
 use Rattle.context.proofs.CallAccepted.{AcceptedRun, checked, output-room}
 
 -- a copy over the whole of a slice
@@ -24,7 +23,7 @@ copied-whole d s n e =
     ap (λ (l : List ℕ). take n s ++ l) none ∙ append-nil (take n s)
 
 -- the bytes after an accepted block run: the memory's, and the two outputs, copied out of it
-module _ {s m x l r : List ℕ} {b : Board} (run : AcceptedRun s m x l r b) (m′ : List ℕ) (bytes : Bytes m′) (kept : length m′ ≡ length m)
+module _ {m x l r : List ℕ} {b : Board} (run : AcceptedRun m x l r b) (m′ : List ℕ) (bytes : Bytes m′) (kept : length m′ ≡ length m)
     (ran : words m′ ≡ runBlock (parsedOf b) (listed (parsedOf b)) (words x) (words m)) where
   abbrev ws : List ℕ
   ws = runBlock (parsedOf b) (listed (parsedOf b)) (words x) (words m)
@@ -39,8 +38,7 @@ module _ {s m x l r : List ℕ} {b : Board} (run : AcceptedRun s m x l r b) (m�
       unwords-words d′ (b .size) long small ∙ ap unwords words-are
 
   pub block-ran : (l′ r′ : List ℕ) → Bytes l′ → Bytes r′ → l′ ≡ paste l 0 (drop 12 m′) (4 * b .size)
-      → r′ ≡ paste r 0 (drop (12 + 4 * b .size) m′) (4 * b .size) → asLeft passed m′ l′ r′ ≡ blockOf s m x l r
-  unfolding blockIn
+      → r′ ≡ paste r 0 (drop (12 + 4 * b .size) m′) (4 * b .size) → asLeft passed m′ l′ r′ ≡ ranBlock (parsedOf b) (listed (parsedOf b)) x m
   block-ran l′ r′ left-bytes right-bytes left-copied right-copied =
       let c = checked run in
       let p = parsedOf b in
@@ -49,5 +47,4 @@ module _ {s m x l r : List ℕ} {b : Board} (run : AcceptedRun s m x l r b) (m�
       let left : l′ ≡ unwords (part ws 3 (b .size)) = channel l l′ 3 (c .left-long) left-bytes left-copied (omega (arith, output-room run)) in
       let right : r′ ≡ unwords (part ws (3 + b .size) (b .size)) =
       channel r r′ (3 + b .size) (c .right-long) right-bytes (right-copied ∙ ap (λ (n : ℕ). paste r 0 (drop n m′) (4 * b .size)) at) (omega (arith, output-room run)) in
-      (λ i. asLeft passed (memory i) (left i) (right i))
-      ∙ sym (call-done s b (run .read) (λ a. asLeft a m l r) (λ q. checkBlock q m x l r) (λ q. ranBlock q (listed q) x m) (run .accepted) (checkBlock p m x l r) refl (run .passes))
+      λ i. asLeft passed (memory i) (left i) (right i)

@@ -2,16 +2,16 @@
 --     passes                                    what an answer that does not refuse says of its test
 --     cells-next, cells-wrong, cells-end        check 8, node by node
 --     samples-next, samples-wrong, samples-end, samples-passed    check 10, sample by sample
---     needed-long, sizes-passed, sizes-wrong    checks 7 and 9
+--     needed-long, sizes-accepted, sizes-passed    checks 7 and 9
 --     then-passed, then-refused, then-both    one check after another
 -- Assumes nothing.
 use Prim.Native.Nat.{ℕ, suc, _+_, _*_, _≤_, _<_}
 use mathlib.Core.Path.{_≡_, refl, sym, ap, _∙_}
-use mathlib.Core.Bool.{Bool, true, false, cond, _&&_}
+use mathlib.Core.Bool.{Bool, true, false, cond}
 use mathlib.Core.List.{List, [], _∷_}
 use native.Mathlib.Numerals.{add-one}
 use native.Mathlib.Omega.{arith}
-use borrow.Author.Tests.{eqb-true, eqb-false, ne-eqb}
+use borrow.Author.Tests.{eqb-true, eqb-false, eq-eqb, ne-eqb}
 use lib.Dec.{eqb}
 use lib.ListN.{length, getD, take, drop}
 use lib.Seq.{drop-cons, drop-length}
@@ -20,9 +20,8 @@ use Rattle.nodes.specs.Cell.{cellFits}
 use Rattle.nodes.specs.declared.kind.NodeRecord.{NodeRecord}
 use Rattle.graph.specs.Answer.{answer}
 use Rattle.context.specs.Memory.{nodeIn, passed, checkCells}
-use Rattle.context.specs.Calls.{andThen, checkNeeded, checkSizes, checkSamples}
+use Rattle.context.specs.Calls.{andThen, checkNeeded, checkSize, checkSizes, checkSamples}
 use Rattle.graph.specs.declared.answer.Answer.{Answer}
-use Rattle.graph.proofs.Choice.{both}
 use Rattle.graph.specs.Board.{blank}
 use Rattle.graph.proofs.Six.{counted, node-here}
 
@@ -77,29 +76,10 @@ samples-passed i (w ∷ ws) z =
     let rest = passes (finiteBits w) (checkSamples (suc i) ws) (answer 10 i) (λ e. omega arith) z in
     rest .2 ∙ samples-passed (suc i) ws (rest .1)
 
--- ---- checks 7 and 9
+-- ---- check 7
 
 pub needed-long : (needed lent : ℕ) → checkNeeded needed lent .number ≡ 0 → lent ≡ needed
 needed-long needed lent z = eqb-true lent needed (passes (eqb lent needed) passed (answer 7 needed) (λ e. omega arith) z .0)
-
-module _ (N x l r : ℕ) where
-  abbrev sizes : Bool
-  sizes = eqb x (4 * N) && eqb l (4 * N) && eqb r (4 * N)
-
-  pub sizes-long : sizes ≡ true → (x ≡ 4 * N) × (l ≡ 4 * N) × (r ≡ 4 * N)
-  sizes-long e =
-      let front = both (eqb x (4 * N) && eqb l (4 * N)) (eqb r (4 * N)) e in
-      let first = both (eqb x (4 * N)) (eqb l (4 * N)) (front .0) in
-      (eqb-true x (4 * N) (first .0), eqb-true l (4 * N) (first .1), eqb-true r (4 * N) (front .1))
-
-  pub sizes-accepted : checkSizes N x l r .number ≡ 0 → (x ≡ 4 * N) × (l ≡ 4 * N) × (r ≡ 4 * N)
-  sizes-accepted z = sizes-long (passes sizes passed (answer 9 N) (λ e. omega arith) z .0)
-
-  pub sizes-passed : sizes ≡ true → checkSizes N x l r ≡ passed
-  sizes-passed e = rw e
-
-  pub sizes-wrong : sizes ≡ false → checkSizes N x l r ≡ answer 9 N
-  sizes-wrong e = rw e
 
 -- ---- one check after another
 
@@ -120,3 +100,18 @@ then-both a b = go (eqb (a .number) 0) refl
     go : (q : Bool) → eqb (a .number) 0 ≡ q → (cond q b a) .number ≡ 0 → (a .number ≡ 0) × (b .number ≡ 0)
     go true e h = (eqb-true (a .number) 0 e, h)
     go false e h = absurd (eqb-false (a .number) 0 e h)
+
+-- ---- check 9
+
+pub size-long : (N lent : ℕ) → checkSize N lent .number ≡ 0 → lent ≡ 4 * N
+size-long N lent z = eqb-true lent (4 * N) (passes (eqb lent (4 * N)) passed (answer 9 N) (λ e. omega arith) z .0)
+
+module _ (N x l r : ℕ) where
+  pub sizes-accepted : checkSizes N x l r .number ≡ 0 → (x ≡ 4 * N) × (l ≡ 4 * N) × (r ≡ 4 * N)
+  sizes-accepted z =
+      let one = then-both (checkSize N x) (andThen (checkSize N l) (checkSize N r)) z in
+      let two = then-both (checkSize N l) (checkSize N r) (one .1) in
+      (size-long N x (one .0), size-long N l (two .0), size-long N r (two .1))
+
+  pub sizes-passed : (x ≡ 4 * N) × (l ≡ 4 * N) × (r ≡ 4 * N) → checkSizes N x l r ≡ passed
+  sizes-passed e = rw (eq-eqb x (4 * N) (e .0), eq-eqb l (4 * N) (e .1), eq-eqb r (4 * N) (e .2))

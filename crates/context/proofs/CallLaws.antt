@@ -8,7 +8,7 @@ use Prim.Native.Nat.{ℕ, zero, suc, _+_, _≤_, _<_}
 use borrow.Author.Tests.{eq-eqb}
 use mathlib.Core.Path.{_≡_, refl, sym, ap, _∙_}
 use mathlib.Core.Logic.{_≢_}
-use mathlib.Core.Bool.{true, cond}
+use mathlib.Core.Bool.{true}
 use mathlib.Core.List.{List, [], _∷_}
 use native.Mathlib.Omega.{arith}
 use native.Mathlib.Decide.{decLt, ℕ-discrete}
@@ -28,6 +28,7 @@ use Rattle.graph.specs.Board.{Parsed, cellsOf, memoryLength}
 use Rattle.context.specs.Memory.{nodeIn, passed, nodeAt, kindAt, checkCells, broughtBy, runNode, putInput}
 use Rattle.context.specs.Calls.{andThen, checkLength, checkValues, checkMemory}
 use Rattle.context.specs.Fine.{Fine}
+use Rattle.graph.specs.declared.answer.Answer.{Answer}
 use Rattle.context.proofs.CallCells.{cell-in, cell-apart}
 use Rattle.context.proofs.CallChecks.{passes, needed-long, then-both}
 
@@ -72,15 +73,15 @@ module _ (p : Parsed) (ws : List ℕ) where
   passed-judged e k l = fits-part (kindAt p k) (p .size) (nodeAt p k .cell) ws ∙ check-fitting ws 0 (p .nodes) e k l
 
 -- checks 7 and 8 pass exactly where the memory has its length and every cell fits
-module _ (p : Parsed) (m : List ℕ) where
-  pub memory-passed : length m ≡ memoryLength p → Judged p (words m) → checkMemory p m ≡ passed
-  memory-passed long judged =
-      λ i. andThen (cond (eq-eqb (length m) (memoryLength p) long i) passed (answer 7 (memoryLength p))) (judged-passed p (words m) judged i)
+module _ (p : Parsed) (m : List ℕ) (a : Answer) where
+  pub memory-passed : length m ≡ memoryLength p → Judged p (words m) → checkMemory p m a ≡ a
+  memory-passed long judged = rw (eq-eqb (length m) (memoryLength p) long) (ap (λ (b : Answer). andThen b a) (judged-passed p (words m) judged))
 
-  pub memory-told : checkMemory p m .number ≡ 0 → (length m ≡ memoryLength p) × Judged p (words m)
+  pub memory-told : checkMemory p m a .number ≡ 0 → (length m ≡ memoryLength p) × Judged p (words m) × (a .number ≡ 0)
   memory-told z =
-      let two = then-both (checkLength p m) (checkValues p m) z in
-      (needed-long (memoryLength p) (length m) (two .0), passed-judged p (words m) (two .1))
+      let seven = then-both (checkLength p m) (andThen (checkValues p m) a) z in
+      let eight = then-both (checkValues p m) a (seven .1) in
+      (needed-long (memoryLength p) (length m) (seven .0), passed-judged p (words m) (eight .0), eight .1)
 
 -- ---- a change within one cell
 

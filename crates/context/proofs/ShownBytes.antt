@@ -8,15 +8,16 @@ use Rattle.nodes.specs.Cell.{cellFits}
 use Rattle.nodes.proofs.Kept.{judged-fits}
 use Rattle.graph.specs.Board.{Parsed}
 use Rattle.context.specs.Fine.{Fine}
-use Rattle.context.specs.Memory.{kindAt, passed}
+use Rattle.context.specs.Memory.{kindAt}
 use Rattle.context.specs.Calls.{checkMemory}
+use Rattle.graph.specs.declared.answer.Answer.{Answer}
 use Rattle.context.specs.Instance.{Held, Cells, cellIn, shown, memoryOf}
 use Rattle.context.proofs.CallLaws.{Judged, memory-passed}
 use Rattle.context.proofs.ShownCells.{Long, shown-long, shown-part}
 
-pub memory-passes : (p : Parsed) → Fine p → (c : Cells) → Long p c → ((k : ℕ) → Held (kindAt p k) (c k .state)) → checkMemory p (memoryOf p c) ≡ passed
-memory-passes p fine c long held =
-    memory-passed p (memoryOf p c) (length-unwords (shown p c) ∙ ap (λ (n : ℕ). 4 * n) (shown-long p c long))
+pub memory-passes : (p : Parsed) → Fine p → (c : Cells) → Long p c → ((k : ℕ) → Held (kindAt p k) (c k .state)) → (a : Answer) → checkMemory p (memoryOf p c) a ≡ a
+memory-passes p fine c long held a =
+    memory-passed p (memoryOf p c) a (length-unwords (shown p c) ∙ ap (λ (n : ℕ). 4 * n) (shown-long p c long))
     (subst⁻¹ (Judged p) (words-unwords (shown p c)) (λ k there.
     ap (cellFits (kindAt p k)) (shown-part p fine c long k there)
     ∙ judged-fits (kindAt p k) (cellIn p c k) (record { number = held k .number; carry = held k .carry; place = held k .place })))

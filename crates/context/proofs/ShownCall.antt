@@ -58,10 +58,7 @@ module _ (p : Parsed) (x l r : List ℕ) (yes′ : accepts p (block x l r) ≡ t
   sizes = sizes-accepted (p .size) (length x) (length l) (length r) (both-pass .0)
 
   blocks-pass : answerTo p (block x l r) ≡ passed
-  blocks-pass =
-      let e : (eqb (length x) (4 * p .size) && eqb (length l) (4 * p .size) && eqb (length r) (4 * p .size)) ≡ true =
-      λ i. eq-eqb (length x) (4 * p .size) (sizes .0) i && eq-eqb (length l) (4 * p .size) (sizes .1) i && eq-eqb (length r) (4 * p .size) (sizes .2) i in
-      λ i. andThen (sizes-passed (p .size) (length x) (length l) (length r) e i) (samples-passed 0 (words x) (both-pass .1) i)
+  blocks-pass = λ i. andThen (sizes-passed (p .size) (length x) (length l) (length r) sizes i) (samples-passed 0 (words x) (both-pass .1) i)
 
   pub block-whole : length (words x) ≡ p .size
   block-whole = length-words x ∙ omega (arith, sizes .0)
@@ -184,8 +181,8 @@ module _ {C W : Type 0} (p : Parsed) (first : W) (wires : W → List Wire) (does
   long′ k = record { samples = long k .samples; line = long k .line }
 
   -- checks 7 and 8 leave the answer to the others
-  checks-rest : (a : Answer) → andThen (checkMemory q M) a ≡ a
-  checks-rest a = ap (λ (b : Answer). andThen b a) (memory-passes q fine m long′ held)
+  checks-rest : (a : Answer) → checkMemory q M a ≡ a
+  checks-rest = memory-passes q fine m long′ held
 
   -- ---- a block run
 

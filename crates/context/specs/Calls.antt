@@ -44,13 +44,16 @@ checkLength p m = checkNeeded (memoryLength p) (length m)
 abbrev pub checkValues : Parsed → List ℕ → Answer
 checkValues p m = checkCells (words m) 0 (p .nodes)
 
--- 7 and 8
-abbrev pub checkMemory : Parsed → List ℕ → Answer
-checkMemory p m = andThen (checkLength p m) (checkValues p m)
+-- 7, 8, and then a call's own check
+abbrev pub checkMemory : Parsed → List ℕ → Answer → Answer
+checkMemory p m a = andThen (checkLength p m) (andThen (checkValues p m) a)
 
--- 9: the three blocks' lengths
+-- 9: a block's length, and that of the input block and of the two output blocks
+abbrev pub checkSize : ℕ → ℕ → Answer
+checkSize N lent = cond (eqb lent (4 * N)) passed (answer 9 N)
+
 abbrev pub checkSizes : ℕ → ℕ → ℕ → ℕ → Answer
-checkSizes N x l r = cond (eqb x (4 * N) && eqb l (4 * N) && eqb r (4 * N)) passed (answer 9 N)
+checkSizes N x l r = andThen (checkSize N x) (andThen (checkSize N l) (checkSize N r))
 
 abbrev pub checkBlocks : Parsed → List ℕ → List ℕ → List ℕ → Answer
 checkBlocks p x l r = checkSizes (p .size) (length x) (length l) (length r)
@@ -81,7 +84,7 @@ freshOf board m = changeBy m (λ p. checkLength p m) freshValues (readBoard boar
 
 -- the checks of a block run behind 6
 abbrev pub checkBlock : Parsed → List ℕ → List ℕ → List ℕ → List ℕ → Answer
-checkBlock p m x l r = andThen (checkMemory p m) (andThen (checkBlocks p x l r) (checkSamples 0 (words x)))
+checkBlock p m x l r = checkMemory p m (andThen (checkBlocks p x l r) (checkSamples 0 (words x)))
 
 -- an accepted block run with the nodes taken in the order o: the outputs are node 0's two channels
 abbrev pub ranBlock : Parsed → List ℕ → List ℕ → List ℕ → Outcome
@@ -117,7 +120,7 @@ checkNumber p k x =
 
 -- the checks of a message behind 6
 abbrev pub checkMessage : Parsed → List ℕ → ℕ → Float → Answer
-checkMessage p m k x = andThen (checkMemory p m) (checkNumber p k x)
+checkMessage p m k x = checkMemory p m (checkNumber p k x)
 
 -- the number is the first value of the node's cell
 abbrev pub setNumber : Parsed → ℕ → Float → List ℕ → List ℕ

@@ -7,15 +7,42 @@ use Rattle.leaves.specs.Floats.{setFloat}
 use Rattle.nodes.specs.Kind.{samplesFrom}
 use Rattle.nodes.specs.Cell.{numberOf}
 use Rattle.nodes.specs.declared.kind.NodeRecord.{NodeRecord}
-use Rattle.graph.specs.Board.{memoryLength}
+use Rattle.graph.specs.Board.{Parsed, Progress, going, refused, whole, memoryLength}
+use Rattle.graph.specs.Judge.{readBoard}
+use Rattle.graph.specs.Parts.{orRefused}
 use Rattle.graph.specs.Visit.{Lists}
 use Rattle.context.specs.Memory.{nodeIn, passed}
-use Rattle.context.specs.Calls.{checkValues, listed}
-use Rattle.graph.specs.Read.{parsedOf, Sound}
+use Rattle.context.specs.Calls.{checkNeeded, checkValues, listed}
+use Rattle.graph.specs.Read.{parsedOf, Sound, Read}
 use Rattle.context.specs.Fine.{Fine}
 use Rattle.graph.specs.Formed.{TableAt}
+use Rattle.graph.specs.declared.answer.Answer.{Answer}
 use Rattle.graph.specs.declared.board.Board.{Board}
 use Rattle.graph.specs.declared.graph.Order.{Order}
+
+-- ---- a board that is opened
+
+-- what was read, held to one check more
+abbrev pub heldTo : (Parsed → Answer) → Progress → Progress
+heldTo check (going at last p) = going at last p
+heldTo check (refused n w) = refused n w
+heldTo check (whole p) = orRefused (check p) (whole p)
+
+-- checks 1 to 7, for so many bytes lent, and 1 to 8
+abbrev pub readOpen : List ℕ → ℕ → Progress
+readOpen s lent = heldTo (λ p. checkNeeded (memoryLength p) lent) (readBoard s)
+
+abbrev pub readJudged : List ℕ → List ℕ → Progress
+readJudged s m = heldTo (λ p. checkValues p m) (readOpen s (length m))
+
+-- a board that stands for the reading v: where it is not refused, it is fine, and so many bytes are as many as its memory has
+pub record Opened (v : Progress) (lent : ℕ) (b : Board) : Type 0 where
+  pub read : Read v b
+  pub fine : b .refused .number ≡ 0 → Fine (parsedOf b)
+  pub table : b .refused .number ≡ 0 → (v : ℕ) → v < 64 → TableAt b v
+  pub long : b .refused .number ≡ 0 → lent ≡ 4 * b .values
+
+-- ---- arrays
 
 -- the judged values of each of the first n nodes lie within so many bytes
 abbrev pub CellsIn : List NodeRecord → ℕ → ℕ → Type 0

@@ -5,56 +5,25 @@ ghost use Prim.Native.Nat.{_+_, _*_, _≤_};
 ghost use lib.ListN.{length, take, drop, replicate};
 ghost use lib.Seq.{paste};
 ghost use Rattle.leaves.specs.Words.{words};
-ghost use Rattle.context.specs.Memory.{leftStart, rightStart, checkCells, runNodes};
-ghost use Rattle.context.specs.Calls.{andThen, checkNeeded, checkMemory, checkSizes, checkSamples, asLeft, listed, freshOf, blockOf};
-ghost use Rattle.graph.specs.Read.{parsedOf, Sound};
-ghost use Rattle.context.specs.Fine.{Fine};
+ghost use Rattle.context.specs.Memory.{leftStart, rightStart, runNodes};
+ghost use Rattle.context.specs.Calls.{andThen, checkSize, checkSizes, checkSamples, asLeft, listed, freshOf, blockOf};
+ghost use Rattle.graph.specs.Read.{parsedOf};
 ghost use Rattle.context.specs.Parts.{CellsIn, StartsFit, Starts, Runs, putNumbers};
+use crate::open::judged;
+use crate::open::opened;
 use graph::answer::Answer;
 use graph::board::Board;
 use graph::graph::Order;
 use graph::graph::visiting_list;
-use graph::judge::read_board;
 use leaves::bytes::wide;
 use leaves::bytes::word_at;
 use leaves::float::finite_bits;
 use leaves::float::store;
-use nodes::cell::cell_fits;
 use nodes::cell::number_of;
 use nodes::kind::NodeRecord;
 use nodes::node::step;
 
 // ---- checks
-
-// Check 7.
-fn length_judged(values: usize, lent: usize) -> Answer
-    requires { ⌜ values ≤ 278720 ⌝ }
-    ensures { λ r. ⌜ r ≡ checkNeeded (4 * values) lent ⌝ }
-{
-    if lent == 4 * values {
-        Answer::new(0, 0)
-    } else {
-        Answer::new(7, 4 * values)
-    }
-}
-
-// Check 8: the lowest node with a judged value that is not as it must be.
-fn cells_judged(nodes: [NodeRecord; 64], count: usize, memory: &[u8]) -> Answer
-    requires { ⌜ (length nodes ≡ 64) × (count ≤ 64) × CellsIn nodes count (length (now memory)) ⌝ }
-    ensures { λ r. ⌜ r ≡ checkCells (words (now (memory .entry))) 0 (take count nodes) ⌝ }
-{
-    let mut i = 0;
-    while i < count {
-        let node = nodes[i];
-        let kind = node.kind;
-        if cell_fits(memory, node.cell as usize, kind) {
-            i += 1;
-        } else {
-            return Answer::new(8, i);
-        }
-    }
-    Answer::new(0, 0)
-}
 
 // Check 10: the first infinite or NaN sample.
 fn samples_judged(input: &[u8], size: usize) -> Answer
@@ -72,44 +41,44 @@ fn samples_judged(input: &[u8], size: usize) -> Answer
     Answer::new(0, 0)
 }
 
-// Checks 9 and 10: the blocks' lengths, then the input's samples.
-fn blocks_judged(size: usize, input: &[u8], left: usize, right: usize) -> Answer
+// Check 9 of one block.
+pub fn size_judged(size: usize, lent: usize) -> Answer
     requires { ⌜ size ≤ 128 ⌝ }
-    ensures { λ r. ⌜ r ≡ andThen (checkSizes size (length (now (input .entry))) left right) (checkSamples 0 (words (now (input .entry)))) ⌝ }
+    ensures { λ r. ⌜ r ≡ checkSize size lent ⌝ }
 {
-    if (input.len() == 4 * size) & (left == 4 * size) & (right == 4 * size) {
-        samples_judged(input, size)
+    if lent == 4 * size {
+        Answer::new(0, 0)
     } else {
         Answer::new(9, size)
     }
 }
 
-// Checks 7 and 8.
-pub fn memory_judged(board: Board, memory: &[u8]) -> Answer
-    requires { ⌜ Sound board ⌝ }
-    requires { ⌜ Fine (parsedOf board) ⌝ }
-    ensures { λ r. ⌜ r ≡ checkMemory (parsedOf board) (now (memory .entry)) ⌝ }
+// Check 9: the input block, then the output blocks.
+fn sizes_judged(size: usize, input: usize, left: usize, right: usize) -> Answer
+    requires { ⌜ size ≤ 128 ⌝ }
+    ensures { λ r. ⌜ r ≡ checkSizes size input left right ⌝ }
 {
-    let judged = length_judged(board.values, memory.len());
-    if judged.number != 0 {
-        return judged;
+    let taken = size_judged(size, input);
+    if taken.number != 0 {
+        return taken;
     }
-    let nodes = board.nodes;
-    cells_judged(nodes, board.count, memory)
+    let given = size_judged(size, left);
+    if given.number != 0 {
+        return given;
+    }
+    size_judged(size, right)
 }
 
-// Checks 7 to 10.
-fn block_judged(board: Board, memory: &[u8], input: &[u8], left: usize, right: usize) -> Answer
-    requires { ⌜ Sound board ⌝ }
-    requires { ⌜ Fine (parsedOf board) ⌝ }
-    ensures { λ r. ⌜ r ≡ andThen (checkMemory (parsedOf board) (now (memory .entry)))
-        (andThen (checkSizes (board .size) (length (now (input .entry))) left right) (checkSamples 0 (words (now (input .entry))))) ⌝ }
+// Checks 9 and 10: the blocks' lengths, then the input's samples.
+fn blocks_judged(size: usize, input: &[u8], left: usize, right: usize) -> Answer
+    requires { ⌜ size ≤ 128 ⌝ }
+    ensures { λ r. ⌜ r ≡ andThen (checkSizes size (length (now (input .entry))) left right) (checkSamples 0 (words (now (input .entry)))) ⌝ }
 {
-    let judged = memory_judged(board, memory);
-    if judged.number != 0 {
-        return judged;
+    let sized = sizes_judged(size, input.len(), left, right);
+    if sized.number != 0 {
+        return sized;
     }
-    blocks_judged(board.size, input, left, right)
+    samples_judged(input, size)
 }
 
 // ---- fresh memory
@@ -145,14 +114,10 @@ pub fn fresh(s: &[u8], memory: &mut [u8]) -> Answer
     ensures answered { λ r. ⌜ r ≡ (freshOf (now (s .entry)) (now (memory .entry))) .0 ⌝ }
     ensures bytes { λ _. ⌜ now (memory .exit) ≡ (freshOf (now (s .entry)) (now (memory .entry))) .1 ⌝ }
 {
-    let board = read_board(s);
+    let board = opened(s, memory.len());
     let refused = board.refused;
     if refused.number != 0 {
         return refused;
-    }
-    let judged = length_judged(board.values, memory.len());
-    if judged.number != 0 {
-        return judged;
     }
     clear(memory);
     let nodes = board.nodes;
@@ -233,6 +198,24 @@ fn run(board: Board, order: Order, memory: &mut [u8])
     }
 }
 
+// The input block into the samples of the input node, whose cell starts at `cell`.
+fn put_input(input: &[u8], cell: usize, size: usize, memory: &mut [u8])
+    requires { ⌜ (4 * size ≤ length (now input)) × (4 * (cell + 3) + 4 * size ≤ length (now memory)) × (length (now memory) ≤ 1114880) ⌝ }
+    ensures { λ _. ⌜ now (memory .exit) ≡ paste (now (memory .entry)) (4 * (cell + 3)) (drop 0 (now (input .entry))) (4 * size) ⌝ }
+{
+    copy(input, 0, memory, 4 * (cell + 3), 4 * size);
+}
+
+// Node 0's two channels out.
+fn give(memory: &[u8], size: usize, out0: &mut [u8], out1: &mut [u8])
+    requires { ⌜ (size ≤ 128) × (4 * (3 + size + size) ≤ length (now memory)) × (length (now out0) ≡ 4 * size) × (length (now out1) ≡ 4 * size) ⌝ }
+    ensures { λ _. ⌜ (now (out0 .exit) ≡ paste (now (out0 .entry)) 0 (drop 12 (now (memory .entry))) (4 * size))
+        × (now (out1 .exit) ≡ paste (now (out1 .entry)) 0 (drop (12 + 4 * size) (now (memory .entry))) (4 * size)) ⌝ }
+{
+    copy(memory, 12, out0, 0, 4 * size);
+    copy(memory, 12 + 4 * size, out1, 0, 4 * size);
+}
+
 // The block run: the input block into the input node's samples, listed or not; the listed nodes in
 // order; node 0's two channels out.
 // Ruled out: memory left untouched (block_runs_nothing), a fixed output (block_fixed_output), a block of
@@ -241,23 +224,22 @@ pub fn block(s: &[u8], memory: &mut [u8], input: &[u8], out0: &mut [u8], out1: &
     ensures { λ r. ⌜ asLeft r (now (memory .exit)) (now (out0 .exit)) (now (out1 .exit))
         ≡ blockOf (now (s .entry)) (now (memory .entry)) (now (input .entry)) (now (out0 .entry)) (now (out1 .entry)) ⌝ }
 {
-    let board = read_board(s);
+    let board = judged(s, memory);
     let refused = board.refused;
     if refused.number != 0 {
         return refused;
     }
-    let judged = block_judged(board, memory, input, out0.len(), out1.len());
-    if judged.number != 0 {
-        return judged;
-    }
     let size = board.size;
+    let sized = blocks_judged(size, input, out0.len(), out1.len());
+    if sized.number != 0 {
+        return sized;
+    }
     let k = board.input;
     let node = board.nodes[k];
-    copy(input, 0, memory, 4 * (node.cell as usize + 3), 4 * size);
+    put_input(input, node.cell as usize, size, memory);
     let counts = board.counts;
     let lists = board.lists;
     run(board, visiting_list(&counts, &lists), memory);
-    copy(memory, 12, out0, 0, 4 * size);
-    copy(memory, 12 + 4 * size, out1, 0, 4 * size);
+    give(memory, size, out0, out1);
     Answer::new(0, 0)
 }

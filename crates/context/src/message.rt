@@ -6,10 +6,9 @@ ghost use Rattle.leaves.specs.Words.{words};
 ghost use Rattle.graph.specs.Read.{parsedOf, Sound};
 ghost use Rattle.context.specs.Fine.{Fine};
 ghost use Rattle.context.specs.Calls.{checkNumber, setNumber, messageOf};
-use crate::calls::memory_judged;
+use crate::open::judged;
 use graph::answer::Answer;
 use graph::board::Board;
-use graph::judge::read_board;
 use leaves::float::store;
 use nodes::cell::takes_number;
 use nodes::cell::value_fits;
@@ -54,14 +53,10 @@ pub fn message(s: &[u8], memory: &mut [u8], node: u32, value: f32) -> Answer
     ensures answered { λ r. ⌜ r ≡ (messageOf (now (s .entry)) (now (memory .entry)) node value) .0 ⌝ }
     ensures bytes { λ _. ⌜ now (memory .exit) ≡ (messageOf (now (s .entry)) (now (memory .entry)) node value) .1 ⌝ }
 {
-    let board = read_board(s);
+    let board = judged(s, memory);
     let refused = board.refused;
     if refused.number != 0 {
         return refused;
-    }
-    let judged = memory_judged(board, memory);
-    if judged.number != 0 {
-        return judged;
     }
     let k = node as usize;
     let taken = number_judged(board, k, value);

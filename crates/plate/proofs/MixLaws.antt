@@ -19,13 +19,13 @@ use Rattle.nodes.proofs.Rows.{row-laws}
 use Rattle.graph.specs.Answer.{answer}
 use Rattle.graph.specs.Board.{Parsed, Progress, going, refused, whole, memoryLength}
 use Rattle.graph.specs.Judge.{readBoard}
+use Rattle.graph.specs.declared.answer.Answer.{Answer}
 use Rattle.context.specs.Memory.{passed, nodeAt, kindAt}
 use Rattle.context.specs.Calls.{andThen, checkMemory, changeBy, checkNumber, checkMessage, setNumber, messageOf}
 use Rattle.context.specs.Fine.{Fine}
 use Rattle.graph.proofs.Ending.{Ended, board-ends}
 use Rattle.context.proofs.FineBoard.{fine-board}
 use Rattle.context.proofs.CallCells.{cell-in, cell-apart}
-use Rattle.context.proofs.CallChecks.{then-both}
 use Rattle.context.proofs.CallBy.{change-passes}
 use Rattle.context.proofs.CallLaws.{Whole, Judged, memory-passed, memory-told}
 use Rattle.context.proofs.CallMessage.{set-long, set-judged}
@@ -50,8 +50,8 @@ module _ (s : List ℕ) (p : Parsed) (reads : readBoard s ≡ whole p) (fine : F
     size : length m ≡ memoryLength p
     judged : Judged p ws
 
-  checked : (m ws : List ℕ) → Ready m ws → checkMemory p m ≡ passed
-  checked m ws r = memory-passed p m (r .size) (subst (Judged p) (sym (r .is)) (r .judged))
+  checked : (m ws : List ℕ) → Ready m ws → (a : Answer) → checkMemory p m a ≡ a
+  checked m ws r a = memory-passed p m a (r .size) (subst (Judged p) (sym (r .is)) (r .judged))
 
   module _ (m ws : List ℕ) (r : Ready m ws) (k : ℕ) (mul : MulAt p k) (x : Float) (fit : T (fits binary32 x)) (number : finiteF x ≡ true) where
     all : Whole p ws
@@ -63,7 +63,7 @@ module _ (s : List ℕ) (p : Parsed) (reads : readBoard s ≡ whole p) (fine : F
         let is = mul-takes (kindAt p k) (mul .1) in
         let takes : checkNumber p k x ≡ passed =
         λ i. cond (lt-ltb k (length (p .nodes)) (mul .0) i && is .0 i) (cond (is .1 x number i) passed (answer 12 k)) (answer 11 k) in
-        let checks : checkMessage p m k x ≡ passed = λ i. andThen (checked m ws r i) (takes i) in
+        let checks : checkMessage p m k x ≡ passed = checked m ws r (checkNumber p k x) ∙ takes in
         ap (changeBy m (λ q. checkMessage q m k x) (λ q. setNumber q k x (words m))) reads
         ∙ (λ i. cond (eqb (checks i .number) 0) (passed, unwords (setNumber p k x (r .is i))) (checks i, m))
 
@@ -101,7 +101,7 @@ module _ (s : List ℕ) (p : Parsed) (reads : readBoard s ≡ whole p) (fine : F
         let c = mul-passed 43 (told .left-dry) in
         let d = mul-passed 49 (told .right-dry) in
         let checks : checkMixed p m mix ≡ passed =
-        λ i. andThen (checked m (words m) start i) (andThen (a i) (andThen (b i) (andThen (c i) (andThen (d i) (number i))))) in
+        checked m (words m) start (checkMix p mix) ∙ (λ i. andThen (a i) (andThen (b i) (andThen (c i) (andThen (d i) (number i))))) in
         ap (changeBy m (λ q. checkMixed q m mix) (λ q. setMix q mix (words m))) reads
         ∙ (λ i. cond (eqb (checks i .number) 0) (passed, unwords (setMix p mix (words m))) (checks i, m))
 
@@ -185,8 +185,8 @@ told-of s m mix = go (readBoard s) refl (board-ends s)
     go (going at last p) e n z = absurd (omega arith)
     go (refused k w) e n z = absurd (omega arith)
     go (whole p) e n z =
-        let two = then-both (checkMemory p m) (checkMix p mix) (change-passes m (λ q. checkMixed q m mix) (λ q. setMix q mix (words m)) p z) in
-        record { parsed = p; reads = e; memory = memory-told p m (two .0); muls = mix-told p mix (two .1) }
+        let told = memory-told p m (checkMix p mix) (change-passes m (λ q. checkMixed q m mix) (λ q. setMix q mix (words m)) p z) in
+        record { parsed = p; reads = e; memory = (told .0, told .1); muls = mix-told p mix (told .2) }
 
 pub mix-four : (s m : List ℕ) (mix : Float) → Bytes s → T (fits binary32 mix) → (mixOf s m mix) .0 .number ≡ 0 → IsFour s m mix
 mix-four s m mix small fit z =

@@ -38,7 +38,7 @@ checkMix p mix = andThen (checkMul p 41) (andThen (checkMul p 47) (andThen (chec
 
 -- the checks of the mix message behind 6
 abbrev pub checkMixed : Parsed → List ℕ → Float → Answer
-checkMixed p m mix = andThen (checkMemory p m) (checkMix p mix)
+checkMixed p m mix = checkMemory p m (checkMix p mix)
 
 -- ---- the call
 

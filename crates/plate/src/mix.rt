@@ -6,11 +6,10 @@ ghost use Rattle.leaves.specs.Words.{words};
 ghost use Rattle.graph.specs.Read.{parsedOf, Sound};
 ghost use Rattle.context.specs.Fine.{Fine};
 ghost use Rattle.plate.specs.Mix.{isMul, checkMul, checkMix, setMix, mixOf};
-use context::calls::memory_judged;
 use context::message::put_number;
+use context::open::judged;
 use graph::answer::Answer;
 use graph::board::Board;
-use graph::judge::read_board;
 use leaves::float::finite;
 use nodes::kind::NodeKind;
 
@@ -89,14 +88,10 @@ pub fn set_mix(s: &[u8], memory: &mut [u8], mix: f32) -> Answer
     ensures answered { λ r. ⌜ r ≡ (mixOf (now (s .entry)) (now (memory .entry)) mix) .0 ⌝ }
     ensures bytes { λ _. ⌜ now (memory .exit) ≡ (mixOf (now (s .entry)) (now (memory .entry)) mix) .1 ⌝ }
 {
-    let board = read_board(s);
+    let board = judged(s, memory);
     let refused = board.refused;
     if refused.number != 0 {
         return refused;
-    }
-    let judged = memory_judged(board, memory);
-    if judged.number != 0 {
-        return judged;
     }
     let taken = mix_judged(board, mix);
     if taken.number != 0 {

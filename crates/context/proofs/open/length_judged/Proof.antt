@@ -1,10 +1,10 @@
--- `context::calls::length_judged` meets its contract. The test decides. Assumes nothing.
+-- `context::open::length_judged` meets its contract. The test decides. Assumes nothing.
 use Prim.Native.Nat.{_*_}
 use mathlib.Core.Path.{_∙_}
 use borrow.Author.Tests.{eq-eqb, ne-eqb}
 use borrow.Author.Needs.{needs}
-use Rattle.context.proofs.calls.length_judged.Statement.{statement}
-use Rattle.context.proofs.calls.length_judged.Tie as tie
+use Rattle.context.proofs.open.length_judged.Statement.{statement}
+use Rattle.context.proofs.open.length_judged.Tie as tie
 
 returns : tie.Need-returns
 returns c = c .new .ensures ∙ rw (eq-eqb (c .before .before .args .lent) (4 * c .before .before .args .values) (c .before .if1 .taken))

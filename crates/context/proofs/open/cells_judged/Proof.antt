@@ -1,4 +1,4 @@
--- `context::calls::cells_judged` meets its contract. The cells passed fit, so what is left decides. Assumes nothing.
+-- `context::open::cells_judged` meets its contract. The cells passed fit, so what is left decides. Assumes nothing.
 use Prim.Native.Nat.{_≤_, _-_}
 use mathlib.Core.Path.{_≡_, refl, sym, _∙_}
 use native.Mathlib.Omega.{arith}
@@ -6,8 +6,8 @@ use lib.ListN.{take, drop}
 use Rattle.leaves.specs.Words.{words}
 use Rattle.context.specs.Memory.{checkCells}
 use Rattle.context.proofs.CallChecks.{cells-next, cells-wrong, cells-end}
-use Rattle.context.proofs.calls.cells_judged.Statement.{statement}
-use Rattle.context.proofs.calls.cells_judged.Tie as tie
+use Rattle.context.proofs.open.cells_judged.Statement.{statement}
+use Rattle.context.proofs.open.cells_judged.Tie as tie
 
 abbrev Inv-loop : tie.InvT-loop
 Inv-loop count memory nodes i₀ i = (i ≤ count) × (checkCells (words memory) i (drop i (take count nodes)) ≡ checkCells (words memory) 0 (take count nodes))
