@@ -9,7 +9,7 @@
 
 enum { SPACE = 1 << 20, PAINT = 0xA5, IDLE = 9 };
 
-static uint8_t board[4096], in[512], out0[512], out1[512], written[1270];
+static uint8_t board[4096], in[512], out0[512], out1[512], written[PLATE_BYTES];
 static size_t board_len, memory_len;
 static uint8_t *memory;
 static int which;
@@ -74,6 +74,7 @@ int main(void)
 {
     static const char *names[] = {"judge", "tail", "fresh", "block", "message", "mix", "write", "add wire", "pull wire"};
     size_t idle = used(IDLE);
+    int too_much = 0;
     for (int deep = 0; deep < 2; deep++) {
         if (deep) chain();
         else board_len = sizeof written, plate_write(128, 0.5f, board, board_len);
@@ -82,8 +83,12 @@ int main(void)
         memory = malloc(memory_len);
         plate_fresh(board, board_len, memory, memory_len);
         printf("%s\n", deep ? "a chain of 64 nodes" : "the plate");
-        for (int c = 0; c < IDLE; c++) printf("  %-9s %6zu bytes of stack\n", names[c], used(c) - idle);
+        for (int c = 0; c < IDLE; c++) {
+            size_t bytes = used(c) - idle;
+            printf("  %-9s %6zu bytes of stack%s\n", names[c], bytes, bytes > PLATE_STACK ? ": more than PLATE_STACK" : "");
+            too_much |= bytes > PLATE_STACK;
+        }
         free(memory);
     }
-    return 0;
+    return too_much;
 }

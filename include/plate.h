@@ -1,10 +1,25 @@
 /*
- * plate.h: the plate tank. Boards, their memory, and blocks of samples.
+ * plate.h: the plate tank. Boards, their memory, and blocks of samples. C99 and C++.
  *
  * A call takes numbers and byte slices (a pointer and a length) and returns a number and a place. Number 0 is
- * success. Any other number is a refusal, and a refused call leaves every byte as found. No call keeps a pointer,
- * allocates, or asks anything of its arguments: every length and every content has its answer. Slices that are
- * written must not overlap any other slice of the same call.
+ * success. Any other number is a refusal, and a refused call leaves every byte as found. Every length and every content
+ * has its answer; docs/REFERENCE.md says what boards are and what to do about each answer, docs/FIRMWARE.md what a host
+ * has to know. In short:
+ *
+ * - Slices. They may stand at any address, aligned or not. With a length of 0 the pointer may be NULL. A slice that is
+ *   written must not overlap any other slice of the same call; slices that are only read may.
+ * - Nothing is kept. The library has no data of its own, allocates nothing and keeps no pointer, so calls are
+ *   reentrant: they may run at once in several threads, as long as none writes bytes that another has been lent.
+ * - Stack. No call takes more than PLATE_STACK bytes.
+ * - Floating point. The calls assume the mode in which a program starts: rounding to nearest, subnormal numbers neither
+ *   flushed to zero nor read as zero, exceptions masked. With another rounding, or subnormals as zeros, samples and
+ *   lengths may differ from the definition, and subnormal numbers may pass a range or not; still nothing outside the
+ *   lent bytes is read or written. With exceptions unmasked a call may trap half-way. The mode is neither read nor
+ *   changed.
+ * - Samples. Input samples must be finite. Outputs need not be: a board whose loops or numbers amplify can reach
+ *   infinities and NaN, which are answered as any other output. A NaN is always 7FC00000.
+ * - Machine. libplate.a is for x86-64 with the System V calling convention (Linux): the compiler behind it makes
+ *   nothing else today. It uses SSE2 and no later extension, and wants memcpy and memset from its host, no more.
  *
  * Numbers in boards, memory and sample blocks are little-endian; samples are 32-bit floats. Sample rate 44,100.
  */
@@ -18,12 +33,20 @@
 extern "C" {
 #endif
 
+/* The version of this header and of the archive that is installed with it. While the first number is 0, a change of
+   the second may change or add calls, answers, boards or the memory's layout, and a host should be looked at again; a
+   change of the third changes none of these. */
+#define PLATE_VERSION_MAJOR 0
+#define PLATE_VERSION_MINOR 1
+#define PLATE_VERSION_PATCH 0
+#define PLATE_VERSION "0.1.0"
+
 typedef struct {
     uint32_t number;
     uint32_t place;
 } plate_answer;
 
-/* The numbers, each with its place. */
+/* The numbers, each with its place. plate_words.h has them in words. */
 enum {
     PLATE_OK = 0,         /* 0, unless the call says otherwise */
     PLATE_CUT = 1,        /* record's offset: cut, of a wrong length for its kind, or bytes after the end */
@@ -33,7 +56,7 @@ enum {
     PLATE_WIRE = 5,       /* record's offset: a wire's end is missing, both are one node, or it is the 129th */
     PLATE_SOURCES = 6,    /* node: no node 0, a bad input node, or a wrong number of sources */
     PLATE_LENGTH = 7,     /* length needed: memory or plate bytes not of that length */
-    PLATE_MEMORY = 8,     /* lowest node with a value in memory that is not as it must be */
+    PLATE_CELL = 8,       /* lowest node with a value in memory that is not as it must be */
     PLATE_BLOCKS = 9,     /* block size N: a block is not of 4 x N bytes */
     PLATE_INPUT = 10,     /* index of the first infinite or NaN input sample */
     PLATE_TARGET = 11,    /* node that is missing or takes no number; for plate_mix, that is no mul */
@@ -42,11 +65,26 @@ enum {
     PLATE_NO_WIRE = 16    /* target: there is no such wire to pull */
 };
 
+/* Limits of a board. */
+#define PLATE_RATE 44100u          /* samples a second */
+#define PLATE_MOST_BLOCK 128u      /* block size: 1 to 128 samples */
+#define PLATE_MOST_NODES 64u       /* nodes: 1 to 64 */
+#define PLATE_MOST_WIRES 128u      /* wires: 0 to 128 */
+#define PLATE_MOST_SOURCES 8u      /* distinct sources of a sum or of the destination */
+#define PLATE_LONGEST_LINE 132300u /* samples of one line: 3 seconds */
+#define PLATE_MOST_LINES 262144u   /* values of all lines together; an all-pass of n has 2 n */
+#define PLATE_MOST_BOARD 1932u     /* bytes of a board: no accepted board is longer */
+#define PLATE_MOST_MEMORY 1113856u /* bytes of memory: no accepted board needs more */
+
 /* The tail of a board whose output may never end. */
 #define PLATE_ENDLESS 4294967295u
 
-/* The length in bytes of a written plate. */
+/* The length in bytes of a written plate, and of its memory at blocks of n samples. */
 #define PLATE_BYTES 1270u
+#define PLATE_MEMORY(n) (236392u + 212u * (n))
+
+/* Bytes of stack that are enough for any call on any board. */
+#define PLATE_STACK 32768u
 
 /* Judges a board. Answers 0 and the length in bytes of its memory, or 1 to 6. Writes nothing. */
 plate_answer plate_judge(const uint8_t *board, size_t board_len);
@@ -93,7 +131,7 @@ plate_answer plate_message(const uint8_t *board, size_t board_len, uint8_t *memo
 plate_answer plate_mix(const uint8_t *board, size_t board_len, uint8_t *memory, size_t memory_len, float mix);
 
 /* Writes a plate of block size n: all PLATE_BYTES bytes of the board. Answers 0 and 0, or 3 (place 0), 12 (place 41),
-   7. The judge accepts what it wrote, with a memory of 236,392 + 212 x n bytes. The delay that its one late wire leads
+   7. The judge accepts what it wrote, with a memory of PLATE_MEMORY(n) bytes. The delay that its one late wire leads
    into, node 15, has 2,800 samples at every n, so plates of different n differ in sound; docs/SIZES.md says which line
    makes them the same. */
 plate_answer plate_write(uint32_t n, float mix, uint8_t *board, size_t board_len);

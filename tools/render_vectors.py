@@ -12,7 +12,9 @@ import os
 import struct
 import subprocess
 import sys
-from fractions import Fraction
+
+import card_vectors
+from card_vectors import Bad, float_bits
 
 PASS, SUM, DESTINATION, BALANCE, MUL, ADD, DELAY, ALLPASS, ONEPOLE, SINE = range(1, 11)
 NAN = float("nan")
@@ -223,14 +225,18 @@ def out_file(frames):
     return riff(chunk(b"fmt ", head), chunk(b"fact", struct.pack("<I", n)), chunk(b"data", frames))
 
 
-WIDTH = {(1, 16): 2, (1, 24): 3, (3, 32): 4}
+WIDTH = {(1, 8): 1, (1, 16): 2, (1, 24): 3, (1, 32): 4, (3, 32): 4}
 
 
 class Problem(Exception):
     pass
 
 
-def format_of(body):
+def advice(name, options=""):
+    return "; try: sox %s -r 44100%s -e signed -b 24 new.wav" % (name, options)
+
+
+def format_of(body, name):
     if len(body) < 16:
         raise Problem("fmt chunk cut short")
     tag, channels, rate, _, frame, width = struct.unpack_from("<HHIIHH", body)
@@ -239,13 +245,13 @@ def format_of(body):
             raise Problem("fmt chunk cut short")
         tag = struct.unpack_from("<H", body, 24)[0]
     if rate != 44100:
-        raise Problem("%d Hz: only 44100 is read" % rate)
+        raise Problem("%d Hz: only 44100 is read" % rate + advice(name))
     if channels not in (1, 2):
-        raise Problem("%d channels: only 1 and 2 are read" % channels)
+        raise Problem("%d channels: only 1 and 2 are read" % channels + advice(name, " -c 2"))
     if tag not in (1, 3):
-        raise Problem("%d as format: only 1 (whole numbers) and 3 (floats) are read" % tag)
+        raise Problem("%d as format: only 1 (whole numbers) and 3 (floats) are read" % tag + advice(name))
     if (tag, width) not in WIDTH:
-        raise Problem("%d bits: only 16 and 24 bit whole numbers and 32 bit floats are read" % width)
+        raise Problem("%d bits: only 8, 16, 24 and 32 bit whole numbers and 32 bit floats are read" % width + advice(name))
     if frame != channels * WIDTH[tag, width]:
         raise Problem("%d bytes a frame do not fit channels and bits" % frame)
     return tag, channels, WIDTH[tag, width]
@@ -254,37 +260,52 @@ def format_of(body):
 def sample(data, tag):
     if tag == 3:
         return of_bits(struct.unpack("<I", data)[0])
-    return int.from_bytes(data, "little", signed=True) / 2 ** (8 * len(data) - 1)
+    if len(data) == 1:
+        return (data[0] - 128) / 128
+    return single(int.from_bytes(data, "little", signed=True) / 2 ** (8 * len(data) - 1))
 
 
-def sounds_of(data):
+def taken_as(left, right, channel):
+    if channel == "left":
+        return left
+    if channel == "right":
+        return right
+    return mul(add(left, right), 0.5)
+
+
+def sounds_of(data, name, channel):
+    """The samples of a WAV file, each frame taken as one, and whether its frames are of two."""
     if data[:4] != b"RIFF" or data[8:12] != b"WAVE":
         raise Problem("not a WAV file")
     at, known = 12, None
     while at + 8 <= len(data):
-        name, size = data[at:at + 4], struct.unpack_from("<I", data, at + 4)[0]
+        kind, size = data[at:at + 4], struct.unpack_from("<I", data, at + 4)[0]
+        if kind == b"data" and size in (0, 0xFFFFFFFF):
+            size = len(data) - at - 8
         body = data[at + 8:at + 8 + size]
         at += 8 + size + size % 2
-        if name == b"fmt ":
-            known = format_of(body)
-        elif name == b"data":
+        if kind == b"fmt ":
+            known = format_of(body, name)
+        elif kind == b"data":
             if known is None:
                 raise Problem("no fmt chunk before the data")
             tag, channels, width = known
             frame = channels * width
             if size % frame:
                 raise Problem("%d bytes of data are no whole frames" % size)
+            if channels == 1 and channel in ("left", "right"):
+                raise Problem("mono: it has neither left nor right")
             sounds = []
             for i in range(len(body) // frame):
                 x = sample(body[frame * i:frame * i + width], tag)
                 if channels == 2:
-                    x = mul(add(x, sample(body[frame * i + width:frame * i + frame], tag)), 0.5)
+                    x = taken_as(x, sample(body[frame * i + width:frame * i + frame], tag), channel)
                 if math.isnan(x) or math.isinf(x):
                     raise Problem("sample %d is infinite or NaN" % i)
                 sounds.append(x)
             if len(body) < size:
                 raise Problem("cut short: %d of %d bytes of data are there" % (len(body), size))
-            return sounds
+            return sounds, channels == 2
     raise Problem("no data chunk")
 
 
@@ -332,17 +353,32 @@ def floats(sounds):
     return b"".join(struct.pack("<f", x) for x in sounds)
 
 
+# a file whose data chunk, of so many bytes at the end, names another length
+def unsized(file, bytes, length):
+    at = len(file) - bytes - 4
+    return file[:at] + struct.pack("<I", length) + file[at + 4:]
+
+
 def make_files():
     sounds = noise(41)
     edges = [0x8000, 0x7FFF, 0xFFFF, 1, 0, 0x8001]
     words16 = struct.pack("<6H", *edges) + whole(sounds, 16)
     words24 = b"".join((w << 8 | w >> 8).to_bytes(3, "little") for w in edges) + whole(sounds, 24)
+    # ties to even either way, sizes that are rounded up to the next power of two, and both ends
+    words32 = struct.pack("<9I", 0x80000000, 0x7FFFFFFF, 0x80000001, 0xFFFFFFFF, 1, 0x40000040, 0x400000C0, 0x40000041, 0xBFFFFFC0) + whole(sounds, 32)
     data = lambda body: chunk(b"data", body)
     files = {
         "printed.board": PRINTED,
         "damaged.board": PRINTED[:8] + node(3) + node(1) + node(6) + node(7, 0) + PRINTED[64:],
+        "unknown.card": b"block 4 input in\nout: destination\nin: pass\nwire in outt\n",
+        "refused.card": b"block 4 input in\nout: destination\nin: pass\necho: delay 0\nwire in echo\nwire echo out\n",
         "tail.board": TAIL,
         "moving.board": MOVING,
+        # a product of a sound with itself; a sound times four
+        "square.board": board(3, 1, [(3,), (1,), (5,), (1,)], [(1, 2), (3, 2), (1, 3), (2, 0)]),
+        "loud.board": board(4, 1, [(3,), (1,), (5, 0, 4.0)], [(1, 2), (2, 0)]),
+        # the sound to the left, and half of it to the right
+        "sides.board": board(4, 1, [(3,), (1,), (5, 0, 0.5), (4,)], [(1, 2), (1, 3), (2, 3), (3, 0)]),
         "loop16.board": loop(16, 5),
         "loop4.board": loop(4, 17),
         "loop4_uncorrected.board": loop(4, 5),
@@ -351,6 +387,9 @@ def make_files():
         "mono16.wav": riff(fmt(1, 1, 16), data(words16)),
         "mono24.wav": riff(chunk(b"LIST", b"odd"), fmt(1, 1, 24), chunk(b"odd ", b"?"), data(words24)),
         "mono32.wav": riff(fmt(3, 1, 32), data(floats(sounds + [1e-40, -0.0, 3e38]))),
+        "mono8.wav": riff(fmt(1, 1, 8), data(bytes([0, 255, 128, 127, 1, 129]) + bytes(range(3, 250, 7)))),
+        "mono32w.wav": riff(fmt(1, 1, 32), data(words32)),
+        "stereo8.wav": riff(fmt(1, 2, 8), data(bytes(range(5, 245, 6)))),
         "stereo16.wav": riff(fmt(1, 2, 16), data(words16[:88]), chunk(b"end ", b"")),
         "stereo24.wav": riff(fmt(1, 2, 24), data(words24[:138])),
         "stereo32.wav": riff(fmt(3, 2, 32), data(floats(noise(50, 7)))),
@@ -358,6 +397,17 @@ def make_files():
         "extended32.wav": riff(fmt(0xFFFE, 2, 32, sub=3), data(floats(noise(12, 9)))),
         "empty.wav": riff(fmt(1, 1, 16), data(b"")),
         "long.wav": riff(fmt(1, 1, 16), data(whole(noise(700) + [0.0] * 5300, 16))),
+        # lengths that say nothing: up to the file's end
+        "open0.wav": unsized(riff(fmt(1, 1, 16), data(words16)), len(words16), 0),
+        "openF.wav": unsized(riff(fmt(1, 2, 24), data(words24[:138])), 138, 0xFFFFFFFF),
+        "open_odd.wav": unsized(riff(fmt(1, 2, 16), data(words16[:90])), 90, 0),
+        # one channel is not finite, which is no matter where the other is taken alone
+        "half_nan.wav": riff(fmt(3, 2, 32), data(floats([0.25, math.nan, -0.5, math.inf, 0.75, 0.0]))),
+        # what comes out is infinite, NaN and above full scale
+        "extreme.wav": riff(fmt(3, 1, 32), data(floats([0.5, 1.0, -1.0, 1.0000001, -3e38, 2e38, 0.0, 3e38] + noise(9)))),
+        "one_loud.wav": riff(fmt(3, 1, 32), data(floats([0.5, 1.0] + [x / 2 for x in noise(1500)] + [-1.5, 0.75]))),
+        "quiet.wav": riff(fmt(1, 2, 16), data(whole([x / 8 for x in noise(20, 3)], 16))),
+        "taken.wav.part": b"of another render\n",
         "text.wav": b"no sound at all\n",
         "nothing.wav": b"",
         "riff.wav": b"RIFF" + struct.pack("<I", 4) + b"AVI ",
@@ -367,7 +417,7 @@ def make_files():
         "short_extended.wav": riff(fmt(0xFFFE, 1, 16), data(words16)),
         "rate.wav": riff(fmt(1, 1, 16, rate=48000), data(words16)),
         "three.wav": riff(fmt(1, 3, 16), data(words16[:90])),
-        "eight.wav": riff(fmt(1, 1, 8), data(words16)),
+        "twelve.wav": riff(fmt(1, 1, 12), data(words16)),
         "double.wav": riff(fmt(3, 1, 64), data(words16)),
         "adpcm.wav": riff(fmt(2, 2, 4, frame=1024), data(words16)),
         "padded24.wav": riff(fmt(1, 1, 24, frame=4), data(words16[:92])),
@@ -385,6 +435,9 @@ CASES = """
 mono16.wav - board tail.board
 mono24.wav - board tail.board
 mono32.wav - board tail.board
+mono8.wav - board tail.board
+mono32w.wav - board tail.board
+stereo8.wav - board tail.board
 stereo16.wav - board tail.board   # to the end of the tail
 stereo24.wav - board tail.board
 stereo32.wav - board tail.board
@@ -409,6 +462,32 @@ stereo16.wav endless.wav board printed.board
 stereo32.wav again.wav board moving.board 0
 \tagain.wav  -\tboard tail.board 0
 
+# one channel of two, and words in any order
+stereo16.wav - board tail.board mono
+stereo16.wav - board tail.board left
+stereo16.wav - board tail.board right 0
+stereo24.wav - board tail.board 0 right
+half_nan.wav - board tail.board left
+mono16.wav - board tail.board mono
+quiet.wav quiet_out.wav board tail.board          # mixed, and that is told
+quiet.wav quiet_out.wav board tail.board right 0  # written again
+quiet_out.wav - board tail.board 0 left
+
+# lengths that say nothing
+open0.wav - board tail.board
+openF.wav - board tail.board mono
+open_odd.wav - board tail.board
+
+# samples that are worth a line
+extreme.wav - board printed.board 0
+extreme.wav extreme_out.wav board square.board 0
+long.wav loud_out.wav board loud.board 0
+one_loud.wav one_out.wav board sides.board 0
+
+# to what is no file, and beside a file that is taken
+mono16.wav /dev/null board tail.board
+mono16.wav taken.wav board tail.board
+
 # the input
 missing.wav - plate 0.5
 text.wav - plate 0.5
@@ -420,7 +499,7 @@ short_fmt.wav - plate 0.5
 short_extended.wav - plate 0.5
 rate.wav - plate 0.5
 three.wav - plate 0.5
-eight.wav - plate 0.5
+twelve.wav - plate 0.5
 double.wav - plate 0.5
 adpcm.wav - plate 0.5
 padded24.wav - plate 0.5
@@ -430,23 +509,54 @@ nan.wav - plate 0.5
 infinite.wav - plate 0.5
 loud.wav - plate 0.5
 
+# the cards of examples/, and cards that are none
+long.wav - card echo.card 0
+long.wav - card pingpong.card 0
+long.wav - card chorus.card 0
+long.wav - card widener.card 0
+long.wav - card room.card 0
+long.wav - card plate.card 0
+mono16.wav - card unknown.card
+mono16.wav - card refused.card
+mono16.wav - card missing.card
+mono16.wav refused.card card refused.card
+
 # the board, the other words and the output
 mono16.wav - board damaged.board
 mono16.wav - board missing.board
 mono16.wav - plate x7f800000
 mono16.wav - plate loud
-mono16.wav - plate 0.123456789
+mono16.wav - plate 0.1234567890123456789012345678901234567890
+mono16.wav - plate 1e39
 mono16.wav - spring 0.5
 mono16.wav - plate 0.5 601
 mono16.wav - plate 0.5 -1
 mono16.wav mono16.wav plate 0.5
 mono16.wav ./mono16.wav plate 0.5
 mono16.wav missing/out.wav plate 0.5
+mono16.wav tail.board board tail.board
+mono16.wav ./tail.board board tail.board 0 mono
+mono16.wav list plate 0.5
+mono16.wav ./list board tail.board
 mono16.wav - plate
 mono16.wav - plate 0.5 1 1
+mono16.wav - plate 0.5 left 1 right
+mono16.wav - plate 0.5 loud
+mono16.wav - plate 0.5 1.5
+mono16.wav - plate 0.5 left
+mono16.wav - plate 0.5 1 right
+half_nan.wav - plate 0.5 right
 """
 
-USAGE = "render IN.wav OUT.wav plate MIX [SECONDS] | render IN.wav OUT.wav board FILE [SECONDS] | render list FILE\n"
+USAGE = """render IN.wav OUT.wav plate MIX [SECONDS] [mono|left|right] [progress]
+render IN.wav OUT.wav board FILE [SECONDS] [mono|left|right] [progress]
+render IN.wav OUT.wav card FILE [SECONDS] [mono|left|right] [progress]
+render list FILE, render check FILE
+IN: WAV, 44100 Hz, mono or stereo, 8, 16, 24 or 32 bit whole numbers or 32 bit floats
+OUT: WAV, 32 bit floats in stereo; - is standard output
+MIX: 0 is the sound alone, 1 the plate alone; SECONDS: how long OUT goes on after IN, up to 600
+docs/RENDER.md has more
+"""
 
 
 def plate_bytes(mix, size=128, line=2800):
@@ -463,60 +573,122 @@ def plate_bytes(mix, size=128, line=2800):
 
 
 def mix_of(word):
-    if word[0] == "x":
-        x = of_bits(int(word[1:], 16))
-        if math.isinf(x) or math.isnan(x):
-            raise Problem("mix not finite")
-        return x
     try:
-        exact = Fraction(word)
-    except ValueError:
-        raise Problem("no float")
-    if int(word.replace(".", "").replace("-", "")) >= 2**24:
-        raise Problem("decimal too long: write its bits, x and 8 hexadecimal digits")
-    return single(float(exact))
+        x = of_bits(float_bits(word))
+    except Bad as answer:
+        raise Problem(str(answer))
+    if math.isinf(x) or math.isnan(x):
+        raise Problem("mix not finite")
+    return x
 
 
 def board_of(files, form, what):
     if form == "plate":
         return plate_bytes(mix_of(what))
-    if form != "board":
-        raise Problem("neither plate nor board")
+    if form not in ("board", "card"):
+        raise Problem("neither plate nor board nor card")
     if what not in files:
         raise Problem("cannot be opened")
-    if what == "damaged.board":
-        raise Problem("refused 4 50")
+    if form == "card":
+        return card_of(files[what])
+    refused = card_vectors.judge_bytes(files[what])
+    if refused:
+        raise Problem("refused %d %d: %s" % refused)
     return files[what]
 
 
+def card_of(data):
+    """The bytes of a card's board; or what `card bytes` answers."""
+    if len(data) > 69631:
+        raise Problem("text too long: at most 69631 bytes")
+    text = data.decode()
+    try:
+        said = card_vectors.read(text)
+    except Bad as bad:
+        raise Problem(str(bad))
+    try:
+        card_vectors.judge(*said)
+    except card_vectors.Refused as refused:
+        raise Problem(card_vectors.refusal(text, *said, refused).split("\n")[0])
+    return card_vectors.board(*said)
+
+
+def asked(words):
+    """Seconds and channel, each None where no word says it; or the word that is refused, and why."""
+    seconds = channel = None
+    for word in words:
+        if word in ("mono", "left", "right"):
+            if channel:
+                return word, "a channel is named already"
+            channel = word
+        elif word.isdigit() and int(word) <= 600:
+            if seconds is not None:
+                return word, "seconds are given already"
+            seconds = int(word)
+        elif word[0] in "0123456789-+.":
+            return word, "seconds are a whole number up to 600"
+        else:
+            return word, "neither seconds nor mono, left, right or progress"
+    return seconds, channel
+
+
+def level(out, places, words):
+    if not places:
+        return ""
+    frame = places[0] // 2
+    ms = (frame * 1000 + 22050) // 44100
+    samples = "1 sample" if len(places) == 1 else "%d samples" % len(places)
+    return "%s: %s %s, the first at %d.%03d s (frame %d)\n" % (out, samples, words, ms // 1000, ms % 1000, frame)
+
+
+def warnings(out, frames):
+    values = struct.unpack("<%df" % (len(frames) // 4), frames)
+    bad = [i for i, x in enumerate(values) if not math.isfinite(x)]
+    loud = [i for i, x in enumerate(values) if math.isfinite(x) and abs(x) > 1]
+    return level(out, bad, "infinite or NaN") + level(out, loud, "above full scale")
+
+
+MIXED = "stereo, mixed to one channel ((left + right) / 2); left or right takes one alone"
+
+
 def rendered(files, words):
-    if not 4 <= len(words) <= 5:
+    if len(words) < 4:
         return USAGE.encode()
     name, out, form, what = words[:4]
-    at = form if form not in ("plate", "board") else what
+    seconds, channel = asked(words[4:])
+    if isinstance(seconds, str):
+        return ("%s: %s\n" % (seconds, channel)).encode()
+    there = files.get(os.path.normpath(out))
+    at = out
     try:
+        if there is not None and form in ("board", "card") and there == files.get(what):
+            raise Problem("is the board's file, or a copy of it")
+        if there is not None and there == files["list"]:
+            raise Problem("is the list, or a copy of it")
+        at = form if form not in ("plate", "board", "card") else what
         b = Board(board_of(files, form, what))
-        if len(words) == 5:
-            at = words[4]
-            if not at.isdigit() or int(at) > 600:
-                raise Problem("seconds are a whole number up to 600")
-            more = 44100 * int(at)
-        else:
-            more = 176400 if b.tail() is None else b.tail()
         at = name
         if name not in files:
             raise Problem("cannot be opened")
-        sounds = sounds_of(files[name])
+        sounds, stereo = sounds_of(files[name], name, channel)
+        if seconds is not None:
+            more = 44100 * seconds
+        else:
+            more = 176400 if b.tail() is None else b.tail()
         at = out
-        if files.get(os.path.normpath(out)) == files[name]:
+        if there == files[name]:
             raise Problem("is the input, or a copy of it")
-        if "/" in out:
+        if out + ".part" in files:
+            at = out + ".part"
+            raise Problem("is there already: remove it, unless a render is writing it")
+        if "/" in out and out != "/dev/null":
             raise Problem("cannot be opened for writing")
-        frames = len(sounds) + more
+        frames = played(b, sounds, len(sounds) + more)
+        said = warnings(out, frames) + ("%s: %s\n" % (name, MIXED) if stereo and channel is None else "")
         if out == "-":
-            return out_file(played(b, sounds, frames))
-        files[out] = out_file(played(b, sounds, frames)) if more == 0 else b""
-        return ("%s: %d samples in, %d out\n" % (out, len(sounds), frames)).encode()
+            return out_file(frames) + said.encode()
+        files[out] = out_file(frames)
+        return ("%s: %d samples in, %d out\n" % (out, len(sounds), len(sounds) + more) + said).encode()
     except Problem as p:
         return ("%s: %s\n" % (at, p)).encode()
 
@@ -524,14 +696,16 @@ def rendered(files, words):
 def main():
     folder = sys.argv[1]
     files = make_files()
+    for name in ("echo", "pingpong", "chorus", "widener", "room", "plate"):
+        with open(os.path.join(os.path.dirname(os.path.abspath(__file__)), "../examples", name + ".card"), "rb") as f:
+            files[name + ".card"] = f.read()
+    files["list"] = CASES.encode()
     os.makedirs(folder + "/data", exist_ok=True)
     for name, data in files.items():
         with open(folder + "/data/" + name, "wb") as f:
             f.write(data)
-    with open(folder + "/data/list", "w") as f:
-        f.write(CASES)
     with open(folder + "/args", "w") as f:
-        f.write("list\nlist\n")
+        f.write("check\nlist\n")
     with open(folder + "/stdout", "wb") as f:
         for line in CASES.split("\n"):
             words = line.split("#")[0].split()

@@ -12,17 +12,23 @@ import sys
 folder = pathlib.Path(__file__).resolve().parent.parent / "crates/render"
 
 
+TOLD = re.compile(rb"\S+: (\d+ samples? (infinite or NaN|above full scale), |stereo, mixed )")
+
+
 def outputs(data):
-    """The answers in their order: a WAV file, or a line."""
+    """The answers in their order: a WAV file, or a line. What is told of a sound that was written is no answer of its own."""
     while data:
         end = 8 + struct.unpack_from("<I", data, 4)[0] if data[:4] == b"RIFF" else data.index(b"\n") + 1
-        yield data[:end]
+        if not TOLD.match(data):
+            yield data[:end]
         data = data[end:]
 
 
+USAGE = 8  # lines that a wrong number of words is answered with
 lines = [line for line in (folder / "data/list").read_text().split("\n") if line.split("#")[0].split()]
 written = list(outputs((folder / "stdout").read_bytes()))
-wrong = [] if len(lines) == len(written) else ["%d lines, %d outputs" % (len(lines), len(written))]
+short = sum(len(line.split("#")[0].split()) < 4 for line in lines)
+wrong = [] if len(lines) + (USAGE - 1) * short == len(written) else ["%d lines, %d outputs" % (len(lines), len(written))]
 earlier, compared = {}, 0
 for line, output in zip(lines, written):
     what = line.split("#")[0].split()[3:4]

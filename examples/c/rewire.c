@@ -2,7 +2,7 @@
    brings nothing but zeros, so no change clicks: the two give the same samples bit for bit, but for one block in which
    a new wire brings sound. Every answer and every byte lent is held to what plate.h says. */
 #include "plate.h"
-#include "words.h"
+#include "plate_words.h"
 
 #include <stdio.h>
 #include <stdlib.h>
@@ -26,7 +26,8 @@ static void fail(const char *what)
 static void check(const char *call, plate_answer a)
 {
     if (a.number != PLATE_OK) {
-        fprintf(stderr, "%s: refused %u, place %u: %s\n", call, a.number, a.place, words[a.number]);
+        fprintf(stderr, "%s: refused %u: %s (%s %u)\n", call, (unsigned)a.number, plate_words(a.number),
+                plate_place_words(a.number), (unsigned)a.place);
         exit(1);
     }
 }
@@ -94,7 +95,7 @@ static void change(tank *t, int adding, uint16_t source, uint16_t target, size_t
            w.place, w.count);
     if (w.number != number || w.place != place || w.count != count)
         fail("the answer");
-    printf("%s%s\n", number == PLATE_OK ? "" : ": ", number == PLATE_OK ? "" : words[number]);
+    printf("%s%s\n", number == PLATE_OK ? "" : ": ", number == PLATE_OK ? "" : plate_words(number));
     check_list(&w);
     if (memcmp(expected, t->bytes, sizeof expected) != 0)
         fail("the bytes lent");

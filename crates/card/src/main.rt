@@ -1,36 +1,24 @@
 // Boards as text: `card bytes` reads a card, a board written as text, and writes the board's bytes;
 // `card text` reads a board and writes its card; `card dot` reads a board and writes it as a graph for
 // Graphviz; `card size M` reads a board and writes it at blocks of M samples. All read standard input
-// and write standard output.
-//
-// A card has a line for each record but the end record, in the order of a board. Words stand apart by
-// spaces; `#` starts a comment; an empty line is nothing.
-//
-//     block N input I                the head: block size and input node
-//     pass | sum | destination | balance
-//     mul F | add F | onepole F | sine F
-//     delay N | allpass N F          nodes, numbered from 0 in their order
-//     wire SOURCE TARGET
-//
-// A whole number is decimal digits. A float is a decimal, as 0.5, -1 or 1e-3, or `x` and the 8
-// hexadecimal digits of its bits. A decimal has digits below 2^24, its point aside, and at most 10 tens
-// up or down, and gives the nearest float; any other is refused.
-//
-// A bad line is answered by `line`, its number and what is wrong, and nothing else; a board that the
-// judge refuses by `refused`, number and place. docs/CARD.md has examples.
+// and write standard output. What is wrong, and how to use the program, is told on standard error, so
+// that only a board, a card or a graph goes into a file. docs/CARD.md says what a card is, and has every
+// answer.
 //
 // `card size M` corrects the one line that makes the board sound the same, or writes nothing; what it
-// did, or why it cannot, is told on standard error, so that only a board goes into a file.
-// docs/SIZES.md says what carries over.
+// did, or why it cannot, is told on standard error. docs/SIZES.md says what carries over.
 //
 // `card check` reads cards with a `%` between them, and writes of each the board's bytes in base 16, its
-// card and its graph, and what becomes of it at blocks of 1, then 64, then 128.
+// card and its graph, and what becomes of it at blocks of 1, then 64, then 128; or its answer, and that
+// to its board's bytes.
 mod size;
 mod write;
 
+use answers::answer::answer_text;
+use answers::answer::refusal_text;
+use answers::fault::board_end;
 use cards::board::Made;
 use cards::board::board_of;
-use cards::line::Reason;
 use check::same;
 use graph::judge::read_board;
 use leaves::bytes::wide;
@@ -46,41 +34,11 @@ use text::words::find;
 use write::Form;
 use write::text_of;
 
-// `refused`, number and place.
-fn show_refusal(number: u32, place: u32) {
-    io::write_all(STDOUT_FILENO, b"refused ");
-    io::print_decimal(STDOUT_FILENO, number as u64);
-    io::write_all(STDOUT_FILENO, b" ");
-    io::print_decimal(STDOUT_FILENO, place as u64);
-    io::write_all(STDOUT_FILENO, b"\n");
-}
-
-// What is wrong with a line. Answers as `write_all` does.
-fn show_reason(reason: Reason) -> bool {
-    match reason {
-        Reason::Name => io::write_all(STDOUT_FILENO, b"unknown name\n"),
-        Reason::Fields => io::write_all(STDOUT_FILENO, b"wrong number of fields\n"),
-        Reason::Whole => io::write_all(STDOUT_FILENO, b"no whole number, or too large\n"),
-        Reason::Float => io::write_all(STDOUT_FILENO, b"no float\n"),
-        Reason::Long => io::write_all(
-            STDOUT_FILENO,
-            b"decimal too long: write its bits, x and 8 hexadecimal digits\n",
-        ),
-        Reason::Late => io::write_all(
-            STDOUT_FILENO,
-            b"out of order: block, then nodes, then wires\n",
-        ),
-        Reason::Early => io::write_all(STDOUT_FILENO, b"before the block line\n"),
-        Reason::Many => io::write_all(STDOUT_FILENO, b"too many of these\n"),
-    }
-}
-
-// A bad line: its number and what is wrong with it.
-fn show_bad(line: usize, reason: Reason) {
-    io::write_all(STDOUT_FILENO, b"line ");
-    io::print_decimal(STDOUT_FILENO, line as u64);
-    io::write_all(STDOUT_FILENO, b": ");
-    show_reason(reason);
+// A refusal of a board's bytes.
+fn show_refusal(fd: i32, s: &[u8], number: u32, place: u32) {
+    let mut out = [0u8; 512];
+    let n = refusal_text(s, number, place, &mut out);
+    io::write_all(fd, &out[..n]);
 }
 
 // Board to card, or to graph.
@@ -88,10 +46,10 @@ fn show_form(s: &[u8], form: Form) {
     let board = read_board(s);
     let refused = board.refused;
     if refused.number != 0 {
-        show_refusal(refused.number, refused.place);
+        show_refusal(STDERR_FILENO, s, refused.number, refused.place);
         return;
     }
-    let mut out = [0u8; 16384];
+    let mut out = [0u8; 24576];
     let n = text_of(board, form, &mut out);
     io::write_all(STDOUT_FILENO, &out[..n]);
 }
@@ -132,13 +90,34 @@ fn show_board(s: &mut [u8], check: bool) {
     }
 }
 
+// What is wrong with a card.
+fn show_answer(fd: i32, card: &[u8], board: &[u8], made: Made) {
+    let mut out = [0u8; 512];
+    let n = answer_text(card, board, made, &mut out);
+    io::write_all(fd, &out[..n]);
+}
+
+// For a check: the same, and what the board's bytes are answered with.
+fn show_wrong(card: &[u8], board: &[u8], made: Made) {
+    show_answer(STDOUT_FILENO, card, board, made);
+    if let Made::Refused(number, place) = made {
+        let end = board_end(board);
+        show_refusal(STDOUT_FILENO, &board[..end], number, place);
+    }
+}
+
 // Card to board.
 fn show_card(card: &[u8], check: bool) {
     let mut out = [0u8; 2048];
-    match board_of(card, &mut out) {
-        Made::Board(n) => show_board(&mut out[..n], check),
-        Made::Refused(number, place) => show_refusal(number, place),
-        Made::Bad(line, reason) => show_bad(line, reason),
+    let made = board_of(card, &mut out);
+    if let Made::Board(n) = made {
+        show_board(&mut out[..n], check);
+        return;
+    }
+    if check {
+        show_wrong(card, &out, made);
+    } else {
+        show_answer(STDERR_FILENO, card, &out, made);
     }
 }
 
@@ -176,35 +155,63 @@ fn size_of(word: &[u8]) -> u32 {
     if whole.good { whole.value as u32 } else { 0 }
 }
 
-// What the first argument asks.
-fn run(mode: &[u8], input: &[u8]) {
+// Card to board, unless the text was cut.
+fn show_bytes(input: &[u8]) {
+    if input.len() == MOST {
+        io::write_all(STDERR_FILENO, b"text too long: at most 69631 bytes\n");
+        return;
+    }
+    show_card(input, false);
+}
+
+// What the first word asks.
+fn run(mode: &[u8], size: &[u8], input: &mut [u8]) {
     if same(mode, b"bytes") {
-        if input.len() == MOST {
-            io::write_all(STDOUT_FILENO, b"text too long\n");
-            return;
-        }
-        show_card(input, false);
+        show_bytes(input);
     } else if same(mode, b"text") {
         show_form(input, Form::Card);
     } else if same(mode, b"dot") {
         show_form(input, Form::Graph);
-    } else if same(mode, b"check") {
-        show_cards(input);
+    } else if same(mode, b"size") {
+        show_size(input, size_of(size));
     } else {
-        io::write_all(STDOUT_FILENO, b"card bytes | text | dot | size M | check\n");
+        show_cards(input);
     }
 }
 
+// Whether a word asks for something that is done with the input.
+fn is_mode(mode: &[u8]) -> bool {
+    if same(mode, b"bytes") | same(mode, b"text") | same(mode, b"dot") {
+        return true;
+    }
+    same(mode, b"size") | same(mode, b"check")
+}
+
+fn show_use() {
+    io::write_all(
+        STDERR_FILENO,
+        b"card bytes   < CARD  > BOARD   a card's board\ncard text    < BOARD > CARD    a board's card\n",
+    );
+    io::write_all(
+        STDERR_FILENO,
+        b"card dot     < BOARD > GRAPH   a board's graph, for Graphviz: dot -Tsvg\ncard size M  < BOARD > BOARD   the board at blocks of M samples, 1 to 128\n",
+    );
+    io::write_all(
+        STDERR_FILENO,
+        b"card check   < CARDS           cards with a % between them, for a check\ndocs/CARD.md says what a card is.\n",
+    );
+}
+
 fn main() {
-    let mut input = [0u8; MOST];
-    let n = io::read_full(STDIN_FILENO, &mut input);
     let mut mode = [0u8; 8];
     let m = os::arg(1, &mut mode);
-    let mut word = [0u8; 8];
-    let w = os::arg(2, &mut word);
-    if same(&mode[..m], b"size") {
-        show_size(&mut input[..n], size_of(&word[..w]));
+    if !is_mode(&mode[..m]) {
+        show_use();
         return;
     }
-    run(&mode[..m], &input[..n]);
+    let mut word = [0u8; 8];
+    let w = os::arg(2, &mut word);
+    let mut input = [0u8; MOST];
+    let n = io::read_full(STDIN_FILENO, &mut input);
+    run(&mode[..m], &word[..w], &mut input[..n]);
 }

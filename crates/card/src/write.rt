@@ -1,28 +1,27 @@
 // A board as text, a card or a graph for Graphviz: each function writes into `out` from the place `at`
 // on, and returns the place after what it wrote.
-ghost use Prim.Native.Nat.{_+_, _≤_};
+ghost use Prim.Native.Nat.{_+_, _<_, _≤_};
 ghost use lib.ListN.{length};
 ghost use Rattle.io.specs.Counts.{Counts};
 ghost use Rattle.graph.specs.Read.{Sound};
 ghost use Rattle.card.specs.Board.{Accepted};
-use cards::names::NAMES;
-use cards::names::has_float;
-use cards::names::has_whole;
-use cards::names::name;
+use answers::kind::put_kind;
 use graph::board::Board;
 use graph::graph::is_late;
 use graph::graph::places;
 use graph::graph::visiting_list;
 use leaves::bytes::wide;
 use nodes::kind::NodeKind;
-use text::float::put_float;
 use text::written::put;
+use text::written::put_number;
 use text::written::put_pair;
 use text::written::put_spaced;
 use text::written::put_word;
 
-// What a board is shown as: a card, or a graph with a node for each node and an arrow for each wire,
-// dashed if it is late.
+// What a board is shown as: a card, or a graph with a node for each node and an arrow for each wire. In
+// a graph the input stands at the top and the destination at the bottom, a late wire is dashed and does
+// not pull, a node that is not reached is grey, and where a node tells its two sources apart, their
+// wires are marked 1 and 2.
 pub enum Form {
     Card,
     Graph,
@@ -35,9 +34,7 @@ struct Fields {
     f: f32,
 }
 
-fn fields_of(kind: NodeKind) -> Fields
-    ensures { λ r. ⌜ r .t ≤ 10 ⌝ }
-{
+fn fields_of(kind: NodeKind) -> Fields {
     match kind {
         NodeKind::Pass => Fields { t: 1, n: 0, f: 0.0 },
         NodeKind::Sum => Fields { t: 2, n: 0, f: 0.0 },
@@ -52,83 +49,125 @@ fn fields_of(kind: NodeKind) -> Fields
     }
 }
 
-// The whole number, if the type has one.
-fn put_whole(out: &mut [u8], at: usize, node: Fields) -> usize
-    requires { ⌜ at + 11 ≤ length (now out) ⌝ }
-    ensures { λ r. ⌜ r ≤ at + 11 ⌝ }
-{
-    if has_whole(node.t) {
-        return put_spaced(out, at, node.n);
-    }
-    at
-}
-
-// The float, if the type has one.
-fn put_fraction(out: &mut [u8], at: usize, node: Fields) -> usize
-    requires { ⌜ at + 23 ≤ length (now out) ⌝ }
-    ensures { λ r. ⌜ r ≤ at + 23 ⌝ }
-{
-    if has_float(node.t) {
-        let n = put(out, at, b' ');
-        return put_float(out, n, node.f);
-    }
-    at
-}
-
 // A type's name, and its whole number and float.
-fn put_kind(out: &mut [u8], at: usize, kind: NodeKind) -> usize
-    requires { ⌜ at + 45 ≤ length (now out) ⌝ }
-    ensures { λ r. ⌜ r ≤ at + 45 ⌝ }
+fn put_fields(out: &mut [u8], at: usize, kind: NodeKind) -> usize
+    requires { ⌜ at + 64 ≤ length (now out) ⌝ }
+    ensures { λ r. ⌜ r ≤ at + 64 ⌝ }
 {
     let node = fields_of(kind);
-    let n = put_word(out, at, name(&NAMES, node.t));
-    let m = put_whole(out, n, node);
-    put_fraction(out, m, node)
+    put_kind(out, at, node.t, node.n, node.f)
+}
+
+// How a node looks in a graph: the input and the destination by their shape, what is not reached grey.
+fn put_look(out: &mut [u8], at: usize, i: u32, input: u32, reached: bool) -> usize
+    requires { ⌜ at + 60 ≤ length (now out) ⌝ }
+    ensures { λ r. ⌜ r ≤ at + 60 ⌝ }
+{
+    if !reached {
+        return put_word(out, at, b" style=dotted color=grey fontcolor=grey");
+    }
+    if i == input {
+        return put_word(out, at, b" shape=invhouse");
+    }
+    if i == 0 {
+        return put_word(out, at, b" shape=house");
+    }
+    at
 }
 
 // Node i.
-fn put_node(out: &mut [u8], at: usize, kind: NodeKind, i: u32, form: Form) -> usize
-    requires { ⌜ at + 81 ≤ length (now out) ⌝ }
-    ensures { λ r. ⌜ r ≤ at + 81 ⌝ }
+fn put_node(
+    out: &mut [u8],
+    at: usize,
+    kind: NodeKind,
+    i: u32,
+    input: u32,
+    reached: bool,
+    form: Form,
+) -> usize
+    requires { ⌜ at + 160 ≤ length (now out) ⌝ }
+    ensures { λ r. ⌜ r ≤ at + 160 ⌝ }
 {
     match form {
         Form::Card => {
-            let n = put_kind(out, at, kind);
+            let n = put_fields(out, at, kind);
             let m = put_word(out, n, b"  #");
             let k = put_spaced(out, m, i);
             put(out, k, b'\n')
         }
         Form::Graph => {
             let n = put_pair(out, at, b"  ", i, b" [label=\"", i, b" ");
-            let m = put_kind(out, n, kind);
-            put_word(out, m, b"\"];\n")
+            let m = put_fields(out, n, kind);
+            let k = put(out, m, b'"');
+            let l = put_look(out, k, i, input, reached);
+            put_word(out, l, b"];\n")
         }
     }
 }
 
-fn put_wire(out: &mut [u8], at: usize, s: u32, t: u32, late: bool, form: Form) -> usize
-    requires { ⌜ at + 43 ≤ length (now out) ⌝ }
-    ensures { λ r. ⌜ r ≤ at + 43 ⌝ }
+// What is said of a late wire in a graph.
+fn put_late(out: &mut [u8], at: usize, late: bool) -> usize
+    requires { ⌜ at + 30 ≤ length (now out) ⌝ }
+    ensures { λ r. ⌜ r ≤ at + 30 ⌝ }
+{
+    if late {
+        return put_word(out, at, b"style=dashed constraint=false");
+    }
+    at
+}
+
+// Which source a wire brings, 1 or 2; nothing for 0.
+fn put_mark(out: &mut [u8], at: usize, mark: u32) -> usize
+    requires { ⌜ at + 30 ≤ length (now out) ⌝ }
+    ensures { λ r. ⌜ r ≤ at + 30 ⌝ }
+{
+    if mark == 0 {
+        return at;
+    }
+    let n = put_word(out, at, b" headlabel=\"");
+    let m = put_number(out, n, mark);
+    put(out, m, b'"')
+}
+
+// A wire of a graph.
+fn put_arrow(out: &mut [u8], at: usize, s: u32, t: u32, late: bool, mark: u32) -> usize
+    requires { ⌜ at + 96 ≤ length (now out) ⌝ }
+    ensures { λ r. ⌜ r ≤ at + 96 ⌝ }
+{
+    if !late & (mark == 0) {
+        return put_pair(out, at, b"  ", s, b" -> ", t, b";\n");
+    }
+    let n = put_pair(out, at, b"  ", s, b" -> ", t, b" [");
+    let m = put_late(out, n, late);
+    let k = put_mark(out, m, mark);
+    put_word(out, k, b"];\n")
+}
+
+fn put_wire(out: &mut [u8], at: usize, s: u32, t: u32, late: bool, mark: u32, form: Form) -> usize
+    requires { ⌜ at + 96 ≤ length (now out) ⌝ }
+    ensures { λ r. ⌜ r ≤ at + 96 ⌝ }
 {
     match form {
         Form::Card => put_pair(out, at, b"wire ", s, b" ", t, b"\n"),
-        Form::Graph => {
-            if late {
-                put_pair(out, at, b"  ", s, b" -> ", t, b" [style=dashed];\n")
-            } else {
-                put_pair(out, at, b"  ", s, b" -> ", t, b";\n")
-            }
-        }
+        Form::Graph => put_arrow(out, at, s, t, late, mark),
     }
 }
 
 fn put_head(out: &mut [u8], size: u32, input: u32, form: Form) -> usize
-    requires { ⌜ 34 ≤ length (now out) ⌝ }
-    ensures { λ r. ⌜ r ≤ 34 ⌝ }
+    requires { ⌜ 120 ≤ length (now out) ⌝ }
+    ensures { λ r. ⌜ r ≤ 120 ⌝ }
 {
     match form {
         Form::Card => put_pair(out, 0, b"block ", size, b" input ", input, b"\n"),
-        Form::Graph => put_word(out, 0, b"digraph board {\n"),
+        Form::Graph => {
+            let n = put_word(
+                out,
+                0,
+                b"digraph board {\n  rankdir=TB;\n  node [shape=box];\n  { rank=source; ",
+            );
+            let m = put_number(out, n, input);
+            put_word(out, m, b"; }\n  { rank=sink; 0; }\n")
+        }
     }
 }
 
@@ -142,19 +181,79 @@ fn put_end(out: &mut [u8], at: usize, form: Form) -> usize
     }
 }
 
-fn put_nodes(out: &mut [u8], at: usize, board: Board, form: Form) -> usize
-    requires { ⌜ (at + 5184 ≤ length (now out)) × Sound board ⌝ }
-    ensures { λ r. ⌜ r ≤ at + 5184 ⌝ }
+// Whether node i is one of the `count` listed nodes, by its place.
+fn is_reached(places: &[u8; 64], count: usize, i: usize) -> bool
+    requires { ⌜ i < 64 ⌝ }
 {
+    wide(places[i]) < count
+}
+
+fn put_nodes(
+    out: &mut [u8],
+    at: usize,
+    board: Board,
+    places: &[u8; 64],
+    count: usize,
+    form: Form,
+) -> usize
+    requires { ⌜ (at + 10240 ≤ length (now out)) × Sound board ⌝ }
+    ensures { λ r. ⌜ r ≤ at + 10240 ⌝ }
+{
+    let input = board.input as u32;
     let mut n = at;
     let mut i = 0;
     while i < board.count {
         let node = board.nodes[i];
         let kind = node.kind;
-        n = put_node(out, n, kind, i as u32, form);
+        let reached = is_reached(places, count, i);
+        n = put_node(out, n, kind, i as u32, input, reached, form);
         i += 1;
     }
     n
+}
+
+fn counted(hit: bool) -> usize
+    ensures { λ r. ⌜ r ≤ 1 ⌝ }
+{
+    if hit { 1 } else { 0 }
+}
+
+// How many wires before wire i lead into the same node.
+fn earlier(targets: &[u8; 128], i: usize) -> usize
+    requires { ⌜ i < 128 ⌝ }
+    ensures { λ r. ⌜ r ≤ i ⌝ }
+{
+    let mut count = 0;
+    let mut j = 0;
+    while j < i {
+        count += counted(targets[j] == targets[i]);
+        j += 1;
+    }
+    count
+}
+
+// Whether a type tells its first source from its second.
+fn is_ordered(kind: NodeKind) -> bool {
+    match kind {
+        NodeKind::Balance | NodeKind::Mul(_) | NodeKind::Add(_) | NodeKind::AllPass(_, _) => true,
+        _ => false,
+    }
+}
+
+// Which source wire i brings to node t, 1 or 2, where t has two and tells them apart; else 0.
+fn mark_of(board: Board, t: usize, i: usize) -> u32
+    requires { ⌜ (t < 64) × (i < 128) × Sound board ⌝ }
+{
+    let node = board.nodes[t];
+    let kind = node.kind;
+    if !is_ordered(kind) | (board.counts[t] != 2) {
+        return 0;
+    }
+    match earlier(&board.targets, i) {
+        0 => 1,
+        1 => 2,
+        _ => 0,
+    }
 }
 
 fn put_wires(
@@ -165,8 +264,8 @@ fn put_wires(
     count: usize,
     form: Form,
 ) -> usize
-    requires { ⌜ (at + 5504 ≤ length (now out)) × Sound board ⌝ }
-    ensures { λ r. ⌜ r ≤ at + 5504 ⌝ }
+    requires { ⌜ (at + 12288 ≤ length (now out)) × Sound board ⌝ }
+    ensures { λ r. ⌜ r ≤ at + 12288 ⌝ }
 {
     let mut n = at;
     let mut i = 0;
@@ -174,7 +273,8 @@ fn put_wires(
         let s = wide(board.sources[i]);
         let t = wide(board.targets[i]);
         let late = is_late(places, count, s, t);
-        n = put_wire(out, n, s as u32, t as u32, late, form);
+        let mark = mark_of(board, t, i);
+        n = put_wire(out, n, s as u32, t as u32, late, mark, form);
         i += 1;
     }
     n
@@ -182,18 +282,18 @@ fn put_wires(
 
 // A board whose listed nodes have these places.
 fn put_board(out: &mut [u8], board: Board, places: &[u8; 64], count: usize, form: Form) -> usize
-    requires { ⌜ (10724 ≤ length (now out)) × Sound board ⌝ }
+    requires { ⌜ (22650 ≤ length (now out)) × Sound board ⌝ }
     ensures { λ r. ⌜ r ≤ length (now (out .exit)) ⌝ }
 {
     let n = put_head(out, board.size as u32, board.input as u32, form);
-    let m = put_nodes(out, n, board, form);
+    let m = put_nodes(out, n, board, places, count, form);
     let k = put_wires(out, m, board, places, count, form);
     put_end(out, k, form)
 }
 
 // The text of a board, in the first bytes of `out`.
 pub fn text_of(board: Board, form: Form, out: &mut [u8]) -> usize
-    requires { ⌜ (16384 ≤ length (now out)) × Accepted board ⌝ }
+    requires { ⌜ (24576 ≤ length (now out)) × Accepted board ⌝ }
     ensures { λ r. ⌜ Counts r (now (out .exit)) ⌝ }
 {
     let counts = board.counts;

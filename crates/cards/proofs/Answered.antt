@@ -9,9 +9,10 @@ use lib.ListN.{length}
 use Rattle.graph.specs.Judge.{judgeOf}
 use Rattle.graph.specs.Write.{endBytes}
 use Rattle.text.specs.Words.{linesOf}
+use Rattle.cards.specs.Labels.{unmarked}
 use Rattle.cards.specs.Line.{saidOf}
 use Rattle.cards.specs.Board.{recordBytes, written, stepOf, byStep, Said, judgedOf, cardFrom, cardOf, Judged}
-use Rattle.cards.specs.declared.line.Reason.{Reason}
+use Rattle.cards.specs.declared.reason.Reason.{Reason}
 use Rattle.cards.specs.declared.board.Written.{Written}
 use Rattle.cards.specs.declared.board.Step.{Step}
 use Rattle.cards.specs.declared.board.Step.the-variants as step
@@ -30,12 +31,12 @@ pub by-step : (P : Said → Type 0) (s : Step) (on : Written → Said) (bad : Re
 by-step P (step.On w) on bad f g = f w
 by-step P (step.Bad r) on bad f g = g r
 
-from-judged : (n : ℕ) (w : Written) (bytes : List ℕ) (ls : List (List ℕ)) → Judged (cardFrom n w bytes ls .bytes) (cardFrom n w bytes ls .made)
+from-judged : (all : List (List ℕ)) (n : ℕ) (w : Written) (bytes : List ℕ) (ls : List (List ℕ)) → Judged (cardFrom all n w bytes ls .bytes) (cardFrom all n w bytes ls .made)
 unfolding cardFrom
-from-judged n w bytes [] = made-judged (bytes ++ endBytes)
-from-judged n w bytes (l ∷ ls) =
-    by-step (λ said. Judged (said .bytes) (said .made)) (stepOf w (saidOf l)) (λ next. cardFrom (n + 1) next (bytes ++ recordBytes (saidOf l)) ls) (λ r. record { made = made.Bad (n + 1) r; bytes = bytes })
-    (λ next. from-judged (n + 1) next (bytes ++ recordBytes (saidOf l)) ls) (λ r. tt)
+from-judged all n w bytes [] = made-judged (bytes ++ endBytes)
+from-judged all n w bytes (l ∷ ls) =
+    by-step (λ said. Judged (said .bytes) (said .made)) (stepOf w (saidOf all (w .nodes) l)) (λ next. cardFrom all (n + 1) next (bytes ++ recordBytes (saidOf all (w .nodes) l)) ls) (λ r. record { made = made.Bad (n + 1) r; bytes = bytes })
+    (λ next. from-judged all (n + 1) next (bytes ++ recordBytes (saidOf all (w .nodes) l)) ls) (λ r. tt)
 
 pub card-judged : (text : List ℕ) → Judged (cardOf text .bytes) (cardOf text .made)
-card-judged text = from-judged 0 (written 0 0 0) [] (linesOf text)
+card-judged text = from-judged (linesOf (unmarked text)) 0 (written 0 0 0) [] (linesOf (unmarked text))

@@ -1,5 +1,6 @@
 -- Laws that the proofs of `cards` cite.
 pub mod Naming
+pub mod Labelling
 pub mod Making
 pub mod Answered
 pub mod Obeyed

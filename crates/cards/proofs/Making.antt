@@ -13,11 +13,11 @@ use Rattle.graph.proofs.Stores.{next as then}
 use Rattle.text.specs.Words.{linesOf}
 use Rattle.text.proofs.Finding.{no-line}
 use Rattle.text.proofs.Writing.{wrote-sets}
-use Rattle.cards.specs.Board.{recordBytes, written, stepOf, byStep, Said, madeBy, judgedOf, cardFrom, cardOf}
+use Rattle.cards.specs.Board.{recordBytes, written, stepOf, byStep, Said, madeBy, judgedOf, cardFrom, linesSay}
 use Rattle.cards.specs.Adding.{Grown, stored, Adds}
 use Rattle.cards.specs.Line.{saidOf}
 use Rattle.cards.specs.declared.line.Line.{Line}
-use Rattle.cards.specs.declared.line.Reason.{Reason}
+use Rattle.cards.specs.declared.reason.Reason.{Reason}
 use Rattle.cards.specs.declared.board.Step.{Step}
 use Rattle.cards.specs.declared.board.Step.the-variants as step
 use Rattle.cards.specs.declared.board.Written.{Written}
@@ -53,27 +53,27 @@ pub record Partly (text o out : List ℕ) (w : Written) (n at : ℕ) : Type 0 wh
   pub bytes : List ℕ
   pub long : length bytes ≡ w .at
   pub same : out ≡ sets o 0 bytes
-  pub rest : cardFrom n w bytes (linesOf (drop at text)) ≡ cardOf text
+  pub rest : cardFrom (linesOf text) n w bytes (linesOf (drop at text)) ≡ linesSay (linesOf text)
 
 pub partly-start : (text o : List ℕ) → Partly text o o (written 0 0 0) 0 0
 partly-start text o = record { bytes = []; long = refl; same = refl; rest = refl }
 
 module _ {text o out : List ℕ} {w : Written} {n at : ℕ} (p : Partly text o out w n at) where
   -- the rest, by what becomes of its first line
-  stepped : (line : List ℕ) (ls : List (List ℕ)) (s : Step) → linesOf (drop at text) ≡ line ∷ ls → stepOf w (saidOf line) ≡ s
-      → byStep {A = Said} s (λ next. cardFrom (n + 1) next (p .bytes ++ recordBytes (saidOf line)) ls) (λ r. record { made = made.Bad (n + 1) r; bytes = p .bytes }) ≡ cardOf text
+  stepped : (line : List ℕ) (ls : List (List ℕ)) (s : Step) → linesOf (drop at text) ≡ line ∷ ls → stepOf w (saidOf (linesOf text) (w .nodes) line) ≡ s
+      → byStep {A = Said} s (λ next. cardFrom (linesOf text) (n + 1) next (p .bytes ++ recordBytes (saidOf (linesOf text) (w .nodes) line)) ls) (λ r. record { made = made.Bad (n + 1) r; bytes = p .bytes }) ≡ linesSay (linesOf text)
   unfolding cardFrom
   stepped line ls s e f =
-      ap (λ (x : Step). byStep {A = Said} x (λ next. cardFrom (n + 1) next (p .bytes ++ recordBytes (saidOf line)) ls) (λ r. record { made = made.Bad (n + 1) r; bytes = p .bytes })) (sym f)
-      ∙ ap (cardFrom n w (p .bytes)) (sym e)
+      ap (λ (x : Step). byStep {A = Said} x (λ next. cardFrom (linesOf text) (n + 1) next (p .bytes ++ recordBytes (saidOf (linesOf text) (w .nodes) line)) ls) (λ r. record { made = made.Bad (n + 1) r; bytes = p .bytes })) (sym f)
+      ∙ ap (cardFrom (linesOf text) n w (p .bytes)) (sym e)
       ∙ p .rest
 
   module _ (line : List ℕ) (next : ℕ) {out′ : List ℕ} {r : Step} (here : linesOf (drop at text) ≡ line ∷ linesOf (drop next text))
-      (a : Adds w (stepOf w (saidOf line)) (recordBytes (saidOf line)) out out′ r) where
+      (a : Adds w (stepOf w (saidOf (linesOf text) (w .nodes) line)) (recordBytes (saidOf (linesOf text) (w .nodes) line)) out out′ r) where
     pub partly-on : (w′ : Written) → r ≡ step.On w′ → Partly text o out′ w′ (n + 1) next
     partly-on w′ f =
-        let record-bytes = recordBytes (saidOf line) in
-        let s : stepOf w (saidOf line) ≡ step.On w′ = sym (a .steps) ∙ f in
+        let record-bytes = recordBytes (saidOf (linesOf text) (w .nodes) line) in
+        let s : stepOf w (saidOf (linesOf text) (w .nodes) line) ≡ step.On w′ = sym (a .steps) ∙ f in
         let longer : w′ .at ≡ w .at + length record-bytes = subst (Grown w record-bytes) f (a .grown) in
         record {
           bytes = p .bytes ++ record-bytes;
@@ -82,27 +82,27 @@ module _ {text o out : List ℕ} {w : Written} {n at : ℕ} (p : Partly text o o
           rest = stepped line (linesOf (drop next text)) (step.On w′) here s;
         }
 
-    pub partly-bad : (reason : Reason) → r ≡ step.Bad reason → (made.Bad (n + 1) reason ≡ cardOf text .made) × (out′ ≡ sets o 0 (cardOf text .bytes))
+    pub partly-bad : (reason : Reason) → r ≡ step.Bad reason → (made.Bad (n + 1) reason ≡ linesSay (linesOf text) .made) × (out′ ≡ sets o 0 (linesSay (linesOf text) .bytes))
     partly-bad reason f =
-        let s : stepOf w (saidOf line) ≡ step.Bad reason = sym (a .steps) ∙ f in
+        let s : stepOf w (saidOf (linesOf text) (w .nodes) line) ≡ step.Bad reason = sym (a .steps) ∙ f in
         let whole = stepped line (linesOf (drop next text)) (step.Bad reason) here s in (
           ap (λ (x : Said). x .made) whole,
-          a .puts ∙ ap (λ (x : Step). sets out (w .at) (stored x (recordBytes (saidOf line)))) s ∙ p .same ∙ ap (λ (x : Said). sets o 0 (x .bytes)) whole,
+          a .puts ∙ ap (λ (x : Step). sets out (w .at) (stored x (recordBytes (saidOf (linesOf text) (w .nodes) line)))) s ∙ p .same ∙ ap (λ (x : Said). sets o 0 (x .bytes)) whole,
         )
 
   -- behind the last line
   module _ {out′ : List ℕ} (past : length text ≤ at) (fits : w .at ≤ length o) (puts : out′ ≡ sets out (w .at) endBytes) where
-    whole : judgedOf (p .bytes ++ endBytes) ≡ cardOf text
+    whole : judgedOf (p .bytes ++ endBytes) ≡ linesSay (linesOf text)
     unfolding cardFrom
-    whole = ap (cardFrom n w (p .bytes)) (sym (no-line text at past)) ∙ p .rest
+    whole = ap (cardFrom (linesOf text) n w (p .bytes)) (sym (no-line text at past)) ∙ p .rest
 
-    pub partly-answer : judgedOf (take (w .at) out ++ endBytes) .made ≡ cardOf text .made
+    pub partly-answer : judgedOf (take (w .at) out ++ endBytes) .made ≡ linesSay (linesOf text) .made
     partly-answer =
         let size : w .at ≡ 0 + length (p .bytes) = omega (arith, p .long) in
         let front : take (w .at) out ≡ p .bytes =
         ap (take (w .at)) (p .same) ∙ ap (λ (k : ℕ). take k (sets o 0 (p .bytes))) size ∙ sets-front o 0 (p .bytes) (omega (arith, p .long)) in
         ap (λ (b : List ℕ). judgedOf (b ++ endBytes) .made) front ∙ ap (λ (x : Said). x .made) whole
 
-    pub partly-bytes : out′ ≡ sets o 0 (cardOf text .bytes)
+    pub partly-bytes : out′ ≡ sets o 0 (linesSay (linesOf text) .bytes)
     partly-bytes =
         then o 0 (w .at) (p .bytes) endBytes (omega (arith, p .long)) (p .same) puts ∙ ap (λ (x : Said). sets o 0 (x .bytes)) whole

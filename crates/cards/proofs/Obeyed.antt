@@ -8,6 +8,7 @@ use Rattle.leaves.specs.Words.{Bytes}
 use Rattle.graph.specs.Write.{endBytes, writeBoard, Card, Obeys}
 use Rattle.graph.proofs.Round.{judge-exact}
 use Rattle.text.specs.Words.{linesOf}
+use Rattle.cards.specs.Labels.{unmarked}
 use Rattle.cards.specs.Line.{saidOf}
 use Rattle.cards.specs.Board.{recordBytes, written, stepOf, cardFrom, cardOf, Judged}
 use Rattle.cards.specs.declared.line.Line.{Line}
@@ -47,16 +48,16 @@ record-is-bytes (line.Node t n f) =
 record-is-bytes (line.Wire source target) = bytes-both (u16Bytes 8 ++ u16Bytes 3) (u16Bytes source ++ u16Bytes target) (pair 8 3) (pair source target)
 record-is-bytes (line.Bad r) = λ i. omega arith
 
-from-bytes : (n : ℕ) (w : Written) (bytes : List ℕ) (ls : List (List ℕ)) → Bytes bytes → Bytes (cardFrom n w bytes ls .bytes)
+from-bytes : (all : List (List ℕ)) (n : ℕ) (w : Written) (bytes : List ℕ) (ls : List (List ℕ)) → Bytes bytes → Bytes (cardFrom all n w bytes ls .bytes)
 unfolding cardFrom
-from-bytes n w bytes [] h = bytes-both bytes endBytes h (pair 4 4)
-from-bytes n w bytes (l ∷ ls) h =
-    by-step (λ said. Bytes (said .bytes)) (stepOf w (saidOf l)) (λ next. cardFrom (n + 1) next (bytes ++ recordBytes (saidOf l)) ls) (λ r. record { made = made.Bad (n + 1) r; bytes = bytes })
-    (λ next. from-bytes (n + 1) next (bytes ++ recordBytes (saidOf l)) ls (bytes-both bytes (recordBytes (saidOf l)) h (record-is-bytes (saidOf l)))) (λ r. h)
+from-bytes all n w bytes [] h = bytes-both bytes endBytes h (pair 4 4)
+from-bytes all n w bytes (l ∷ ls) h =
+    by-step (λ said. Bytes (said .bytes)) (stepOf w (saidOf all (w .nodes) l)) (λ next. cardFrom all (n + 1) next (bytes ++ recordBytes (saidOf all (w .nodes) l)) ls) (λ r. record { made = made.Bad (n + 1) r; bytes = bytes })
+    (λ next. from-bytes all (n + 1) next (bytes ++ recordBytes (saidOf all (w .nodes) l)) ls (bytes-both bytes (recordBytes (saidOf all (w .nodes) l)) h (record-is-bytes (saidOf all (w .nodes) l)))) (λ r. h)
 
 -- ---- the board of a card
 
 pub card-obeys : (text : List ℕ) (n : ℕ) → cardOf text .made ≡ made.Board n → (c : Card) × Obeys c × (cardOf text .bytes ≡ writeBoard c)
 card-obeys text n e =
-    judge-exact (cardOf text .bytes) (from-bytes 0 (written 0 0 0) [] (linesOf text) (λ i. omega arith)) .0
+    judge-exact (cardOf text .bytes) (from-bytes (linesOf (unmarked text)) 0 (written 0 0 0) [] (linesOf (unmarked text)) (λ i. omega arith)) .0
     (subst (Judged (cardOf text .bytes)) e (card-judged text) .1)

@@ -11,9 +11,10 @@ use Rattle.graph.specs.Judge.{judgeOf}
 use Rattle.graph.specs.Write.{headBytes, nodeBytes, wireBytes, endBytes}
 use Rattle.graph.specs.declared.answer.Answer.{Answer}
 use Rattle.text.specs.Words.{linesOf}
+use Rattle.cards.specs.Labels.{unmarked}
 use Rattle.cards.specs.Line.{saidOf}
-use Rattle.cards.specs.declared.line.Reason.{Reason}
-use Rattle.cards.specs.declared.line.Reason.the-variants as reason
+use Rattle.cards.specs.declared.reason.Reason.{Reason}
+use Rattle.cards.specs.declared.reason.Reason.the-variants as reason
 use Rattle.cards.specs.declared.line.Line.{Line}
 use Rattle.cards.specs.declared.line.Line.the-variants as line
 use Rattle.cards.specs.declared.board.Written.{Written}
@@ -78,16 +79,21 @@ madeBy size a = cond (eqb (a .number) 0) (made.Board size) (made.Refused (a .num
 abbrev pub judgedOf : List ℕ → Said
 judgedOf board = record { made = madeBy (length board) (judgeOf board); bytes = board }
 
--- the lines behind line n, after these bytes: each line's record, and the end record; or the first bad line, with its reason
-unfoldable pub cardFrom : ℕ → Written → List ℕ → List (List ℕ) → Said
-cardFrom n w bytes [] = judgedOf (bytes ++ endBytes)
-cardFrom n w bytes (l ∷ ls) =
-    byStep (stepOf w (saidOf l)) (λ next. cardFrom (n + 1) next (bytes ++ recordBytes (saidOf l)) ls)
+-- the lines behind line n of a card, whose lines are `all`, after these bytes: each line's record, and the end record; or the first bad
+-- line, with its reason
+unfoldable pub cardFrom : List (List ℕ) → ℕ → Written → List ℕ → List (List ℕ) → Said
+cardFrom all n w bytes [] = judgedOf (bytes ++ endBytes)
+cardFrom all n w bytes (l ∷ ls) =
+    byStep (stepOf w (saidOf all (w .nodes) l)) (λ next. cardFrom all (n + 1) next (bytes ++ recordBytes (saidOf all (w .nodes) l)) ls)
     (λ r. record { made = made.Bad (n + 1) r; bytes = bytes })
+
+-- what lines say, all of a card's
+abbrev pub linesSay : List (List ℕ) → Said
+linesSay ls = cardFrom ls 0 (written 0 0 0) [] ls
 
 -- what a card says
 abbrev pub cardOf : List ℕ → Said
-cardOf text = cardFrom 0 (written 0 0 0) [] (linesOf text)
+cardOf text = linesSay (linesOf (unmarked text))
 
 -- what an answer says of the bytes that are written: they are a board that the judge accepts, or one that it refuses so
 abbrev pub Judged : List ℕ → Made → Type 0

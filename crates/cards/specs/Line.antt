@@ -1,30 +1,40 @@
 -- One line of a card: the record that it says, or what is wrong with it (docs/CARD.md). Definitions only.
-use mathlib.Core.Bool.{cond, _&&_}
+-- `ls` are all lines of the card, for the names of its nodes, and k nodes stand before the line.
+use mathlib.Core.Bool.{Bool, cond, _||_}
 use mathlib.Core.List.{List}
 use Prim.Native.Nat.{ℕ}
 use lib.Dec.{eqb}
-use lib.ListN.{length, take}
+use lib.ListN.{length}
 use Rattle.text.specs.Number.{wholeOf, floatOf}
-use Rattle.text.specs.Words.{ahead, wordAt, wordCount}
+use Rattle.text.specs.Words.{wordAt, wordCount}
 use Rattle.text.specs.declared.number.Float.{Float}
 use Rattle.text.specs.declared.number.Float.the-variants as float
 use Rattle.text.specs.declared.number.Whole.{Whole}
-use Rattle.text.specs.declared.words.Stop.the-variants.{Byte}
+use Rattle.cards.specs.Labels.{bare, startsName, goodName, isLabel, labelOf, bodyOf, nodeOf, endOf}
+use Rattle.cards.specs.Lengths.{lengthOf}
 use Rattle.cards.specs.Names.{alike, inputName, names, placeIn, hasWhole, hasFloat, wordsWanted}
-use Rattle.cards.specs.declared.line.Reason.the-variants as reason
+use Rattle.cards.specs.declared.lengths.Samples.{Samples}
+use Rattle.cards.specs.declared.lengths.Samples.the-variants as samples
+use Rattle.cards.specs.declared.reason.Reason.{Reason}
+use Rattle.cards.specs.declared.reason.Reason.the-variants as reason
 use Rattle.cards.specs.declared.line.Line.{Line}
 use Rattle.cards.specs.declared.line.Line.the-variants.{Blank, Head, Node, Wire, Bad}
 
--- block N input I: the words behind `block`
-abbrev pub headLine : Whole → List ℕ → Whole → Line
-headLine size word input =
+-- what is wrong with a word that stands for no node
+abbrev pub noEnd : List ℕ → Reason
+noEnd word = cond (startsName word) reason.Missing reason.Whole
+
+-- block N input I: the words behind `block`, and the node that the last stands for
+abbrev pub headLine : Whole → List ℕ → List ℕ → Whole → Line
+headLine size word last input =
     cond (size .good)
-    (cond (alike word inputName) (cond (input .good) (Head (size .value) (input .value)) (Bad reason.Whole)) (Bad reason.Name))
+    (cond (alike word inputName) (cond (input .good) (Head (size .value) (input .value)) (Bad (noEnd last))) (Bad reason.Name))
     (Bad reason.Whole)
 
--- wire SOURCE TARGET
-abbrev pub wireLine : Whole → Whole → Line
-wireLine source target = cond (source .good && target .good) (Wire (source .value) (target .value)) (Bad reason.Whole)
+-- wire SOURCE TARGET: the words behind `wire`, and the nodes that they stand for
+abbrev pub wireLine : List ℕ → Whole → List ℕ → Whole → Line
+wireLine first source second target =
+    cond (source .good) (cond (target .good) (Wire (source .value) (target .value)) (Bad (noEnd second))) (Bad (noEnd first))
 
 -- a node of type t with the whole number n, and a word as its float if it has one
 abbrev pub nodeBy : ℕ → ℕ → Float → Line
@@ -35,26 +45,44 @@ nodeBy t n float.Long = Bad reason.Long
 abbrev pub floatLine : ℕ → ℕ → List ℕ → Line
 floatLine t n word = cond (hasFloat t) (nodeBy t n (floatOf word)) (Node t n 0)
 
--- a node of type t, by the two words behind its name: its whole number if it has one, then its float if it has one
-abbrev pub wholeLine : ℕ → Whole → List ℕ → Line
-wholeLine t n word = cond (n .good) (floatLine t (n .value) word) (Bad reason.Whole)
+-- a node of type t, by the two words behind its name: its length if it has one, then its float if it has one
+abbrev pub lengthLine : ℕ → Samples → List ℕ → Line
+lengthLine t (samples.Is n) word = floatLine t n word
+lengthLine t (samples.Bad r) word = Bad r
 
 abbrev pub nodeLine : ℕ → List ℕ → List ℕ → Line
-nodeLine t first second = cond (hasWhole t) (wholeLine t (wholeOf first 4294967295) second) (floatLine t 0 first)
+nodeLine t first second = cond (hasWhole t) (lengthLine t (lengthOf t first) second) (floatLine t 0 first)
 
 -- the record of a line whose name has the place t
-unfoldable pub recordLine : List ℕ → ℕ → Line
-recordLine s t =
-    cond (eqb t 0) (headLine (wholeOf (wordAt 1 s) 65535) (wordAt 2 s) (wholeOf (wordAt 3 s) 65535))
-    (cond (eqb t 11) (wireLine (wholeOf (wordAt 1 s) 65535) (wholeOf (wordAt 2 s) 65535)) (nodeLine t (wordAt 1 s) (wordAt 2 s)))
+unfoldable pub recordLine : List (List ℕ) → List ℕ → ℕ → Line
+recordLine ls s t =
+    cond (eqb t 0) (headLine (wholeOf (wordAt 1 s) 65535) (wordAt 2 s) (wordAt 3 s) (endOf ls (wordAt 3 s)))
+    (cond (eqb t 11) (wireLine (wordAt 1 s) (endOf ls (wordAt 1 s)) (wordAt 2 s) (endOf ls (wordAt 2 s))) (nodeLine t (wordAt 1 s) (wordAt 2 s)))
 
-abbrev pub namedLine : List ℕ → ℕ → Line
-namedLine s t = cond (eqb t 12) (Bad reason.Name) (cond (eqb (wordCount s) (wordsWanted t)) (recordLine s t) (Bad reason.Fields))
+abbrev pub namedLine : List (List ℕ) → List ℕ → ℕ → Line
+namedLine ls s t =
+    cond (eqb t 12) (Bad reason.Name) (cond (eqb (wordCount s) (wordsWanted t)) (recordLine ls s t) (Bad reason.Fields))
 
--- a line without its comment: nothing but spaces; or a name and its fields
-unfoldable pub lineOf : List ℕ → Line
-lineOf s = cond (eqb (length (wordAt 0 s)) 0) Blank (namedLine s (placeIn names (wordAt 0 s)))
+-- a line without a name before it: nothing but spaces; or a record
+unfoldable pub plainLine : List (List ℕ) → List ℕ → Line
+plainLine ls s = cond (eqb (length (wordAt 0 s)) 0) Blank (namedLine ls s (placeIn names (wordAt 0 s)))
 
--- a line: what it says up to the comment, from `#` on
-unfoldable pub saidOf : List ℕ → Line
-saidOf s = lineOf (take (ahead (Byte 35) s) s)
+-- no node follows a name: nothing, or the record's name has the place t of the head's or the wire's
+abbrev pub isOther : List ℕ → ℕ → Bool
+isOther word t = eqb (length word) 0 || (eqb t 0 || eqb t 11)
+
+-- a line with a name before it: the name is well formed, a node follows, and it is the first with that name
+unfoldable pub labelledLine : List (List ℕ) → ℕ → List ℕ → List ℕ → Line
+labelledLine ls k name s =
+    cond (goodName name)
+    (cond (isOther (wordAt 0 s) (placeIn names (wordAt 0 s))) (Bad reason.NoNode)
+    (cond (eqb (nodeOf ls name .value) k) (plainLine ls s) (Bad reason.Twice)))
+    (Bad reason.Label)
+
+-- a line without its comment
+unfoldable pub lineOf : List (List ℕ) → ℕ → List ℕ → Line
+lineOf ls k s = cond (isLabel (wordAt 0 s)) (labelledLine ls k (labelOf s) (bodyOf s)) (plainLine ls s)
+
+-- a line
+unfoldable pub saidOf : List (List ℕ) → ℕ → List ℕ → Line
+saidOf ls k l = lineOf ls k (bare l)

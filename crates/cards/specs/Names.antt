@@ -71,6 +71,10 @@ hasWhole t = eqb t 7 || eqb t 8
 abbrev pub hasFloat : ℕ → Bool
 hasFloat t = (leb 5 t && leb t 10) && not (eqb t 7)
 
+-- the places of the types' names
+abbrev pub isNode : ℕ → Bool
+isNode t = leb 1 t && leb t 10
+
 -- how many words a line has, by its name's place
 abbrev pub wordsWanted : ℕ → ℕ
 wordsWanted t = cond (eqb t 0) 4 (cond (eqb t 8 || eqb t 11) 3 (cond (leb t 4) 1 2))

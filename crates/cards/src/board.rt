@@ -1,16 +1,19 @@
 // The board of a card: its lines, one after the other, written as records and then judged.
 ghost use mathlib.Core.Path.{_≡_};
 ghost use mathlib.Core.List.{_++_};
-ghost use Prim.Native.Nat.{_+_, _≤_, min};
+ghost use Prim.Native.Nat.{_+_, _≤_};
 ghost use lib.ListN.{length, take};
 ghost use lib.Seq.{sets};
 ghost use Rattle.graph.specs.Board.{wire};
 ghost use Rattle.graph.specs.Write.{headBytes, nodeBytes, wireBytes, endBytes};
 ghost use Rattle.cards.specs.Adding.{Room, Adds, Within};
-ghost use Rattle.cards.specs.Board.{recordBytes, headStep, nodeStep, wireStep, stepOf, judgedOf, cardOf};
+ghost use Rattle.cards.specs.Board.{recordBytes, headStep, nodeStep, wireStep, stepOf, judgedOf, linesSay, cardOf};
+ghost use Rattle.text.specs.Words.{linesOf};
+use crate::labels::line_after;
+use crate::labels::mark_length;
 use crate::line::Line;
-use crate::line::Reason;
 use crate::line::said;
+use crate::reason::Reason;
 use graph::judge::judge;
 use graph::writer::put_end;
 use graph::writer::put_head;
@@ -127,22 +130,12 @@ fn judged(out: &mut [u8], at: usize) -> Made
     }
 }
 
-// Where the line starts after the one that ends at `end`.
-fn line_after(text: &[u8], end: usize) -> usize
-    requires { ⌜ end ≤ length (now text) ⌝ }
-    ensures { λ r. ⌜ r ≡ min (end + 1) (length (now (text .entry))) ⌝ }
-{
-    if end < text.len() { end + 1 } else { end }
-}
-
-// The board of a card, in the first bytes of `out`, and the judge's answer to it; or the first bad line.
-// Ruled out, and tried by must-fail edits: every card refused (refuses_all), a bad line passed over
-// (bad_line_passed).
-pub fn board_of(text: &[u8], out: &mut [u8]) -> Made
+// The board of a card without a byte-order mark.
+fn lines_board(text: &[u8], out: &mut [u8]) -> Made
     requires { ⌜ 1932 ≤ length (now out) ⌝ }
     ensures within { λ r. ⌜ Within (now (out .exit)) r ⌝ }
-    ensures answered { λ r. ⌜ r ≡ cardOf (now (text .entry)) .made ⌝ }
-    ensures bytes { λ _. ⌜ now (out .exit) ≡ sets (now (out .entry)) 0 (cardOf (now (text .entry)) .bytes) ⌝ }
+    ensures answered { λ r. ⌜ r ≡ linesSay (linesOf (now (text .entry))) .made ⌝ }
+    ensures bytes { λ _. ⌜ now (out .exit) ≡ sets (now (out .entry)) 0 (linesSay (linesOf (now (text .entry))) .bytes) ⌝ }
 {
     let mut done = Written {
         at: 0,
@@ -154,11 +147,25 @@ pub fn board_of(text: &[u8], out: &mut [u8]) -> Made
     while start < text.len() {
         let end = find(text, start, Stop::Byte(b'\n'));
         line += 1;
-        match add_line(out, done, said(&text[start..end])) {
+        match add_line(out, done, said(text, done.nodes, &text[start..end])) {
             Step::On(next) => done = next,
             Step::Bad(reason) => return Made::Bad(line, reason),
         }
         start = line_after(text, end);
     }
     judged(out, done.at)
+}
+
+// The board of a card, in the first bytes of `out`, and the judge's answer to it; or the first bad line.
+// Ruled out, and tried by must-fail edits: every card refused (refuses_all), a bad line passed over
+// (bad_line_passed), a second node with the same name passed over (first_name_wins), a name that stands
+// for the node behind it (name_one_off).
+pub fn board_of(text: &[u8], out: &mut [u8]) -> Made
+    requires { ⌜ 1932 ≤ length (now out) ⌝ }
+    ensures within { λ r. ⌜ Within (now (out .exit)) r ⌝ }
+    ensures answered { λ r. ⌜ r ≡ cardOf (now (text .entry)) .made ⌝ }
+    ensures bytes { λ _. ⌜ now (out .exit) ≡ sets (now (out .entry)) 0 (cardOf (now (text .entry)) .bytes) ⌝ }
+{
+    let from = mark_length(text);
+    lines_board(&text[from..], out)
 }

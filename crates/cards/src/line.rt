@@ -2,8 +2,20 @@
 ghost use mathlib.Core.Path.{_≡_};
 ghost use Prim.Native.Nat.{_≤_};
 ghost use Rattle.text.specs.Number.{wholeOf};
-ghost use Rattle.text.specs.Words.{wordAt};
-ghost use Rattle.cards.specs.Line.{headLine, wireLine, floatLine, nodeLine, recordLine, lineOf, saidOf};
+ghost use Rattle.text.specs.Words.{wordAt, linesOf};
+ghost use Rattle.cards.specs.Labels.{labelOf, bodyOf, endOf};
+ghost use Rattle.cards.specs.Line.{noEnd, headLine, wireLine, floatLine, nodeLine, recordLine, plainLine, isOther, labelledLine, lineOf, saidOf};
+ghost use Rattle.cards.specs.Names.{names, placeIn};
+use crate::labels::bare;
+use crate::labels::body_of;
+use crate::labels::end_of;
+use crate::labels::good_name;
+use crate::labels::is_label;
+use crate::labels::label_of;
+use crate::labels::node_named;
+use crate::labels::starts_name;
+use crate::lengths::Samples;
+use crate::lengths::length_of;
 use crate::names::HEAD;
 use crate::names::NOTHING;
 use crate::names::WIRE;
@@ -11,27 +23,13 @@ use crate::names::has_float;
 use crate::names::has_whole;
 use crate::names::named;
 use crate::names::words_wanted;
+use crate::reason::Reason;
 use check::same;
 use text::number::Float;
-use text::number::Whole;
 use text::number::float_of;
 use text::number::whole_of;
-use text::words::Stop;
-use text::words::find;
 use text::words::word_at;
 use text::words::word_count;
-
-// What is wrong with a line.
-pub enum Reason {
-    Name,
-    Fields,
-    Whole,
-    Float,
-    Long,
-    Late,
-    Early,
-    Many,
-}
 
 // What a line says. A node has its type, its whole number and its float's bits.
 pub enum Line {
@@ -42,39 +40,49 @@ pub enum Line {
     Bad(Reason),
 }
 
-// Word k of a line as a whole number up to `most`.
-fn whole_word(line: &[u8], k: usize, most: u64) -> Whole
-    ensures { λ r. ⌜ (r .value ≤ most) × (r ≡ wholeOf (wordAt k (now (line .entry))) most) ⌝ }
+// What is wrong with a word that stands for no node.
+fn no_end(word: &[u8]) -> Reason
+    ensures { λ r. ⌜ r ≡ noEnd (now (word .entry)) ⌝ }
 {
-    whole_of(word_at(line, k), most)
+    if starts_name(word) {
+        Reason::Missing
+    } else {
+        Reason::Whole
+    }
 }
 
 // block N input I
-fn head_line(line: &[u8]) -> Line
-    ensures { λ r. ⌜ r ≡ headLine (wholeOf (wordAt 1 (now (line .entry))) 65535) (wordAt 2 (now (line .entry))) (wholeOf (wordAt 3 (now (line .entry))) 65535) ⌝ }
+fn head_line(text: &[u8], line: &[u8]) -> Line
+    ensures { λ r. ⌜ r ≡ headLine (wholeOf (wordAt 1 (now (line .entry))) 65535) (wordAt 2 (now (line .entry))) (wordAt 3 (now (line .entry))) (endOf (linesOf (now (text .entry))) (wordAt 3 (now (line .entry)))) ⌝ }
 {
-    let size = whole_word(line, 1, 65535);
+    let size = whole_of(word_at(line, 1), 65535);
     if !size.good {
         return Line::Bad(Reason::Whole);
     }
     if !same(word_at(line, 2), b"input") {
         return Line::Bad(Reason::Name);
     }
-    let input = whole_word(line, 3, 65535);
+    let last = word_at(line, 3);
+    let input = end_of(text, last);
     if !input.good {
-        return Line::Bad(Reason::Whole);
+        return Line::Bad(no_end(last));
     }
     Line::Head(size.value as u16, input.value as u16)
 }
 
 // wire SOURCE TARGET
-fn wire_line(line: &[u8]) -> Line
-    ensures { λ r. ⌜ r ≡ wireLine (wholeOf (wordAt 1 (now (line .entry))) 65535) (wholeOf (wordAt 2 (now (line .entry))) 65535) ⌝ }
+fn wire_line(text: &[u8], line: &[u8]) -> Line
+    ensures { λ r. ⌜ r ≡ wireLine (wordAt 1 (now (line .entry))) (endOf (linesOf (now (text .entry))) (wordAt 1 (now (line .entry)))) (wordAt 2 (now (line .entry))) (endOf (linesOf (now (text .entry))) (wordAt 2 (now (line .entry)))) ⌝ }
 {
-    let source = whole_word(line, 1, 65535);
-    let target = whole_word(line, 2, 65535);
-    if !(source.good & target.good) {
-        return Line::Bad(Reason::Whole);
+    let first = word_at(line, 1);
+    let source = end_of(text, first);
+    if !source.good {
+        return Line::Bad(no_end(first));
+    }
+    let second = word_at(line, 2);
+    let target = end_of(text, second);
+    if !target.good {
+        return Line::Bad(no_end(second));
     }
     Line::Wire(source.value as u16, target.value as u16)
 }
@@ -93,37 +101,36 @@ fn float_line(word: &[u8], t: u16, n: u32) -> Line
     }
 }
 
-// A node of type t: its whole number if it has one, then its float if it has one.
+// A node of type t: its length if it has one, then its float if it has one.
 fn node_line(line: &[u8], t: u16) -> Line
     ensures { λ r. ⌜ r ≡ nodeLine t (wordAt 1 (now (line .entry))) (wordAt 2 (now (line .entry))) ⌝ }
 {
     if !has_whole(t as usize) {
         return float_line(word_at(line, 1), t, 0);
     }
-    let samples = whole_word(line, 1, 4294967295);
-    if !samples.good {
-        return Line::Bad(Reason::Whole);
+    match length_of(t, word_at(line, 1)) {
+        Samples::Is(n) => float_line(word_at(line, 2), t, n),
+        Samples::Bad(reason) => Line::Bad(reason),
     }
-    float_line(word_at(line, 2), t, samples.value as u32)
 }
 
 // The record of a line whose name has the place t.
-fn record_line(line: &[u8], t: usize) -> Line
+fn record_line(text: &[u8], line: &[u8], t: usize) -> Line
     requires { ⌜ t ≤ 12 ⌝ }
-    ensures { λ r. ⌜ r ≡ recordLine (now (line .entry)) t ⌝ }
+    ensures { λ r. ⌜ r ≡ recordLine (linesOf (now (text .entry))) (now (line .entry)) t ⌝ }
 {
     if t == HEAD {
-        return head_line(line);
+        return head_line(text, line);
     }
     if t == WIRE {
-        return wire_line(line);
+        return wire_line(text, line);
     }
     node_line(line, t as u16)
 }
 
-// What a line without its comment says.
-fn line_of(line: &[u8]) -> Line
-    ensures { λ r. ⌜ r ≡ lineOf (now (line .entry)) ⌝ }
+// What a line says that has no comment and no name before it.
+fn plain_line(text: &[u8], line: &[u8]) -> Line
+    ensures { λ r. ⌜ r ≡ plainLine (linesOf (now (text .entry))) (now (line .entry)) ⌝ }
 {
     let word = word_at(line, 0);
     if word.len() == 0 {
@@ -136,14 +143,51 @@ fn line_of(line: &[u8]) -> Line
     if word_count(line) != words_wanted(t) {
         return Line::Bad(Reason::Fields);
     }
-    record_line(line, t)
+    record_line(text, line, t)
 }
 
-// What a line says, its comment aside.
-pub fn said(line: &[u8]) -> Line
-    ensures { λ r. ⌜ r ≡ saidOf (now (line .entry)) ⌝ }
+// Whether no node follows a name: nothing, or the head or a wire.
+fn is_other(word: &[u8]) -> bool
+    ensures { λ r. ⌜ r ≡ isOther (now (word .entry)) (placeIn names (now (word .entry))) ⌝ }
 {
-    let start = 0;
-    let end = find(line, start, Stop::Byte(b'#'));
-    line_of(&line[start..end])
+    let t = named(word);
+    (word.len() == 0) | ((t == HEAD) | (t == WIRE))
+}
+
+// What a line says that has a name before it, after `nodes` nodes. The name is this node's if no node
+// before has it.
+fn labelled_line(text: &[u8], nodes: usize, line: &[u8]) -> Line
+    ensures { λ r. ⌜ r ≡ labelledLine (linesOf (now (text .entry))) nodes (labelOf (now (line .entry))) (bodyOf (now (line .entry))) ⌝ }
+{
+    let name = label_of(line);
+    let body = body_of(line);
+    if !good_name(name) {
+        return Line::Bad(Reason::Label);
+    }
+    if is_other(word_at(body, 0)) {
+        return Line::Bad(Reason::NoNode);
+    }
+    let first = node_named(text, name);
+    if first.value != nodes as u64 {
+        return Line::Bad(Reason::Twice);
+    }
+    plain_line(text, body)
+}
+
+// What a line without its comment says.
+fn line_of(text: &[u8], nodes: usize, line: &[u8]) -> Line
+    ensures { λ r. ⌜ r ≡ lineOf (linesOf (now (text .entry))) nodes (now (line .entry)) ⌝ }
+{
+    if is_label(word_at(line, 0)) {
+        labelled_line(text, nodes, line)
+    } else {
+        plain_line(text, line)
+    }
+}
+
+// What a line of a text says, after `nodes` nodes.
+pub fn said(text: &[u8], nodes: usize, line: &[u8]) -> Line
+    ensures { λ r. ⌜ r ≡ saidOf (linesOf (now (text .entry))) nodes (now (line .entry)) ⌝ }
+{
+    line_of(text, nodes, bare(line))
 }

@@ -22,7 +22,7 @@ use Rattle.context.specs.Memory.{nodeIn, nodeAt, kindAt, putInput}
 use Rattle.context.specs.Calls.{andThen, checkBlocks, checkSamples, listed}
 use Rattle.graph.specs.Read.{parsedOf, Sound}
 use Rattle.context.specs.Fine.{Fine}
-use Rattle.context.specs.Parts.{Runs}
+use Rattle.context.specs.Stages.{Runs}
 use Rattle.graph.specs.declared.board.Board.{Board}
 use Rattle.graph.specs.declared.graph.Order.{Order}
 use Rattle.context.proofs.CallCells.{cell-in, node-in, count-nodes}

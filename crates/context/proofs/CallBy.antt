@@ -1,7 +1,7 @@
 -- A call on the board as the code holds it, case by case.
 --     held-call, held-only, held-told                  a reading held to one check more: what a call makes of it
 --     held-refused, held-answered, table-answered      and the board that stands for it
---     judged-call                                      the same for checks 7 and 8
+--     judged-call, judged-answered                     the same for checks 7 and 8
 --     call-refused, call-lacking, call-done            the board is refused; a check behind 6 refuses; all pass
 --     change-refused, change-lacking, change-done      the same of a call that changes the memory only
 --     change-passes                                    where such a call is accepted, its checks pass
@@ -17,7 +17,7 @@ use Rattle.leaves.specs.Words.{words, unwords, Bytes, unwords-words}
 use Rattle.graph.specs.Board.{Parsed, Progress, going, refused, whole, memoryLength}
 use Rattle.graph.specs.Judge.{readBoard}
 use Rattle.graph.specs.Formed.{TableAt}
-use Rattle.graph.specs.Parts.{orRefused}
+use Rattle.graph.specs.BoardParts.{orRefused}
 use Rattle.graph.specs.Read.{parsedOf, Sound, Read}
 use Rattle.graph.specs.declared.answer.Answer.{Answer}
 use Rattle.graph.specs.declared.board.Board.{Board}
@@ -25,7 +25,7 @@ use Rattle.graph.proofs.Answers.{or-accepts, or-refuses}
 use Rattle.graph.proofs.Run.{refused-is-not-whole, going-is-not-whole}
 use Rattle.context.specs.Memory.{passed}
 use Rattle.context.specs.Calls.{andThen, checkNeeded, checkValues, checkMemory, callBy, changeBy}
-use Rattle.context.specs.Parts.{heldTo, readOpen, readJudged}
+use Rattle.context.specs.Stages.{heldTo, readOpen, readJudged}
 
 -- ---- a reading held to one check more
 
@@ -110,6 +110,30 @@ module _ (a : Parsed → Answer) where
     pub held-answered : b .refused .number ≡ 0 → (r : Answer) → r ≡ a (parsedOf b) → Read (heldTo a v) (answered-by b r)
     held-answered z r e = record {
       reading = ap (heldTo a) (read .reading ∙ or-accepts (b .refused) _ z) ∙ ap (λ (x : Answer). orRefused x (whole (parsedOf b))) (sym e);
+      sound = sound-answered b r (read .sound);
+    }
+
+-- one check after the other
+held-both : (a b : Parsed → Answer) (p : Parsed) → heldTo b (heldTo a (whole p)) ≡ orRefused (andThen (a p) (b p)) (whole p)
+held-both a b p = go (eqb (a p .number) 0) refl
+  where
+    go : (q : Bool) → eqb (a p .number) 0 ≡ q → heldTo b (heldTo a (whole p)) ≡ orRefused (andThen (a p) (b p)) (whole p)
+    go true e = rw e
+    go false e = rw (e, e)
+
+-- a board that is read whole, with the answer of the checks 7 and 8
+pub judged-answered : (s m : List ℕ) (b : Board) → Read (readBoard s) b → b .refused .number ≡ 0
+    → (r : Answer) → r ≡ andThen (checkNeeded (4 * b .values) (length m)) (checkValues (parsedOf b) m) → Read (readJudged s m) (answered-by b r)
+judged-answered s m b read z r e =
+    let p = parsedOf b in
+    let seven : (Parsed → Answer) = λ p. checkNeeded (memoryLength p) (length m) in
+    let eight : (Parsed → Answer) = λ p. checkValues p m in
+    let same : r ≡ andThen (seven p) (eight p) = e ∙ ap (λ (v : ℕ). andThen (checkNeeded (4 * v) (length m)) (eight p)) (read .sound .values-sum) in
+    record {
+      reading =
+          ap (λ (v : Progress). heldTo eight (heldTo seven v)) (read .reading ∙ or-accepts (b .refused) _ z)
+          ∙ held-both seven eight p
+          ∙ ap (λ (x : Answer). orRefused x (whole p)) (sym same);
       sound = sound-answered b r (read .sound);
     }
 

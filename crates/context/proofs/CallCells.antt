@@ -14,7 +14,7 @@ use Rattle.graph.specs.Board.{Parsed, blank, cellsOf}
 use Rattle.context.specs.Memory.{nodeIn, nodeAt, kindAt}
 use Rattle.graph.specs.Read.{parsedOf, Sound}
 use Rattle.context.specs.Fine.{Fine}
-use Rattle.context.specs.Parts.{CellsIn}
+use Rattle.context.specs.Stages.{CellsIn}
 use Rattle.graph.specs.declared.board.Board.{Board}
 use Rattle.graph.proofs.Accepted.{cells-apart}
 use Rattle.graph.proofs.Six.{counted}
@@ -41,7 +41,10 @@ module _ (b : Board) (sound : Sound b) where
   pub count-nodes : length (parsedOf b .nodes) ≡ b .count
   count-nodes = counted (b .nodes) (b .count) (omega (arith, sound .nodes-long, sound .few-nodes))
 
-  pub cells-in : Fine (parsedOf b) → (m : List ℕ) → length m ≡ 4 * b .values → CellsIn (b .nodes) (b .count) (length m)
-  cells-in fine m long k h =
+  pub cells-fit : Fine (parsedOf b) → CellsIn (b .nodes) (b .count) (4 * b .values)
+  cells-fit fine k h =
       let at : nodeAt (parsedOf b) k .cell ≡ nodeIn (b .nodes) k .cell = ap (λ (r : NodeRecord). r .cell) (node-in k h) in
       omega (arith, cell-in (parsedOf b) fine k (omega (arith, count-nodes)), sound .values-sum)
+
+  pub cells-in : Fine (parsedOf b) → (m : List ℕ) → length m ≡ 4 * b .values → CellsIn (b .nodes) (b .count) (length m)
+  cells-in fine m long = rw long (cells-fit fine)

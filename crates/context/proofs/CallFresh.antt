@@ -21,7 +21,7 @@ use Rattle.nodes.proofs.Fresh.{fresh-long}
 use Rattle.graph.specs.Board.{blank, Parsed, cellsOf}
 use Rattle.context.specs.Memory.{nodeIn, freshFrom, freshValues}
 use Rattle.context.specs.Fine.{Fine}
-use Rattle.context.specs.Parts.{putNumbers}
+use Rattle.context.specs.Stages.{putNumbers}
 use Rattle.graph.proofs.Six.{node-here}
 use Rattle.context.proofs.CallChecks.{none-left}
 

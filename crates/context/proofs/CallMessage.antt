@@ -26,7 +26,7 @@ use Rattle.nodes.proofs.Kept.{message-fits}
 use Rattle.graph.specs.Answer.{answer}
 use Rattle.graph.specs.Board.{Parsed}
 use Rattle.context.specs.Memory.{nodeIn, passed, nodeAt, kindAt}
-use Rattle.context.specs.Calls.{checkNumber, setNumber}
+use Rattle.context.specs.Calls.{checkNumber, putNumber}
 use Rattle.graph.specs.Read.{parsedOf, Sound}
 use Rattle.context.specs.Fine.{Fine}
 use Rattle.graph.specs.declared.answer.Answer.{Answer}
@@ -80,13 +80,13 @@ set-paste l i v h =
     set-split l i v h ∙ ap (λ (n : ℕ). take i l ++ v ∷ drop n l) (sym (add-one i)) ∙ sym (append-snoc (take i l) v (drop (i + 1) l))
 
 module _ (p : Parsed) (fine : Fine p) (ws : List ℕ) (long : Whole p ws) (k : ℕ) (x : Float) (there : k < length (p .nodes)) where
-  pub set-long : length (setNumber p k x ws) ≡ length ws
+  pub set-long : length (putNumber p k x ws) ≡ length ws
   set-long = length-set ws (nodeAt p k .cell) (toBits binary32 x)
 
   inside : nodeAt p k .cell < length ws
   inside = omega (arith, cell-in p fine k there)
 
-  set-own : cellAt p (setNumber p k x ws) k ≡ set (cellAt p ws k) 0 (toBits binary32 x)
+  set-own : cellAt p (putNumber p k x ws) k ≡ set (cellAt p ws k) 0 (toBits binary32 x)
   set-own =
       let at = nodeAt p k .cell in
       let v = toBits binary32 x in
@@ -94,17 +94,17 @@ module _ (p : Parsed) (fine : Fine p) (ws : List ℕ) (long : Whole p ws) (k : �
       ∙ ap (take (cellSize (p .size) (kindAt p k))) (drop-set-add at ws 0 v)
       ∙ take-set-lt (cellSize (p .size) (kindAt p k)) (drop at ws) 0 v (omega arith)
 
-  set-other : (j : ℕ) → j < length (p .nodes) → j ≢ k → cellAt p (setNumber p k x ws) j ≡ cellAt p ws j
+  set-other : (j : ℕ) → j < length (p .nodes) → j ≢ k → cellAt p (putNumber p k x ws) j ≡ cellAt p ws j
   set-other j l other =
       ap (λ (r : List ℕ). cellAt p r j) (set-paste ws (nodeAt p k .cell) (toBits binary32 x) inside)
       ∙ paste-other p fine ws long k there (nodeAt p k .cell) (toBits binary32 x ∷ []) 1 (omega arith) (omega arith) (omega arith) j l other
 
-  pub set-judged : T (fits binary32 x) → valueFits (kindAt p k) x ≡ true → Judged p ws → Judged p (setNumber p k x ws)
+  pub set-judged : T (fits binary32 x) → valueFits (kindAt p k) x ≡ true → Judged p ws → Judged p (putNumber p k x ws)
   set-judged f v h j l = go (ℕ-discrete j k)
     where
-      own : cellFits (kindAt p k) (cellAt p (setNumber p k x ws) k) ≡ true
+      own : cellFits (kindAt p k) (cellAt p (putNumber p k x ws) k) ≡ true
       own = ap (cellFits (kindAt p k)) set-own ∙ message-fits (kindAt p k) x (cellAt p ws k) f v (h k there)
 
-      go : Dec (j ≡ k) → cellFits (kindAt p j) (cellAt p (setNumber p k x ws) j) ≡ true
+      go : Dec (j ≡ k) → cellFits (kindAt p j) (cellAt p (putNumber p k x ws) j) ≡ true
       go (yes e) = rw e own
       go (no n) = ap (cellFits (kindAt p j)) (set-other j l n) ∙ h j l

@@ -33,7 +33,7 @@ use Rattle.graph.specs.Read.{parsedOf, Sound}
 use Rattle.graph.specs.Listed.{SourcesBelow}
 use Rattle.context.specs.Fine.{Fine}
 use Rattle.graph.specs.Formed.{TableAt}
-use Rattle.context.specs.Parts.{StartFits, StartsFit, Starts, Runs}
+use Rattle.context.specs.Stages.{StartFits, StartsFit, Starts, Runs}
 use Rattle.graph.specs.declared.answer.Answer.{Answer}
 use Rattle.graph.specs.declared.board.Board.{Board}
 use Rattle.graph.specs.declared.graph.Order.{Order}

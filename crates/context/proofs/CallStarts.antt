@@ -12,7 +12,7 @@ use lib.Seq.{take-suc, take-suc-set}
 use Rattle.graph.specs.Board.{blank}
 use Rattle.context.specs.Memory.{nodeIn}
 use Rattle.nodes.specs.declared.kind.NodeRecord.{NodeRecord}
-use Rattle.context.specs.Parts.{Starts}
+use Rattle.context.specs.Stages.{Starts}
 
 pub mapped-at : (f : NodeRecord → ℕ) (l : List NodeRecord) (k : ℕ) → k < length l → getD (map f l) k 0 ≡ f (nodeIn l k)
 mapped-at f [] k h = absurd (omega arith)

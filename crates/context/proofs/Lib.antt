@@ -1,4 +1,4 @@
--- Laws of the calls, and the theorems: demand 3 (Demand) and the tail (Silence).
+-- Laws of the calls.
 pub mod FineBoard
 pub mod CallChecks
 pub mod CallCells
@@ -11,22 +11,3 @@ pub mod CallRun
 pub mod CallAccepted
 pub mod CallBlock
 pub mod CallCases
-pub mod ShownCells
-pub mod ShownRun
-pub mod ShownBlock
-pub mod ShownBytes
-pub mod ShownCall
-pub mod ShownFresh
-pub mod Lawful
-pub mod Told
-pub mod DemandOn
-pub mod DemandReading
-pub mod DemandAfter
-pub mod Demand
-pub mod DemandWorked
-pub mod SilenceFloats
-pub mod SilenceNodes
-pub mod SilenceLags
-pub mod Silence
-pub mod SilenceWorked
-pub mod Trials

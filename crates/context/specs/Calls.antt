@@ -123,8 +123,8 @@ abbrev pub checkMessage : Parsed → List ℕ → ℕ → Float → Answer
 checkMessage p m k x = checkMemory p m (checkNumber p k x)
 
 -- the number is the first value of the node's cell
-abbrev pub setNumber : Parsed → ℕ → Float → List ℕ → List ℕ
-setNumber p k x ws = set ws (nodeAt p k .cell) (toBits binary32 x)
+abbrev pub putNumber : Parsed → ℕ → Float → List ℕ → List ℕ
+putNumber p k x ws = set ws (nodeAt p k .cell) (toBits binary32 x)
 
 unfoldable pub messageOf : List ℕ → List ℕ → ℕ → Float → Answer × List ℕ
-messageOf board m k x = changeBy m (λ p. checkMessage p m k x) (λ p. setNumber p k x (words m)) (readBoard board)
+messageOf board m k x = changeBy m (λ p. checkMessage p m k x) (λ p. putNumber p k x (words m)) (readBoard board)

@@ -5,20 +5,24 @@ ghost use Prim.Native.Nat.{_+_, _*_, _≤_};
 ghost use lib.ListN.{length, take, drop, replicate};
 ghost use lib.Seq.{paste};
 ghost use Rattle.leaves.specs.Words.{words};
-ghost use Rattle.context.specs.Memory.{leftStart, rightStart, runNodes};
-ghost use Rattle.context.specs.Calls.{andThen, checkSize, checkSizes, checkSamples, asLeft, listed, freshOf, blockOf};
+ghost use Rattle.nodes.specs.Kind.{samplesFrom};
+ghost use Rattle.context.specs.Memory.{leftStart, rightStart, checkCells, runNodes};
+ghost use Rattle.context.specs.Calls.{andThen, checkNeeded, checkSize, checkSizes, checkSamples, asLeft, listed, freshOf, blockOf};
 ghost use Rattle.graph.specs.Read.{parsedOf};
-ghost use Rattle.context.specs.Parts.{CellsIn, StartsFit, Starts, Runs, putNumbers};
-use crate::open::judged;
+ghost use Rattle.context.specs.Stages.{CellsIn, StartsFit, Starts, lending, LentOf, Lent, putNumbers};
+use crate::open::length_judged;
 use crate::open::opened;
 use graph::answer::Answer;
 use graph::board::Board;
 use graph::graph::Order;
 use graph::graph::visiting_list;
+use graph::judge::read_board;
 use leaves::bytes::wide;
 use leaves::bytes::word_at;
 use leaves::float::finite_bits;
 use leaves::float::store;
+use nodes::cell::SAMPLES;
+use nodes::cell::cell_fits;
 use nodes::cell::number_of;
 use nodes::kind::NodeRecord;
 use nodes::node::step;
@@ -139,41 +143,78 @@ fn copy(from: &[u8], start: usize, to: &mut [u8], at: usize, count: usize)
     }
 }
 
-// Where each node's samples start, and where what the destination's channel 1 reads of it does.
-fn starts(
+// Check 8, and where each node's samples start and where what the destination's channel 1 reads of it
+// does: one pass over the nodes.
+fn starts_judged(
     nodes: [NodeRecord; 64],
     count: usize,
     size: usize,
+    memory: &[u8],
     lefts: &mut [usize; 64],
     rights: &mut [usize; 64],
-)
-    requires { ⌜ (length nodes ≡ 64) × (count ≤ 64) × (size ≤ 128) × StartsFit nodes count ⌝ }
+) -> Answer
+    requires { ⌜ (length nodes ≡ 64) × (count ≤ 64) × (size ≤ 128) × StartsFit nodes count × CellsIn nodes count (length (now memory)) ⌝ }
     requires { ⌜ (length (now lefts) ≡ 64) × (length (now rights) ≡ 64) ⌝ }
-    ensures { λ _. ⌜ Starts leftStart nodes count (now (lefts .exit)) × Starts (rightStart size) nodes count (now (rights .exit)) ⌝ }
+    ensures answered { λ r. ⌜ r ≡ checkCells (words (now (memory .entry))) 0 (take count nodes) ⌝ }
+    ensures started { λ r. ⌜ (r .number ≡ 0 → Starts leftStart nodes count (now (lefts .exit)) × Starts (rightStart size) nodes count (now (rights .exit))) ⌝ }
 {
     let mut i = 0;
     while i < count {
         let node = nodes[i];
-        let left = node.cell as usize + 3;
-        lefts[i] = left;
-        rights[i] = left + size * (wide(node.channels) - 1);
-        i += 1;
+        let kind = node.kind;
+        if cell_fits(memory, node.cell as usize, kind) {
+            let left = node.cell as usize + SAMPLES;
+            lefts[i] = left;
+            rights[i] = left + size * (wide(node.channels) - 1);
+            i += 1;
+        } else {
+            return Answer::new(8, i);
+        }
     }
+    Answer::new(0, 0)
 }
 
-// The listed nodes, in order.
-fn run(board: Board, order: Order, memory: &mut [u8])
-    requires { ⌜ Runs board order (now memory) ⌝ }
-    ensures { λ _. ⌜ words (now (memory .exit)) ≡ runNodes (parsedOf board) (listed (parsedOf board)) (words (now (memory .entry))) ⌝ }
+// Checks 7 and 8 of a board that is read whole, with the starts.
+fn memory_judged(
+    values: usize,
+    nodes: [NodeRecord; 64],
+    count: usize,
+    size: usize,
+    memory: &[u8],
+    lefts: &mut [usize; 64],
+    rights: &mut [usize; 64],
+) -> Answer
+    requires { ⌜ (length nodes ≡ 64) × (count ≤ 64) × (size ≤ 128) × (values ≤ 278720) × StartsFit nodes count × CellsIn nodes count (4 * values) ⌝ }
+    requires { ⌜ (length (now lefts) ≡ 64) × (length (now rights) ≡ 64) ⌝ }
+    ensures answered { λ r. ⌜ r ≡ andThen (checkNeeded (4 * values) (length (now (memory .entry)))) (checkCells (words (now (memory .entry))) 0 (take count nodes)) ⌝ }
+    ensures started { λ r. ⌜ (r .number ≡ 0 → Starts leftStart nodes count (now (lefts .exit)) × Starts (rightStart size) nodes count (now (rights .exit))) ⌝ }
 {
-    let nodes = board.nodes;
-    let counts = board.counts;
-    let lists = board.lists;
-    let seconds = board.seconds;
+    let long = length_judged(values, memory.len());
+    if long.number != 0 {
+        return long;
+    }
+    starts_judged(nodes, count, size, memory, lefts, rights)
+}
+
+// The listed nodes, in order. Lent what the run reads of a board, since a board by value is copied.
+fn run<'a>(
+    nodes: [NodeRecord; 64],
+    size: usize,
+    counts: &'a [u8; 64],
+    lists: &'a [u8; 512],
+    seconds: &'a [u8; 64],
+    lefts: &[usize; 64],
+    rights: &[usize; 64],
+    order: Order,
+    memory: &mut [u8],
+)
+    requires { ⌜ Lent nodes size (now counts) (now lists) (now seconds) (now lefts) (now rights) order (now memory) ⌝ }
+    ensures { λ _. ⌜ ((b : Board) → LentOf b nodes size (now (counts .entry)) (now (lists .entry)) (now (seconds .entry)) (now (lefts .entry)) (now (rights .entry)) order (now (memory .entry))
+        → words (now (memory .exit)) ≡ runNodes (parsedOf (lending b nodes size (now (counts .entry)) (now (lists .entry)) (now (seconds .entry))))
+        (listed (parsedOf (lending b nodes size (now (counts .entry)) (now (lists .entry)) (now (seconds .entry))))) (words (now (memory .entry)))) ⌝ }
+{
     let listed = order.nodes;
-    let mut lefts = [0usize; 64];
-    let mut rights = [0usize; 64];
-    starts(nodes, board.count, board.size, &mut lefts, &mut rights);
+    let sources = &lists[..];
     let mut x = [0.0f32; 128];
     let mut m = [0.0f32; 128];
     let mut i = 0;
@@ -185,12 +226,12 @@ fn run(board: Board, order: Order, memory: &mut [u8])
         let node = nodes[k];
         step(
             memory,
-            board.size,
+            size,
             node,
-            &lists[from..to],
+            &sources[from..to],
             second,
-            &lefts,
-            &rights,
+            lefts,
+            rights,
             &mut x,
             &mut m,
         );
@@ -200,20 +241,23 @@ fn run(board: Board, order: Order, memory: &mut [u8])
 
 // The input block into the samples of the input node, whose cell starts at `cell`.
 fn put_input(input: &[u8], cell: usize, size: usize, memory: &mut [u8])
-    requires { ⌜ (4 * size ≤ length (now input)) × (4 * (cell + 3) + 4 * size ≤ length (now memory)) × (length (now memory) ≤ 1114880) ⌝ }
-    ensures { λ _. ⌜ now (memory .exit) ≡ paste (now (memory .entry)) (4 * (cell + 3)) (drop 0 (now (input .entry))) (4 * size) ⌝ }
+    requires { ⌜ (4 * size ≤ length (now input)) × (4 * (cell + samplesFrom) + 4 * size ≤ length (now memory)) × (length (now memory) ≤ 1114880) ⌝ }
+    ensures { λ _. ⌜ now (memory .exit) ≡ paste (now (memory .entry)) (4 * (cell + samplesFrom)) (drop 0 (now (input .entry))) (4 * size) ⌝ }
 {
-    copy(input, 0, memory, 4 * (cell + 3), 4 * size);
+    copy(input, 0, memory, 4 * (cell + SAMPLES), 4 * size);
 }
+
+// The byte at which node 0's samples start: its cell is the first.
+const FIRST: usize = 4 * SAMPLES;
 
 // Node 0's two channels out.
 fn give(memory: &[u8], size: usize, out0: &mut [u8], out1: &mut [u8])
-    requires { ⌜ (size ≤ 128) × (4 * (3 + size + size) ≤ length (now memory)) × (length (now out0) ≡ 4 * size) × (length (now out1) ≡ 4 * size) ⌝ }
-    ensures { λ _. ⌜ (now (out0 .exit) ≡ paste (now (out0 .entry)) 0 (drop 12 (now (memory .entry))) (4 * size))
-        × (now (out1 .exit) ≡ paste (now (out1 .entry)) 0 (drop (12 + 4 * size) (now (memory .entry))) (4 * size)) ⌝ }
+    requires { ⌜ (size ≤ 128) × (4 * (samplesFrom + size + size) ≤ length (now memory)) × (length (now out0) ≡ 4 * size) × (length (now out1) ≡ 4 * size) ⌝ }
+    ensures { λ _. ⌜ (now (out0 .exit) ≡ paste (now (out0 .entry)) 0 (drop (4 * samplesFrom) (now (memory .entry))) (4 * size))
+        × (now (out1 .exit) ≡ paste (now (out1 .entry)) 0 (drop (4 * samplesFrom + 4 * size) (now (memory .entry))) (4 * size)) ⌝ }
 {
-    copy(memory, 12, out0, 0, 4 * size);
-    copy(memory, 12 + 4 * size, out1, 0, 4 * size);
+    copy(memory, FIRST, out0, 0, 4 * size);
+    copy(memory, FIRST + 4 * size, out1, 0, 4 * size);
 }
 
 // The block run: the input block into the input node's samples, listed or not; the listed nodes in
@@ -224,12 +268,27 @@ pub fn block(s: &[u8], memory: &mut [u8], input: &[u8], out0: &mut [u8], out1: &
     ensures { λ r. ⌜ asLeft r (now (memory .exit)) (now (out0 .exit)) (now (out1 .exit))
         ≡ blockOf (now (s .entry)) (now (memory .entry)) (now (input .entry)) (now (out0 .entry)) (now (out1 .entry)) ⌝ }
 {
-    let board = judged(s, memory);
-    let refused = board.refused;
-    if refused.number != 0 {
-        return refused;
+    let board = read_board(s);
+    let read = board.refused;
+    if read.number != 0 {
+        return read;
     }
     let size = board.size;
+    let nodes = board.nodes;
+    let mut lefts = [0usize; 64];
+    let mut rights = [0usize; 64];
+    let judged = memory_judged(
+        board.values,
+        nodes,
+        board.count,
+        size,
+        memory,
+        &mut lefts,
+        &mut rights,
+    );
+    if judged.number != 0 {
+        return judged;
+    }
     let sized = blocks_judged(size, input, out0.len(), out1.len());
     if sized.number != 0 {
         return sized;
@@ -237,9 +296,18 @@ pub fn block(s: &[u8], memory: &mut [u8], input: &[u8], out0: &mut [u8], out1: &
     let k = board.input;
     let node = board.nodes[k];
     put_input(input, node.cell as usize, size, memory);
-    let counts = board.counts;
-    let lists = board.lists;
-    run(board, visiting_list(&counts, &lists), memory);
+    let order = visiting_list(&board.counts, &board.lists);
+    run(
+        nodes,
+        size,
+        &board.counts,
+        &board.lists,
+        &board.seconds,
+        &lefts,
+        &rights,
+        order,
+        memory,
+    );
     give(memory, size, out0, out1);
     Answer::new(0, 0)
 }

@@ -5,7 +5,7 @@ ghost use lib.ListN.{length};
 ghost use Rattle.leaves.specs.Words.{words};
 ghost use Rattle.graph.specs.Read.{parsedOf, Sound};
 ghost use Rattle.context.specs.Fine.{Fine};
-ghost use Rattle.context.specs.Calls.{checkNumber, setNumber, messageOf};
+ghost use Rattle.context.specs.Calls.{checkNumber, putNumber, messageOf};
 use crate::open::judged;
 use graph::answer::Answer;
 use graph::board::Board;
@@ -40,7 +40,7 @@ pub fn put_number(board: Board, k: usize, value: f32, memory: &mut [u8])
     requires { ⌜ Fine (parsedOf board) ⌝ }
     requires { ⌜ k < board .count ⌝ }
     requires { ⌜ length (now memory) ≡ 4 * board .values ⌝ }
-    ensures { λ _. ⌜ words (now (memory .exit)) ≡ setNumber (parsedOf board) k value (words (now (memory .entry))) ⌝ }
+    ensures { λ _. ⌜ words (now (memory .exit)) ≡ putNumber (parsedOf board) k value (words (now (memory .entry))) ⌝ }
 {
     let node = board.nodes[k];
     store(memory, node.cell as usize, value);

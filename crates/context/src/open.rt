@@ -5,7 +5,7 @@ ghost use lib.ListN.{length, take};
 ghost use Rattle.leaves.specs.Words.{words};
 ghost use Rattle.context.specs.Memory.{checkCells};
 ghost use Rattle.context.specs.Calls.{checkNeeded};
-ghost use Rattle.context.specs.Parts.{CellsIn, readOpen, readJudged, Opened};
+ghost use Rattle.context.specs.Stages.{CellsIn, readOpen, readJudged, Opened};
 use graph::answer::Answer;
 use graph::board::Board;
 use graph::judge::read_board;
@@ -13,7 +13,7 @@ use nodes::cell::cell_fits;
 use nodes::kind::NodeRecord;
 
 // Check 7.
-fn length_judged(values: usize, lent: usize) -> Answer
+pub fn length_judged(values: usize, lent: usize) -> Answer
     requires { ⌜ values ≤ 278720 ⌝ }
     ensures { λ r. ⌜ r ≡ checkNeeded (4 * values) lent ⌝ }
 {

@@ -17,17 +17,17 @@ use Rattle.reading.specs.Time.{Timed}
 use Rattle.reading.specs.Calls.{afterCalls, replies}
 use Rattle.graph.specs.Board.{Parsed, Progress, going, refused, whole, memoryLength}
 use Rattle.graph.specs.Judge.{readBoard, answerBy, judgeOf}
-use Rattle.graph.specs.Parts.{wired as withWires}
+use Rattle.graph.specs.BoardParts.{wired as withWires}
 use Rattle.graph.proofs.Ending.{Ended, board-ends}
-use Rattle.context.specs.Claim.{freshMemory}
+use Rattle.samples.specs.Claim.{freshMemory}
 use Rattle.context.specs.Calls.{listed}
 use Rattle.context.specs.Fine.{Fine}
-use Rattle.context.specs.Instance.{freshCells}
-use Rattle.context.proofs.ShownFresh.{fresh-shown}
-use Rattle.context.proofs.Lawful.{Setting}
-use Rattle.context.proofs.DemandOn as theorem
-use Rattle.context.proofs.Demand.{fresh-call}
-use Rattle.context.proofs.Demand as without
+use Rattle.samples.specs.Instance.{freshCells}
+use Rattle.samples.proofs.ShownFresh.{fresh-shown}
+use Rattle.samples.proofs.Lawful.{Setting}
+use Rattle.samples.proofs.DemandOn as theorem
+use Rattle.samples.proofs.Demand.{fresh-call}
+use Rattle.samples.proofs.Demand as without
 use Rattle.demand.specs.Requests.{Lent, boardIn, wiresOn, Request, effectsOf, saidTo, requested, IsRewired, memoryThen}
 use Rattle.demand.specs.Instance.{Plays}
 use Rattle.demand.specs.Claim.{requestIn, AsRewired, Orders, RewiredClaim, RewiredDemand}

@@ -15,16 +15,16 @@ use Rattle.reading.specs.Memory.{answers, Keeps-promise}
 use Rattle.reading.specs.Blocks.{runBlock, setState}
 use Rattle.reading.proofs.Calls.{acts-left}
 use Rattle.graph.specs.Board.{Parsed}
-use Rattle.graph.specs.Parts.{wired as withWires}
+use Rattle.graph.specs.BoardParts.{wired as withWires}
 use Rattle.wiring.specs.Rewire.{addedBoard, pulledBoard, lentFor, addOf, pullOf}
 use Rattle.wiring.proofs.Answered.{lent-refused}
 use Rattle.wiring.specs.declared.rewire.Wiring.{Wiring}
 use Rattle.context.specs.Memory.{kindAt}
-use Rattle.context.specs.Reading.{Call, effects, silence}
-use Rattle.context.specs.Claim.{callIn}
-use Rattle.context.specs.Instance.{Cells, boardWith, memoryWith, Held, memoryOf}
-use Rattle.context.proofs.ShownBlock.{reordered}
-use Rattle.context.proofs.ShownCall.{doing, effects-wiring, call-shown}
+use Rattle.samples.specs.Reading.{Call, effects, silence}
+use Rattle.samples.specs.Claim.{callIn}
+use Rattle.samples.specs.Instance.{Cells, boardWith, memoryWith, Held, memoryOf}
+use Rattle.samples.proofs.ShownBlock.{reordered}
+use Rattle.samples.proofs.ShownCall.{doing, effects-wiring, call-shown}
 use Rattle.demand.specs.Requests.{Lent, boardIn, wiresOn, Request, call, add, pull, changeTo, changeBy, effectsOf, Said, replied, wired, saidTo, saidBy}
 use Rattle.demand.specs.Instance.{Plays}
 use Rattle.demand.specs.Claim.{lentBy, requestIn, Orders}

@@ -16,7 +16,7 @@ use Rattle.reading.specs.Order.{Wire}
 use Rattle.reading.specs.Board.{Leaves}
 use Rattle.graph.specs.Board.{Parsed, whole}
 use Rattle.graph.specs.Judge.{readBoard}
-use Rattle.graph.specs.Parts.{wired as withWires}
+use Rattle.graph.specs.BoardParts.{wired as withWires}
 use Rattle.graph.proofs.RoundBytes.{bytes-front}
 use Rattle.wiring.specs.Carried.{added, pulled}
 use Rattle.wiring.specs.Rewire.{addOf, pullOf}
@@ -24,7 +24,7 @@ use Rattle.wiring.proofs.Changes.{added-leaves, pulled-leaves}
 use Rattle.wiring.specs.declared.rewire.Wiring.{Wiring}
 use Rattle.context.specs.Fine.{Fine}
 use Rattle.context.proofs.FineBoard.{fine-board}
-use Rattle.context.proofs.ShownCall.{NumberFits, effects-fit, effects-leave}
+use Rattle.samples.proofs.ShownCall.{NumberFits, effects-fit, effects-leave}
 use Rattle.demand.specs.Requests.{Lent, boardIn, wiresRead, wiresOn, Request, call, add, pull, changeTo, changeBy, effectsOf}
 use Rattle.demand.specs.Instance.{Plays}
 

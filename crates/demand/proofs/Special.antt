@@ -23,17 +23,17 @@ use Rattle.reading.specs.Time.{Timed, lastBlock}
 use Rattle.reading.specs.Calls.{replies, afterCalls}
 use Rattle.graph.specs.Board.{Parsed, Progress, whole}
 use Rattle.graph.specs.Judge.{readBoard}
-use Rattle.graph.specs.Parts.{wired as withWires}
+use Rattle.graph.specs.BoardParts.{wired as withWires}
 use Rattle.context.specs.Memory.{kindAt}
 use Rattle.context.specs.Calls.{Outcome, callBy, asLeft, checkBlock, ranBlock, blockIn, listed}
-use Rattle.context.specs.Reading.{Call, block, message, accepts, done, effects, Fixed, mono, silence, reached, agoN, broughtTo, IsReading, IsReadingOn, samplesOf, Reply, replyTo, repliesTo}
-use Rattle.context.specs.Reading as base
-use Rattle.context.specs.Claim.{replied as replied-by, callIn, freshMemory, AsRead, Claim, Demand}
+use Rattle.samples.specs.Reading.{Call, block, message, accepts, done, effects, Fixed, mono, silence, reached, agoN, broughtTo, IsReading, IsReadingOn, samplesOf, Reply, replyTo, repliesTo}
+use Rattle.samples.specs.Reading as base
+use Rattle.samples.specs.Claim.{replied as replied-by, callIn, freshMemory, AsRead, Claim, Demand}
 use Rattle.context.specs.Fine.{Fine}
 use Rattle.context.proofs.FineBoard.{fine-board, lists}
-use Rattle.context.proofs.ShownCall.{effects-wiring}
-use Rattle.context.proofs.DemandReading as full
-use Rattle.context.proofs.DemandAfter.{accepted-whole, memory-shown, replies-same}
+use Rattle.samples.proofs.ShownCall.{effects-wiring}
+use Rattle.samples.proofs.DemandReading as full
+use Rattle.samples.proofs.DemandAfter.{accepted-whole, memory-shown, replies-same}
 use Rattle.demand.specs.Requests.{Lent, boardIn, wiresRead, wiresOn, call, effectsOf, requested, boardAt, IsRewired, memoryThen, Said, replied, wired, saidBy}
 use Rattle.demand.specs.Claim.{requestIn, Orders, RewiredClaim, RewiredDemand}
 use Rattle.graph.proofs.RoundBytes.{bytes-front}

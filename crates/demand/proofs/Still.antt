@@ -21,13 +21,13 @@ use Rattle.reading.specs.Time.{Timed}
 use Rattle.reading.specs.Solution.{IsSolution}
 use Rattle.reading.proofs.Still as theorem
 use Rattle.graph.specs.Board.{Parsed}
-use Rattle.graph.specs.Parts.{wired as withWires}
+use Rattle.graph.specs.BoardParts.{wired as withWires}
 use Rattle.context.specs.Memory.{kindAt}
 use Rattle.context.specs.Calls.{listed}
-use Rattle.context.specs.Reading.{mono, silence, reached, end, inputAt, toldAt, agoN, brings, broughtTo, heldAt}
-use Rattle.context.specs.Instance.{boardWith, readingRules, readingWith}
+use Rattle.samples.specs.Reading.{mono, silence, reached, end, inputAt, toldAt, agoN, brings, broughtTo, heldAt}
+use Rattle.samples.specs.Instance.{boardWith, readingRules, readingWith}
 use Rattle.context.specs.Fine.{Fine}
-use Rattle.context.proofs.DemandOn.{input-gives, to-theory}
+use Rattle.samples.proofs.DemandOn.{input-gives, to-theory}
 use Rattle.demand.specs.Requests.{Lent, wiresOn, effectsOf, boardAt, IsRewired}
 
 -- the board of accepted block b; node k is out of reach in it

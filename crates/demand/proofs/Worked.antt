@@ -30,9 +30,9 @@ use Rattle.graph.specs.Write.{kindOf}
 use Rattle.wiring.specs.Rewire.{wiring, refusal, addedBoard, pulledBoard, addOf, pullOf}
 use Rattle.context.specs.Memory.{freshValues, checkCells, runNode, runNodes, putInput}
 use Rattle.context.specs.Calls.{checkSamples, blockIn, listed}
-use Rattle.context.specs.Reading.{block}
-use Rattle.context.specs.Claim.{freshMemory}
-use Rattle.context.proofs.DemandWorked.{one, ahead, half, quiet, said, p}
+use Rattle.samples.specs.Reading.{block}
+use Rattle.samples.specs.Claim.{freshMemory}
+use Rattle.samples.proofs.DemandWorked.{one, ahead, half, quiet, said, p}
 use Rattle.demand.specs.Requests.{Lent, boardIn, Request, call, pull, requested, IsRewired, Said, replied, wired, saidBy}
 use Rattle.demand.specs.Requests as request
 use Rattle.demand.specs.Claim.{requestIn}

@@ -18,12 +18,12 @@ use Rattle.reading.specs.Calls as calls
 use Rattle.graph.specs.Answer.{answer}
 use Rattle.graph.specs.Board.{Parsed, whole, memoryLength}
 use Rattle.graph.specs.Judge.{readBoard}
-use Rattle.graph.specs.Parts.{wired as withWires}
+use Rattle.graph.specs.BoardParts.{wired as withWires}
 use Rattle.graph.specs.Visit.{visitingList}
 use Rattle.wiring.specs.Rewire.{addOf, pullOf}
 use Rattle.wiring.specs.declared.rewire.Wiring.{Wiring}
 use Rattle.context.specs.Calls.{freshOf, listed}
-use Rattle.context.specs.Claim.{callIn, freshMemory}
+use Rattle.samples.specs.Claim.{callIn, freshMemory}
 use Rattle.demand.specs.Requests.{Lent, boardIn, Request, call, add, pull, requested, IsRewired, memoryThen, Said, replied, wired, saidBy}
 
 -- ---- a request on what is lent, board and memory

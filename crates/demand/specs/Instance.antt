@@ -3,7 +3,7 @@ use mathlib.Core.Path.{_≡_}
 use Rattle.leaves.specs.Words.{Bytes}
 use Rattle.graph.specs.Board.{Parsed, whole}
 use Rattle.graph.specs.Judge.{readBoard}
-use Rattle.graph.specs.Parts.{wired as withWires}
+use Rattle.graph.specs.BoardParts.{wired as withWires}
 use Rattle.demand.specs.Requests.{Lent, boardIn, wiresOn}
 
 -- its board is p's nodes with some wires

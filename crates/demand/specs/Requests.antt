@@ -17,10 +17,10 @@ use Rattle.reading.specs.Time.{Timed, lastBlock}
 use Rattle.graph.specs.Board as graph
 use Rattle.graph.specs.Board.{Parsed}
 use Rattle.graph.specs.Judge.{readBoard}
-use Rattle.graph.specs.Parts.{wired as withWires}
+use Rattle.graph.specs.BoardParts.{wired as withWires}
 use Rattle.wiring.specs.Rewire.{addOf, pullOf}
 use Rattle.wiring.specs.declared.rewire.Wiring.{Wiring}
-use Rattle.context.specs.Reading.{Call, effects, silence, IsReadingOn, reachedCell, Reply, replyTo}
+use Rattle.samples.specs.Reading.{Call, effects, silence, IsReadingOn, reachedCell, Reply, replyTo}
 
 -- ---- the board
 

@@ -5,7 +5,7 @@ use native.Mathlib.Omega.{arith}
 use borrow.Author.Tests.{ne-eqb}
 use Rattle.graph.specs.Answer.{answer}
 use Rattle.graph.specs.Board.{Progress, refused}
-use Rattle.graph.specs.Parts.{orRefused}
+use Rattle.graph.specs.BoardParts.{orRefused}
 use Rattle.graph.specs.declared.answer.Answer.{Answer}
 
 pub accepted-as : {a : Answer} {w : ℕ} (r : Progress) → a ≡ answer 0 w → r ≡ orRefused a r

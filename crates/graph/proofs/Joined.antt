@@ -14,7 +14,7 @@ use Rattle.graph.specs.Sources.{Tabled}
 use Rattle.graph.specs.Wires.{wiresOf}
 use Rattle.reading.specs.Order.{Wire}
 use Rattle.graph.specs.Board.{Parsed, Progress, going, refused, whole, blank, headed, endBy, takeFound, stepOf, run, readRecords}
-use Rattle.graph.specs.Parts.{orRefused, noded, madeOf, HeadRead, NodesRead, WiresRead, Counts}
+use Rattle.graph.specs.BoardParts.{orRefused, noded, madeOf, HeadRead, NodesRead, WiresRead, Counts}
 use Rattle.graph.specs.Read.{Sound, Read}
 use Rattle.graph.specs.declared.answer.Answer.{Answer}
 use Rattle.graph.specs.declared.record.Found.{Found}
@@ -177,12 +177,12 @@ made-sound s h n w ss ts counts lists seconds a small nodes wires table = record
 
 -- what check 6 is given of it
 pub made-counts : (s : List ℕ) (h : Head) (n : Nodes) (ws : List Wire) (counts lists seconds : List ℕ) → NodesRead s (h .size) n → Tabled ws counts lists seconds
-    → Counts (madeOf h n ws) (n .fewest) (n .most) counts
+    → Counts (madeOf h n ws) (n .bounds) counts
 made-counts s h n ws counts lists seconds nodes table =
     let long : length (take (n .count) (n .nodes)) ≡ n .count = length-take-le (n .count) (n .nodes) (omega (arith, nodes .few, nodes .long)) in
     record {
-      bounds = λ i b.
+      bound = λ i b.
           let below : i < n .count = omega (arith, long) in
-          rw (getD-take (n .count) (n .nodes) i blank below) (nodes .bounds i below);
+          rw (getD-take (n .count) (n .nodes) i blank below) (nodes .bound i below);
       counted = λ i b. table .counted i (omega (arith, long, nodes .few));
     }

@@ -16,10 +16,11 @@ use Rattle.graph.specs.Answer.{answer}
 use Rattle.graph.specs.Record.{foundAt}
 use Rattle.graph.specs.Board.{Parsed, going, refused, blank, headed, linesOf, cellsOf, stepOf, run}
 use Rattle.graph.specs.Wires.{Within, wiresOf}
-use Rattle.graph.specs.Parts.{noded, wired, nodeRead, Bounds, NodesRead, WiresRead}
+use Rattle.graph.specs.BoardParts.{noded, wired, nodeRead, Bounds, NodesRead, WiresRead}
 use Rattle.graph.specs.declared.answer.Answer.{Answer}
 use Rattle.graph.specs.declared.board.NodeRead.{NodeRead}
 use Rattle.graph.specs.declared.board.NodeRead.the-variants as node
+use Rattle.nodes.proofs.Rows.{digits}
 use Rattle.graph.proofs.Sums.{lines-snoc, cells-snoc, samples-few}
 use Rattle.graph.proofs.Run.{run-next}
 use Rattle.graph.proofs.Wiring.{wires-length, wires-stored, within-more}
@@ -31,13 +32,12 @@ filled l i a h = rw add-one (take-suc-set l i a h)
 
 -- ---- the nodes
 
-pub record NodesSoFar (s : List ℕ) (N : ℕ) (nodes : List NodeRecord) (least top : List ℕ) (count lines values next : ℕ) : Type 0 where
+pub record NodesSoFar (s : List ℕ) (N : ℕ) (nodes : List NodeRecord) (bounds : List ℕ) (count lines values next : ℕ) : Type 0 where
   pub reads : (i : ℕ) → run count s (going 8 2 (headed N i)) ≡ going next 2 (noded N i (take count nodes))
   pub long : length nodes ≡ 64
-  pub least-long : length least ≡ 64
-  pub top-long : length top ≡ 64
+  pub bounds-long : length bounds ≡ 64
   pub few : count ≤ 64
-  pub bounds : (i : ℕ) → i < count → Bounds (getD nodes i blank) (getD least i 0) (getD top i 0)
+  pub bound : (i : ℕ) → i < count → Bounds (getD nodes i blank) (getD bounds i 0)
   pub lines-sum : lines ≡ linesOf (take count nodes)
   pub few-lines : lines ≤ 262144
   pub values-sum : values ≡ cellsOf N (take count nodes)
@@ -45,16 +45,15 @@ pub record NodesSoFar (s : List ℕ) (N : ℕ) (nodes : List NodeRecord) (least 
   pub next-is : next ≡ 8 + 14 * count
   pub inside : next ≤ length s
 
-pub nodes-start : (s : List ℕ) (N : ℕ) (nodes : List NodeRecord) (least top : List ℕ) → length nodes ≡ 64 → length least ≡ 64 → length top ≡ 64 → 8 ≤ length s
-    → NodesSoFar s N nodes least top 0 0 0 8
+pub nodes-start : (s : List ℕ) (N : ℕ) (nodes : List NodeRecord) (bounds : List ℕ) → length nodes ≡ 64 → length bounds ≡ 64 → 8 ≤ length s
+    → NodesSoFar s N nodes bounds 0 0 0 8
 unfolding run
-nodes-start s N nodes least top l ll tl h = record {
+nodes-start s N nodes bounds l bl h = record {
   reads = λ i. refl;
   long = l;
-  least-long = ll;
-  top-long = tl;
+  bounds-long = bl;
   few = omega arith;
-  bounds = λ i b. absurd (omega arith);
+  bound = λ i b. absurd (omega arith);
   lines-sum = refl;
   few-lines = omega arith;
   values-sum = refl;
@@ -63,7 +62,7 @@ nodes-start s N nodes least top l ll tl h = record {
   inside = h;
 }
 
-module _ (s : List ℕ) (N : ℕ) (nodes : List NodeRecord) (least top : List ℕ) (count lines values next : ℕ) (h : NodesSoFar s N nodes least top count lines values next) where
+module _ (s : List ℕ) (N : ℕ) (nodes : List NodeRecord) (bounds : List ℕ) (count lines values next : ℕ) (h : NodesSoFar s N nodes bounds count lines values next) where
   counted : length (take count nodes) ≡ count
   counted = length-take-le count nodes (omega (arith, h .long, h .few))
 
@@ -94,32 +93,31 @@ module _ (s : List ℕ) (N : ℕ) (nodes : List NodeRecord) (least top : List �
         ∙ ap (λ (ns : List NodeRecord). going (next + 14) 2 (noded N i ns)) (sym nodes-filled)
 
     -- the new node's bounds, and those of the nodes before it
-    more-bounds : (i : ℕ) → i < count + 1 → Bounds (getD more i blank) (getD (set least count (fewest k)) i 0) (getD (set top count (most k)) i 0)
-    unfolding last more
+    own : ℕ
+    own = 16 * fewest k + most k
+
+    more-bounds : (i : ℕ) → i < count + 1 → Bounds (getD more i blank) (getD (set bounds count own) i 0)
+    unfolding last more own
     more-bounds i b = go (ℕ-discrete i count)
       where
-        go : Dec (i ≡ count) → Bounds (getD (set nodes count (last values)) i blank) (getD (set least count (fewest k)) i 0) (getD (set top count (most k)) i 0)
+        go : Dec (i ≡ count) → Bounds (getD (set nodes count (last values)) i blank) (getD (set bounds count own) i 0)
         go (yes e) =
             rw (
               e,
               getD-set-same nodes count (last values) blank (omega (arith, h .long, here .1 .room)),
-              getD-set-same least count (fewest k) 0 (omega (arith, h .least-long, here .1 .room)),
-              getD-set-same top count (most k) 0 (omega (arith, h .top-long, here .1 .room)),
+              getD-set-same bounds count own 0 (omega (arith, h .bounds-long, here .1 .room)),
             )
-            (refl, refl)
-        go (no other) =
-            rw (getD-set-other nodes count i (last values) blank other, getD-set-other least count i (fewest k) 0 other, getD-set-other top count i (most k) 0 other)
-            (h .bounds i (omega arith))
+            (digits k)
+        go (no other) = rw (getD-set-other nodes count i (last values) blank other, getD-set-other bounds count i own 0 other) (h .bound i (omega arith))
 
-    pub nodes-more : N ≤ 128 → NodesSoFar s N (set nodes count (record { kind = k; channels = channelsOf k; cell = values })) (set least count (fewest k)) (set top count (most k)) (count + 1) (lines + lineOf k) (values + (3 + N * channelsOf k + lineOf k)) (next + 14)
-    unfolding last more
+    pub nodes-more : N ≤ 128 → NodesSoFar s N (set nodes count (record { kind = k; channels = channelsOf k; cell = values })) (set bounds count (16 * fewest k + most k)) (count + 1) (lines + lineOf k) (values + (3 + N * channelsOf k + lineOf k)) (next + 14)
+    unfolding last more own
     nodes-more small = record {
       reads = more-reads;
       long = simp length-set (h .long);
-      least-long = simp length-set (h .least-long);
-      top-long = simp length-set (h .top-long);
+      bounds-long = simp length-set (h .bounds-long);
       few = omega (arith, here .1 .room);
-      bounds = more-bounds;
+      bound = more-bounds;
       lines-sum = rw nodes-filled (omega (arith, h .lines-sum, lines-snoc (take count nodes) (last values)));
       few-lines = here .1 .few-lines;
       values-sum = rw nodes-filled (omega (arith, h .values-sum, cells-snoc N (take count nodes) (last values)));
@@ -129,12 +127,12 @@ module _ (s : List ℕ) (N : ℕ) (nodes : List NodeRecord) (least top : List �
     }
 
   -- the part ends
-  pub nodes-ended : {a : Answer} (n : ℕ) → a ≡ answer n next → NodeStep s next count lines (node.Ends n) → NodesRead s N (record { refused = a; count = count; nodes = nodes; fewest = least; most = top; values = values; next = next })
+  pub nodes-ended : {a : Answer} (n : ℕ) → a ≡ answer n next → NodeStep s next count lines (node.Ends n) → NodesRead s N (record { refused = a; count = count; nodes = nodes; bounds = bounds; values = values; next = next })
   nodes-ended n e here = record {
     reads = λ i. stepped i ∙ here (noded N i (take count nodes)) counted (sym (h .lines-sum)) ∙ rw e;
     long = h .long;
     few = h .few;
-    bounds = h .bounds;
+    bound = h .bound;
     sum = h .values-sum;
     small = omega (arith, h .few-values, h .few, h .few-lines);
     next-is = h .next-is;

@@ -13,7 +13,7 @@ use Rattle.nodes.specs.declared.kind.Fields.{Fields}
 use Rattle.nodes.specs.declared.kind.Fields.the-variants as fields
 use Rattle.graph.specs.Record.{cut, foundOf, foundAt}
 use Rattle.graph.specs.Board.{Parsed, Progress, going, refused, linesOf, withNode, withWire, nodeFits, nodeBy, endBy, takeFound, stepOf}
-use Rattle.graph.specs.Parts.{startsWith, nodeBody, nodeRead, isWire, partEnd, HeadRead}
+use Rattle.graph.specs.BoardParts.{startsWith, nodeBody, nodeRead, isWire, partEnd, HeadRead}
 use Rattle.graph.specs.declared.record.Found.{Found}
 use Rattle.graph.specs.declared.record.Found.the-variants.{Head, Node, Wire, End, Refused}
 use Rattle.graph.specs.declared.board.Head as head-type

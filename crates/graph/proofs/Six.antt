@@ -1,10 +1,10 @@
 -- Check 6 against the arrays: the kind at an index, the counts of the table, and the walk over the nodes. Assumes nothing.
-use Prim.Native.Nat.{ℕ, zero, suc, _+_, min, _≤_, _<_}
+use Prim.Native.Nat.{ℕ, zero, suc, _+_, _/_, _%_, min, _≤_, _<_}
 use native.Mathlib.Nat.{le-refl}
 use native.Mathlib.Decide.{ℕ-discrete}
 use mathlib.Core.Path.{_≡_, refl, sym, ap, _∙_}
 use mathlib.Core.List.{List, [], _∷_, _++_}
-use mathlib.Core.Bool.{Bool, true, false, _&&_, _||_}
+use mathlib.Core.Bool.{Bool, true, false, true≢false, _&&_, _||_}
 use native.Mathlib.Numerals.{add-one}
 use native.Mathlib.Omega.{arith}
 use borrow.Author.Tests.{leb-true, leb-false, le-leb, lt-leb, ltb-true, ltb-false, le-ltb, eq-eqb, ne-eqb}
@@ -19,7 +19,8 @@ use Rattle.reading.specs.Table.{mem}
 use Rattle.nodes.proofs.Rows.{row-laws}
 use Rattle.graph.specs.Board.{Parsed, refused, whole, blank, memoryLength, readRecords}
 use Rattle.graph.specs.Answer.{answer}
-use Rattle.graph.specs.Parts.{Counts, AllFit}
+use Rattle.graph.specs.declared.answer.Answer.{Answer}
+use Rattle.graph.specs.BoardParts.{orRefused, Counts, AllFit}
 use Rattle.graph.specs.Sources.{addNew, addAll, distinct, distinctSources}
 use Rattle.graph.specs.Judge.{passAt, inputFits, checkSources, checkSix, thenSix, readBoard, answerBy, judgeOf}
 use Rattle.graph.proofs.Choice.{pick, neither}
@@ -90,34 +91,48 @@ module _ (nodes : List NodeRecord) (n : ℕ) (fits : n ≤ length nodes) where
     pub node-here : drop i (take n nodes) ≡ getD nodes i d ∷ drop (suc i) (take n nodes)
     node-here = drop-cons (take n nodes) i d inside ∙ ap (λ (r : NodeRecord). r ∷ drop (suc i) (take n nodes)) (getD-take n nodes i d within)
 
+  -- what the code asks of node i, read at an index that is i where there are so many
+  pub pass-asked : (i at : ℕ) (pass : Bool) → (i < n → at ≡ i) → pass ≡ ltb i n && isPass ((getD nodes at blank) .kind)
+      → (passAt (take n nodes) i ≡ pass) × (pass ≡ true → i < n)
+  pass-asked i at pass same e = go (ltb i n) refl
+    where
+      go : (t : Bool) → ltb i n ≡ t → (passAt (take n nodes) i ≡ pass) × (pass ≡ true → i < n)
+      go true f =
+          let below : i < n = ltb-true i n f in
+          let asked : pass ≡ isPass ((getD nodes at blank) .kind) = rw f at e in
+          (pass-here i below blank ∙ ap (λ (j : ℕ). isPass ((getD nodes j blank) .kind)) (sym (same below)) ∙ sym asked, λ _. below)
+      go false f =
+          let none : pass ≡ false = rw f at e in
+          (pass-out i (ltb-false i n f) ∙ sym none, λ t. absurd (true≢false (sym t ∙ none)))
+
 -- ---- the walk over the nodes
 
-module _ (p : Parsed) (least top counts : List ℕ) (h : Counts p least top counts) where
+module _ (p : Parsed) (bounds counts : List ℕ) (h : Counts p bounds counts) where
   -- the count of node i fits as its sources do
   fits : (i : ℕ) → i < length (p .nodes) → sourcesFit ((getD (p .nodes) i blank) .kind) (length (distinctSources (p .wires) i))
-      ≡ leb (getD least i 0) (getD counts i 0) && leb (getD counts i 0) (getD top i 0)
+      ≡ leb (getD bounds i 0 / 16) (getD counts i 0) && leb (getD counts i 0) (getD bounds i 0 % 16)
   fits i b =
-      sym (rw (h .counted i b, h .bounds i b .0, h .bounds i b .1) (fits-nine ((getD (p .nodes) i blank) .kind) (length (distinctSources (p .wires) i))))
+      sym (rw (h .counted i b, h .bound i b .0, h .bound i b .1) (fits-nine ((getD (p .nodes) i blank) .kind) (length (distinctSources (p .wires) i))))
 
-  fits-here : (i : ℕ) → i < length (p .nodes) → (getD least i 0 ≤ getD counts i 0) × (getD counts i 0 ≤ getD top i 0)
+  fits-here : (i : ℕ) → i < length (p .nodes) → (getD bounds i 0 / 16 ≤ getD counts i 0) × (getD counts i 0 ≤ getD bounds i 0 % 16)
       → sourcesFit ((getD (p .nodes) i blank) .kind) (length (distinctSources (p .wires) i)) ≡ true
   fits-here i b q = fits i b ∙ rw (le-leb _ _ (q .0), le-leb _ _ (q .1))
 
   -- the first i nodes fit, so what is left decides
-  pub check-next : (i : ℕ) → i < length (p .nodes) → (ltb (getD counts i 0) (getD least i 0) || ltb (getD top i 0) (getD counts i 0)) ≡ false
+  pub check-next : (i : ℕ) → i < length (p .nodes) → (ltb (getD counts i 0) (getD bounds i 0 / 16) || ltb (getD bounds i 0 % 16) (getD counts i 0)) ≡ false
       → checkSources p (i + 1) (drop (i + 1) (p .nodes)) ≡ checkSources p i (drop i (p .nodes))
   unfolding checkSources
   check-next i b e =
       let n = neither _ _ e in
       rw (add-one, drop-cons (p .nodes) i blank b, fits-here i b (ltb-false _ _ (n .0), ltb-false _ _ (n .1)))
 
-  pub check-wrong : (i : ℕ) → i < length (p .nodes) → (ltb (getD counts i 0) (getD least i 0) || ltb (getD top i 0) (getD counts i 0)) ≡ true
+  pub check-wrong : (i : ℕ) → i < length (p .nodes) → (ltb (getD counts i 0) (getD bounds i 0 / 16) || ltb (getD bounds i 0 % 16) (getD counts i 0)) ≡ true
       → checkSources p i (drop i (p .nodes)) ≡ refused 6 i
   unfolding checkSources
-  check-wrong i b e = rw (drop-cons (p .nodes) i blank b, fits i b ∙ go (ltb (getD counts i 0) (getD least i 0)) refl e)
+  check-wrong i b e = rw (drop-cons (p .nodes) i blank b, fits i b ∙ go (ltb (getD counts i 0) (getD bounds i 0 / 16)) refl e)
     where
-      go : (t : Bool) → ltb (getD counts i 0) (getD least i 0) ≡ t → (t || ltb (getD top i 0) (getD counts i 0)) ≡ true
-          → leb (getD least i 0) (getD counts i 0) && leb (getD counts i 0) (getD top i 0) ≡ false
+      go : (t : Bool) → ltb (getD counts i 0) (getD bounds i 0 / 16) ≡ t → (t || ltb (getD bounds i 0 % 16) (getD counts i 0)) ≡ true
+          → leb (getD bounds i 0 / 16) (getD counts i 0) && leb (getD counts i 0) (getD bounds i 0 % 16) ≡ false
       go true f _ = rw (lt-leb _ _ (ltb-true _ _ f))
       go false f q = rw (le-leb _ _ (ltb-false _ _ f), lt-leb _ _ (ltb-true _ _ q))
 
@@ -126,7 +141,7 @@ module _ (p : Parsed) (least top counts : List ℕ) (h : Counts p least top coun
   check-end = rw (drop-length (p .nodes))
 
   -- all fit
-  pub check-all : AllFit least top counts (length (p .nodes)) → checkSources p 0 (p .nodes) ≡ whole p
+  pub check-all : AllFit bounds counts (length (p .nodes)) → checkSources p 0 (p .nodes) ≡ whole p
   check-all all = go (length (p .nodes)) (le-refl _) ∙ check-end
     where
       go : (i : ℕ) → i ≤ length (p .nodes) → checkSources p 0 (p .nodes) ≡ checkSources p i (drop i (p .nodes))
@@ -136,15 +151,15 @@ module _ (p : Parsed) (least top counts : List ℕ) (h : Counts p least top coun
           go i (omega arith) ∙ sym (rw (add-one i) at (check-next i (omega arith) (rw (le-ltb _ _ (q .0), le-ltb _ _ (q .1)))))
 
 -- one node more that fits
-pub all-more : (least top counts : List ℕ) (i : ℕ) (wrong : Bool) → (wrong ≡ false → AllFit least top counts i)
-    → ((wrong || ltb (getD counts i 0) (getD least i 0)) || ltb (getD top i 0) (getD counts i 0)) ≡ false → AllFit least top counts (i + 1)
-all-more least top counts i wrong before e j b = go (ℕ-discrete j i)
+pub all-more : (bounds counts : List ℕ) (i : ℕ) (wrong : Bool) → (wrong ≡ false → AllFit bounds counts i)
+    → ((wrong || ltb (getD counts i 0) (getD bounds i 0 / 16)) || ltb (getD bounds i 0 % 16) (getD counts i 0)) ≡ false → AllFit bounds counts (i + 1)
+all-more bounds counts i wrong before e j b = go (ℕ-discrete j i)
   where
-    go : Dec (j ≡ i) → (getD least j 0 ≤ getD counts j 0) × (getD counts j 0 ≤ getD top j 0)
+    go : Dec (j ≡ i) → (getD bounds j 0 / 16 ≤ getD counts j 0) × (getD counts j 0 ≤ getD bounds j 0 % 16)
     go (yes q) =
-        let two = neither (wrong || ltb (getD counts i 0) (getD least i 0)) _ e in
+        let two = neither (wrong || ltb (getD counts i 0) (getD bounds i 0 / 16)) _ e in
         rw q (ltb-false _ _ (neither wrong _ (two .0) .1), ltb-false _ _ (two .1))
-    go (no other) = before (neither wrong _ (neither (wrong || ltb (getD counts i 0) (getD least i 0)) _ e .0) .0) j (omega arith)
+    go (no other) = before (neither wrong _ (neither (wrong || ltb (getD counts i 0) (getD bounds i 0 / 16)) _ e .0) .0) j (omega arith)
 
 -- ---- the three cases of check 6
 
@@ -180,6 +195,15 @@ module _ (s : List ℕ) where
   pub six-whole : (p : Parsed) → readRecords s ≡ whole p → readBoard s ≡ checkSix p
   unfolding readBoard
   six-whole p e = ap thenSix e
+
+  -- the answer that ended the records, and then check 6
+  pub six-ended : (a : Answer) (p : Parsed) → readRecords s ≡ orRefused a (whole p) → readBoard s ≡ orRefused a (checkSix p)
+  unfolding readBoard
+  six-ended a p e = ap thenSix e ∙ go (eqb (a .number) 0) refl
+    where
+      go : (t : Bool) → eqb (a .number) 0 ≡ t → thenSix (orRefused a (whole p)) ≡ orRefused a (checkSix p)
+      go true f = rw f
+      go false f = rw f
 
   pub six-refused : (n w : ℕ) → readRecords s ≡ refused n w → readBoard s ≡ refused n w
   unfolding readBoard

@@ -12,9 +12,9 @@ pub mod Late
 pub mod Walks
 pub mod Tail
 pub mod VisitCases
--- the same in arrays, as the code has it; of Parts, `wired` is also part of what the statements of rewiring say
+-- the same in arrays, as the code has it; of BoardParts, `wired` is also part of what the statements of rewiring say
 pub mod Wires
-pub mod Parts
+pub mod BoardParts
 pub mod Gather
 pub mod Read
 pub mod Formed

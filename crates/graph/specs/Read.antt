@@ -5,7 +5,7 @@ use lib.ListN.{length, take}
 use Rattle.graph.specs.Board.{Parsed, Progress, whole, cellsOf}
 use Rattle.graph.specs.Sources.{Tabled}
 use Rattle.graph.specs.Wires.{Within, wiresOf}
-use Rattle.graph.specs.Parts.{orRefused}
+use Rattle.graph.specs.BoardParts.{orRefused}
 use Rattle.graph.specs.declared.board.Board.{Board}
 
 -- what the arrays say, as far as they are filled

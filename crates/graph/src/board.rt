@@ -7,7 +7,7 @@ ghost use lib.ListN.{length};
 ghost use Rattle.leaves.specs.Bytes.{u16At};
 ghost use Rattle.graph.specs.Record.{foundAt};
 ghost use Rattle.graph.specs.Board.{Parsed, going, refused, whole, headed, placed, nodeFits, wireFits, headBy, endBy, stepOf};
-ghost use Rattle.graph.specs.Parts.{orRefused, startsWith, nodeRead, isWire, partEnd, HeadRead, NodesRead, WiresRead};
+ghost use Rattle.graph.specs.BoardParts.{orRefused, startsWith, nodeRead, isWire, partEnd, HeadRead, NodesRead, WiresRead};
 ghost use Rattle.graph.specs.Sources.{Tabled};
 ghost use Rattle.graph.specs.Wires.{wiresOf};
 ghost use Rattle.graph.specs.Read.{Read};
@@ -19,14 +19,14 @@ use crate::sources::second;
 use leaves::bytes::u16_at;
 use leaves::bytes::u32_at;
 use leaves::bytes::wide;
+use nodes::cell::SAMPLES;
 use nodes::kind::Fields;
 use nodes::kind::NodeKind;
 use nodes::kind::NodeRecord;
+use nodes::kind::bounds_of;
 use nodes::kind::channels_of;
-use nodes::kind::fewest;
 use nodes::kind::is_destination;
 use nodes::kind::line_of;
-use nodes::kind::most;
 use nodes::kind::rule_of;
 
 // The head: block size and input node.
@@ -36,14 +36,13 @@ pub struct Head {
     pub input: usize,
 }
 
-// The nodes: how many, each as read, the fewest and the most sources that each takes, the values of
-// their cells together, and the next offset.
+// The nodes: how many, each as read, the bounds of its sources' number, the values of their cells
+// together, and the next offset.
 pub struct Nodes {
     pub refused: Answer,
     pub count: usize,
     pub nodes: [NodeRecord; 64],
-    pub fewest: [u8; 64],
-    pub most: [u8; 64],
+    pub bounds: [u8; 64],
     pub values: usize,
     pub next: usize,
 }
@@ -55,7 +54,7 @@ pub struct Wires {
     pub next: usize,
 }
 
-// The board as read. Where it is refused by checks 1 to 5 there are no nodes and no wires. `values` are
+// The board as read. Where its head or a node is refused there are no nodes and no wires. `values` are
 // those of all cells; counts, lists and seconds are the table of sources.
 pub struct Board {
     pub refused: Answer,
@@ -217,8 +216,7 @@ pub fn read_nodes(s: &[u8], size: usize) -> Nodes
     ensures { λ r. ⌜ NodesRead (now (s .entry)) size r ⌝ }
 {
     let mut nodes = [blank(); 64];
-    let mut least = [0u8; 64];
-    let mut top = [0u8; 64];
+    let mut bounds = [0u8; 64];
     let mut count = 0;
     let mut lines = 0;
     let mut values = 0;
@@ -233,11 +231,10 @@ pub fn read_nodes(s: &[u8], size: usize) -> Nodes
                     channels,
                     cell: values as u32,
                 };
-                least[count] = fewest(kind);
-                top[count] = most(kind);
+                bounds[count] = bounds_of(kind);
                 count += 1;
                 lines += line;
-                values += 3 + size * wide(channels) + line;
+                values += SAMPLES + size * wide(channels) + line;
                 next += 14;
             }
             NodeRead::Ends(number) => {
@@ -246,8 +243,7 @@ pub fn read_nodes(s: &[u8], size: usize) -> Nodes
                     refused,
                     count,
                     nodes,
-                    fewest: least,
-                    most: top,
+                    bounds,
                     values,
                     next,
                 };

@@ -1,16 +1,16 @@
 // The board judge: check 6, with the table of sources, and the board that all calls work on.
 ghost use mathlib.Core.Path.{_≡_};
-ghost use mathlib.Core.Bool.{true};
+ghost use mathlib.Core.Bool.{true, _&&_};
 ghost use Prim.Native.Nat.{_≤_, _<_};
-ghost use lib.ListN.{length, take};
-ghost use Rattle.graph.specs.Board.{Parsed, going, whole, headed, stepOf};
+ghost use lib.Dec.{ltb};
+ghost use lib.ListN.{length};
+ghost use Rattle.nodes.specs.Kind.{isPass};
+ghost use Rattle.graph.specs.Board.{Parsed, whole};
 ghost use Rattle.graph.specs.Judge.{passAt, checkSources, checkSix, readBoard, judgeOf};
-ghost use Rattle.graph.specs.Parts.{orRefused, HeadRead, NodesRead, Counts, AllFit};
+ghost use Rattle.graph.specs.BoardParts.{orRefused, Counts, AllFit};
 ghost use Rattle.graph.specs.Read.{Read};
 use crate::answer::Answer;
 use crate::board::Board;
-use crate::board::Head;
-use crate::board::Nodes;
 use crate::board::read_end;
 use crate::board::read_head;
 use crate::board::read_nodes;
@@ -21,28 +21,28 @@ use nodes::kind::is_pass;
 
 // Whether each of the first `count` nodes has as many sources as its type takes. All are looked at, so
 // that several go at once.
-fn all_fit(least: &[u8; 64], top: &[u8; 64], counts: &[u8; 64], count: usize) -> bool
+fn all_fit(bounds: &[u8; 64], counts: &[u8; 64], count: usize) -> bool
     requires { ⌜ count ≤ 64 ⌝ }
-    ensures { λ r. ⌜ (r ≡ true → AllFit (now (least .entry)) (now (top .entry)) (now (counts .entry)) count) ⌝ }
+    ensures { λ r. ⌜ (r ≡ true → AllFit (now (bounds .entry)) (now (counts .entry)) count) ⌝ }
 {
     let mut wrong = false;
     let mut i = 0;
     while i < count {
-        wrong = wrong | (counts[i] < least[i]) | (top[i] < counts[i]);
+        wrong = wrong | (counts[i] < bounds[i] / 16) | (bounds[i] % 16 < counts[i]);
         i += 1;
     }
     !wrong
 }
 
 // The lowest node with a wrong number of sources is refused.
-fn sources_judged(least: &[u8; 64], top: &[u8; 64], counts: &[u8; 64], count: usize) -> Answer
+fn sources_judged(bounds: &[u8; 64], counts: &[u8; 64], count: usize) -> Answer
     requires { ⌜ count ≤ 64 ⌝ }
-    ensures { λ r. ⌜ ((p : Parsed) → length (p .nodes) ≡ count → Counts p (now (least .entry)) (now (top .entry)) (now (counts .entry))
+    ensures { λ r. ⌜ ((p : Parsed) → length (p .nodes) ≡ count → Counts p (now (bounds .entry)) (now (counts .entry))
         → checkSources p 0 (p .nodes) ≡ orRefused r (whole p)) ⌝ }
 {
     let mut i = 0;
     while i < count {
-        if (counts[i] < least[i]) | (top[i] < counts[i]) {
+        if (counts[i] < bounds[i] / 16) | (bounds[i] % 16 < counts[i]) {
             return Answer::new(6, i);
         }
         i += 1;
@@ -50,20 +50,23 @@ fn sources_judged(least: &[u8; 64], top: &[u8; 64], counts: &[u8; 64], count: us
     Answer::new(0, 0)
 }
 
-// Check 6: there is a node 0, then the input node, which is a pass without wires in, then the sources of
-// each node.
+// The refusal that ended the records, or check 6: there is a node 0, then the input node, which is a
+// pass without wires in, then the sources of each node.
 fn judged(
+    ended: Answer,
     pass: bool,
     input: usize,
-    least: &[u8; 64],
-    top: &[u8; 64],
+    bounds: &[u8; 64],
     counts: &[u8; 64],
     count: usize,
 ) -> Answer
     requires { ⌜ (count ≤ 64) × (input < 65536) × (pass ≡ true → input < count) ⌝ }
     ensures { λ r. ⌜ ((p : Parsed) → length (p .nodes) ≡ count → p .input ≡ input → passAt (p .nodes) input ≡ pass
-        → Counts p (now (least .entry)) (now (top .entry)) (now (counts .entry)) → checkSix p ≡ orRefused r (whole p)) ⌝ }
+        → Counts p (now (bounds .entry)) (now (counts .entry)) → orRefused ended (checkSix p) ≡ orRefused r (whole p)) ⌝ }
 {
+    if ended.number != 0 {
+        return ended;
+    }
     if count == 0 {
         return Answer::new(6, 0);
     }
@@ -73,32 +76,46 @@ fn judged(
     if counts[input] != 0 {
         return Answer::new(6, input);
     }
-    if all_fit(least, top, counts, count) {
+    if all_fit(bounds, counts, count) {
         Answer::new(0, 0)
     } else {
-        sources_judged(least, top, counts, count)
+        sources_judged(bounds, counts, count)
     }
 }
 
-// Whether node i is one of the first `count` nodes, and a pass.
-fn pass_at(nodes: [NodeRecord; 64], count: usize, i: usize) -> bool
-    requires { ⌜ (count ≤ 64) × (length nodes ≡ 64) ⌝ }
-    ensures { λ r. ⌜ (r ≡ passAt (take count nodes) i) × (r ≡ true → i < count) ⌝ }
+// The index i, or 0 where there are not so many nodes.
+fn index_of(i: usize, count: usize) -> usize
+    requires { ⌜ count ≤ 64 ⌝ }
+    ensures { λ r. ⌜ (r < 64) × (i < count → r ≡ i) ⌝ }
 {
-    if count <= i {
-        return false;
-    }
-    let node = nodes[i];
-    let kind = node.kind;
-    is_pass(kind)
+    if i < count { i } else { 0 }
 }
 
-// The wires, the end record and check 6, behind the head and the nodes.
-fn read_rest(s: &[u8], head: Head, read: Nodes) -> Board
-    requires { ⌜ HeadRead (stepOf (now s) (going 0 0 (headed 0 0))) head × (head .refused .number ≡ 0) ⌝ }
-    requires { ⌜ NodesRead (now s) (head .size) read × (read .refused .number ≡ 0) ⌝ }
+// Whether node i, which this is if it is one of the nodes, is one of them and a pass.
+fn pass_at(node: NodeRecord, i: usize, count: usize) -> bool
+    ensures { λ r. ⌜ r ≡ ltb i count && isPass (node .kind) ⌝ }
+{
+    let kind = node.kind;
+    (i < count) & is_pass(kind)
+}
+
+// The board that the bytes hold, or the first refusal: checks 1 to 6. One function puts the parts
+// together, since each that hands a board on copies it.
+// Ruled out, and tried by must-fail edits: one that refuses every board (refuses_all), one that takes
+// the second distinct source for the second wire's (second_distinct).
+pub fn read_board(s: &[u8]) -> Board
     ensures { λ r. ⌜ Read (readBoard (now (s .entry))) r ⌝ }
 {
+    let head = read_head(s);
+    let headless = head.refused;
+    if headless.number != 0 {
+        return refusal(headless);
+    }
+    let read = read_nodes(s, head.size);
+    let unread = read.refused;
+    if unread.number != 0 {
+        return refusal(unread);
+    }
     let mut sources = [0u8; 128];
     let mut targets = [0u8; 128];
     let mut counts = [0u8; 64];
@@ -115,15 +132,12 @@ fn read_rest(s: &[u8], head: Head, read: Nodes) -> Board
         &mut seconds,
     );
     let ended = read_end(s, wired);
-    if ended.number != 0 {
-        return refusal(ended);
-    }
+    let at = index_of(head.input, read.count);
+    let node = read.nodes[at];
+    let pass = pass_at(node, head.input, read.count);
     let nodes = read.nodes;
-    let least = read.fewest;
-    let top = read.most;
-    let pass = pass_at(nodes, read.count, head.input);
     Board {
-        refused: judged(pass, head.input, &least, &top, &counts, read.count),
+        refused: judged(ended, pass, head.input, &read.bounds, &counts, read.count),
         size: head.size,
         input: head.input,
         count: read.count,
@@ -136,25 +150,6 @@ fn read_rest(s: &[u8], head: Head, read: Nodes) -> Board
         lists,
         seconds,
     }
-}
-
-// The board that the bytes hold, or the first refusal: checks 1 to 6.
-// Ruled out, and tried by must-fail edits: one that refuses every board (refuses_all), one that takes
-// the second distinct source for the second wire's (second_distinct).
-pub fn read_board(s: &[u8]) -> Board
-    ensures { λ r. ⌜ Read (readBoard (now (s .entry))) r ⌝ }
-{
-    let head = read_head(s);
-    let headless = head.refused;
-    if headless.number != 0 {
-        return refusal(headless);
-    }
-    let read = read_nodes(s, head.size);
-    let unread = read.refused;
-    if unread.number != 0 {
-        return refusal(unread);
-    }
-    read_rest(s, head, read)
 }
 
 // The board judge: a refusal, or 0 and the memory's length.

@@ -24,7 +24,10 @@ fn bit(b: bool) -> u32 {
 
 fn sine(phase: f32) -> Line {
     if within(phase, 1.0) {
-        Line(to_bits(leaves::sine::sine(phase)), 0)
+        Line(
+            to_bits(leaves::sine::sine(leaves::sine::phase_units(phase))),
+            0,
+        )
     } else {
         OUTSIDE
     }

@@ -3,6 +3,7 @@ pub mod Arms
 pub mod Rows
 pub mod Iterated
 pub mod Filled
+pub mod Splits
 pub mod Cells
 pub mod Totals
 pub mod Plain
@@ -12,6 +13,7 @@ pub mod Brought
 pub mod Kept
 pub mod Fresh
 pub mod Carried
+pub mod Phases
 pub mod Histories
 pub mod HistoryFrames
 pub mod HistoryRules

@@ -1,14 +1,14 @@
 -- What holds of every row of the table of types, one line a type. Assumes nothing.
 use mathlib.Core.Path.{_≡_, refl}
 use mathlib.Core.Bool.{true, false, false≢true}
-use Prim.Native.Nat.{ℕ, _≤_, _<_}
+use Prim.Native.Nat.{ℕ, _+_, _*_, _/_, _%_, _≤_, _<_}
 use native.Mathlib.Omega.{arith}
 use denote.Floats.{passes}
 use lib.Dec.{T, eqb}
 use lib.Ieee.{Float, binary32, ofBits}
 use Rattle.leaves.specs.Floors.{f44100, finiteF, within}
 use Rattle.nodes.specs.Row.{Carry, noCarry, lastOutput, runningPhase, TypeRow, rowOf}
-use Rattle.nodes.specs.Kind.{lineLength}
+use Rattle.nodes.specs.Kind.{lineLength, fewest, most}
 use Rattle.nodes.specs.Cell.{takesIn, valueIn, numberIn}
 use Rattle.nodes.specs.declared.kind.NodeKind.{NodeKind}
 use Rattle.nodes.specs.declared.kind.NodeKind.the-variants.{Pass, Sum, Destination, Balance, Mul, Add, Delay, AllPass, OnePole, Sine}
@@ -40,3 +40,7 @@ row-laws (Delay n) = record { few = omega arith; wired = λ h. omega arith; stea
 row-laws (AllPass n f) = record { few = omega arith; wired = λ h. omega arith; steady = λ w e. tt; mul = no-mul }
 row-laws (OnePole f) = record { few = omega arith; wired = λ h. omega arith; steady = λ w e. tt; mul = no-mul }
 row-laws (Sine f) = record { few = omega arith; wired = λ h. h; steady = λ w e. passes _ e; mul = no-mul }
+
+-- the bounds of a type's sources, off the two digits of one number
+pub digits : (k : NodeKind) → ((16 * fewest k + most k) / 16 ≡ fewest k) × ((16 * fewest k + most k) % 16 ≡ most k)
+digits k = let few = row-laws k .few in (omega (arith, few), omega (arith, few))

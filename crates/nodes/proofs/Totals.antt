@@ -9,7 +9,7 @@ use lib.Seq.{take-suc, take-length}
 use lib.Ieee.{Float, binary32, add}
 use Rattle.leaves.specs.Floats.{floatAt}
 use Rattle.nodes.specs.Rule.{addTo, total}
-use Rattle.nodes.specs.Block.{sample, fill, quiet, added, samplesAt, totalAt}
+use Rattle.nodes.specs.Block.{sample, fill, quiet, begun, added, samplesAt, totalAt}
 use Rattle.nodes.proofs.Filled.{length-fill, fill-at, fill-over, fill-same}
 
 addTo-more : (t : Float) (xs : List Float) (x : Float) → addTo t (xs ++ (x ∷ [])) ≡ add binary32 (addTo t xs) x
@@ -24,20 +24,20 @@ module _ (ws starts list : List ℕ) (k : ℕ) (h : k < length list) where
   unfolding total
   totalAt-more i = sym (ap total (samplesAt-more i) ∙ addTo-more _ (samplesAt ws starts (take k list) i) _)
 
--- the sum over x, where x₀ is x cleared: of no source, of one more, and of all
-module _ (ws starts list : List ℕ) (N : ℕ) (x₀ x : List Float) (long : N ≤ length x) (e : x₀ ≡ fill quiet N x) where
+-- the sum over x, where x₀ is x filled for a start: of one more source, and of all
+module _ (ws starts list : List ℕ) (N : ℕ) (start : ℕ → Float) (x₀ x : List Float) (long : N ≤ length x) (e : x₀ ≡ fill start N x) where
   abbrev upto : ℕ → List Float
   upto k = fill (totalAt ws starts (take k list)) N x₀
 
-  pub sum-none : x₀ ≡ upto 0
-  unfolding total
-  sum-none = e ∙ sym (fill-over quiet quiet N x long) ∙ ap (fill quiet N) (sym e)
+  -- k sources that are the start
+  sum-start : (k : ℕ) → ((i : ℕ) → start i ≡ totalAt ws starts (take k list) i) → x₀ ≡ upto k
+  sum-start k same = e ∙ sym (fill-over start start N x long) ∙ ap (fill start N) (sym e) ∙ fill-same start _ N x₀ (λ i h. same i)
 
   -- j is the next source
   pub sum-more : (k j : ℕ) (y z : List Float) → k < length list → j ≡ getD list k 0 → y ≡ upto k → z ≡ fill (added ws (getD starts j 0) y) N y → z ≡ upto (k + 1)
   sum-more k j y z h source before after =
       let next = added ws (getD starts (getD list k 0) 0) y in
-      let long₀ : N ≤ length x₀ = omega (arith, ap length e, length-fill quiet N x) in
+      let long₀ : N ≤ length x₀ = omega (arith, ap length e, length-fill start N x) in
       after
       ∙ ap (λ (m : ℕ). fill (added ws (getD starts m 0) y) N y) source
       ∙ ap (fill next N) before
@@ -52,4 +52,17 @@ module _ (ws starts list : List ℕ) (N : ℕ) (x₀ x : List Float) (long : N �
       g
       ∙ ap (λ (l : List ℕ). fill (totalAt ws starts l) N x₀) (ap (λ (j : ℕ). take j list) f ∙ take-length list)
       ∙ ap (fill (totalAt ws starts list) N) e
-      ∙ fill-over quiet (totalAt ws starts list) N x long
+      ∙ fill-over start (totalAt ws starts list) N x long
+
+-- no source: x₀ is x cleared
+pub sum-none : (ws starts list : List ℕ) (N : ℕ) (x₀ x : List Float) → N ≤ length x → x₀ ≡ fill quiet N x → 0 ≡ length list → x₀ ≡ fill (totalAt ws starts list) N x
+unfolding total
+sum-none ws starts list N x₀ x long e none = sum-all ws starts list N quiet x₀ x long e 0 x₀ none (sum-start ws starts list N quiet x₀ x long e 0 (λ i. refl))
+
+-- one source, j
+pub sum-one : (ws starts list : List ℕ) (N j : ℕ) (x₀ x : List Float) → N ≤ length x → 0 < length list → j ≡ getD list 0 0 → x₀ ≡ fill (begun ws (getD starts j 0)) N x
+    → x₀ ≡ fill (totalAt ws starts (take 1 list)) N x₀
+unfolding total
+sum-one ws starts list N j x₀ x long some source e =
+    sum-start ws starts list N (begun ws (getD starts j 0)) x₀ x long e 1
+    (λ i. ap (λ (m : ℕ). begun ws (getD starts m 0) i) source ∙ totalAt-more ws starts list 0 some i)

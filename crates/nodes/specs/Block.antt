@@ -1,12 +1,13 @@
 -- Blocks as the loops hold them: arrays of 128 floats, of which the first N count. Definitions only.
 use Prim.Native.Nat.{ℕ, _+_, _*_, _≤_, _<_}
+use mathlib.Core.Path.{_≡_}
 use mathlib.Core.Bool.{Bool, cond}
 use mathlib.Core.List.{List, [], _∷_, map}
 use lib.ListN.{length, getD, set}
 use lib.Ieee.{Float, nan, binary32, toBits, add}
 use Rattle.leaves.specs.Floats.{floatAt}
-use Rattle.leaves.specs.Floors.{zeroF}
-use Rattle.leaves.specs.Position.{positionOf}
+use Rattle.leaves.specs.Floors.{zeroF, floorOf}
+use Rattle.leaves.specs.Position.{positionOf, restOf}
 use Rattle.nodes.specs.Iter.{iter}
 use Rattle.nodes.specs.Rule.{Brought, total}
 
@@ -18,19 +19,26 @@ sample x i = getD x i nan
 unfoldable pub fill : (ℕ → Float) → ℕ → List Float → List Float
 fill f n x = iter (λ i y. set y i (f i)) n x
 
--- what is filled in: the samples from value `at` on, zeros, each sample with the one from value `at` on added, and where the samples m say
--- that an all-pass of n reads its lines
+-- what is filled in: the samples from value `at` on, zeros, those samples added to 0, each sample with the one from value `at` on added, and
+-- where the samples m say that an all-pass of n reads its lines
 abbrev pub fetched : List ℕ → ℕ → ℕ → Float
 fetched ws at i = floatAt ws (at + i)
 
 abbrev pub quiet : ℕ → Float
 quiet i = zeroF
 
+abbrev pub begun : List ℕ → ℕ → ℕ → Float
+begun ws at i = add binary32 zeroF (floatAt ws (at + i))
+
 abbrev pub added : List ℕ → ℕ → List Float → ℕ → Float
 added ws at x i = add binary32 (sample x i) (floatAt ws (at + i))
 
 abbrev pub positioned : List Float → ℕ → ℕ → Float
 positioned m n i = positionOf (sample m i) n
+
+-- a position's floor, and what is above it
+abbrev pub Split : Float → ℕ → Float → Type 0
+Split pos floor rest = (floor ≡ floorOf pos) × (rest ≡ restOf pos)
 
 -- an array filled with the samples from value `at` on, where they are asked for
 unfoldable pub fetchedIf : Bool → List ℕ → ℕ → ℕ → List Float → List Float

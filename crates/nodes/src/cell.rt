@@ -1,6 +1,7 @@
 // A node's cell in the memory: the number that it starts with, and its judged values.
 ghost use mathlib.Core.Path.{_≡_};
 ghost use Prim.Native.Nat.{_+_, _*_, _≤_};
+ghost use mathlib.Core.Bool.{_&&_};
 ghost use lib.ListN.{length, drop};
 ghost use Rattle.leaves.specs.Words.{words};
 ghost use Rattle.nodes.specs.Kind.{samplesFrom};
@@ -57,36 +58,20 @@ pub fn value_fits(kind: NodeKind, x: f32) -> bool
     }
 }
 
-// The judged values, as patterns.
-
-pub fn number_fits(kind: NodeKind, w: u32) -> bool
-    ensures { λ r. ⌜ r ≡ numberFits kind w ⌝ }
+// Whether the judged values, given as patterns, are as they must be. A one-pole's last output may be
+// any float, a sine's phase is from 0 to 1.
+fn values_fit(kind: NodeKind, number: u32, carry: u32, place: u32) -> bool
+    ensures { λ r. ⌜ r ≡ numberFits kind number && carryFits kind carry && placeFits kind place ⌝ }
 {
     match kind {
-        NodeKind::Mul(_) | NodeKind::Add(_) | NodeKind::AllPass(_, _) => finite_bits(w),
-        NodeKind::Sine(_) => is_frequency(of_bits(w)),
-        _ => w == 0,
-    }
-}
-
-// A one-pole's last output may be any float, a sine's phase is from 0 to 1.
-pub fn carry_fits(kind: NodeKind, w: u32) -> bool
-    ensures { λ r. ⌜ r ≡ carryFits kind w ⌝ }
-{
-    match kind {
-        NodeKind::OnePole(_) => true,
-        NodeKind::Sine(_) => within(of_bits(w), 1.0),
-        _ => w == 0,
-    }
-}
-
-pub fn place_fits(kind: NodeKind, w: u32) -> bool
-    ensures { λ r. ⌜ r ≡ placeFits kind w ⌝ }
-{
-    match kind {
-        NodeKind::Delay(n) => w < n,
-        NodeKind::AllPass(n, _) => w < n,
-        _ => w == 0,
+        NodeKind::Mul(_) | NodeKind::Add(_) => finite_bits(number) & (carry == 0) & (place == 0),
+        NodeKind::Delay(n) => (number == 0) & (carry == 0) & (place < n),
+        NodeKind::AllPass(n, _) => finite_bits(number) & (carry == 0) & (place < n),
+        NodeKind::OnePole(_) => (number == 0) & (place == 0),
+        NodeKind::Sine(_) => {
+            is_frequency(of_bits(number)) & within(of_bits(carry), 1.0) & (place == 0)
+        }
+        _ => (number == 0) & (carry == 0) & (place == 0),
     }
 }
 
@@ -95,8 +80,8 @@ pub fn cell_fits(memory: &[u8], at: usize, kind: NodeKind) -> bool
     requires { ⌜ 4 * (at + samplesFrom) ≤ length (now memory) ⌝ }
     ensures { λ r. ⌜ r ≡ cellFits kind (drop at (words (now (memory .entry)))) ⌝ }
 {
-    let number = number_fits(kind, word_at(memory, at + NUMBER));
-    let carry = carry_fits(kind, word_at(memory, at + CARRY));
-    let place = place_fits(kind, word_at(memory, at + PLACE));
-    (number & carry) & place
+    let number = word_at(memory, at + NUMBER);
+    let carry = word_at(memory, at + CARRY);
+    let place = word_at(memory, at + PLACE);
+    values_fit(kind, number, carry, place)
 }

@@ -1,6 +1,6 @@
 // The ten node types, and what a node record's three fields may say.
 ghost use mathlib.Core.Path.{_≡_};
-ghost use Prim.Native.Nat.{_≤_, _<_};
+ghost use Prim.Native.Nat.{_+_, _*_, _≤_, _<_};
 ghost use Rattle.nodes.specs.Row.{inRange, frequency};
 ghost use Rattle.nodes.specs.Kind.{lengthFits, kept, ruleOf, lineOf, channelsOf, cellSize, isDestination, isPass, fewest, most, sourcesFit};
 use crate::cell::SAMPLES;
@@ -132,26 +132,18 @@ pub fn is_pass(k: NodeKind) -> bool
     }
 }
 
-// The fewest distinct sources that a type takes.
-pub fn fewest(k: NodeKind) -> u8
-    ensures { λ r. ⌜ r ≡ fewest k ⌝ }
+// The fewest and the most distinct sources that a type takes, as the two digits of a byte: a board's
+// nodes are tested off one array, and one match a node fills it.
+pub fn bounds_of(k: NodeKind) -> u8
+    ensures { λ r. ⌜ r ≡ 16 * fewest k + most k ⌝ }
 {
     match k {
-        NodeKind::Balance => 2,
-        NodeKind::Pass | NodeKind::Sum | NodeKind::Destination | NodeKind::Sine(_) => 0,
-        _ => 1,
-    }
-}
-
-// The most distinct sources that a type takes.
-pub fn most(k: NodeKind) -> u8
-    ensures { λ r. ⌜ r ≡ most k ⌝ }
-{
-    match k {
-        NodeKind::Sum | NodeKind::Destination => 8,
-        NodeKind::Pass | NodeKind::Delay(_) | NodeKind::OnePole(_) => 1,
-        NodeKind::Sine(_) => 0,
-        _ => 2,
+        NodeKind::Pass => 0x01,
+        NodeKind::Sum | NodeKind::Destination => 0x08,
+        NodeKind::Balance => 0x22,
+        NodeKind::Delay(_) | NodeKind::OnePole(_) => 0x11,
+        NodeKind::Sine(_) => 0x00,
+        _ => 0x12,
     }
 }
 
@@ -159,5 +151,6 @@ pub fn most(k: NodeKind) -> u8
 pub fn sources_fit(k: NodeKind, n: usize) -> bool
     ensures { λ r. ⌜ r ≡ sourcesFit k n ⌝ }
 {
-    (wide(fewest(k)) <= n) & (n <= wide(most(k)))
+    let bounds = wide(bounds_of(k));
+    (bounds / 16 <= n) & (n <= bounds % 16)
 }

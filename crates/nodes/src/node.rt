@@ -77,17 +77,19 @@ fn bring(
 }
 
 // The block of a node over its cell: x and m are what its wires bring, `count` its distinct sources.
+// A modulated all-pass uses m up.
 fn run_cell(
     cell: &mut [u8],
     kind: NodeKind,
     size: usize,
     count: usize,
     x: &[f32; 128],
-    m: &[f32; 128],
+    m: &mut [f32; 128],
 )
-    requires { ⌜ CellReady (now cell) kind size count ⌝ }
-    ensures { λ _. ⌜ ((bs : ℕ → Brought) → Supplies kind count size (now (x .entry)) (now (m .entry)) bs
+    requires { ⌜ CellReady (now cell) kind size count × (length (now m) ≡ 128) ⌝ }
+    ensures values { λ _. ⌜ ((bs : ℕ → Brought) → Supplies kind count size (now (x .entry)) (now (m .entry)) bs
         → words (now (cell .exit)) ≡ runValues kind size bs (words (now (cell .entry)))) ⌝ }
+    ensures room { λ _. ⌜ length (now (m .exit)) ≡ 128 ⌝ }
 {
     match kind {
         NodeKind::Pass => {

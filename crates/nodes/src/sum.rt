@@ -3,7 +3,7 @@ ghost use mathlib.Core.Path.{_≡_};
 ghost use Prim.Native.Nat.{_+_, _*_, _≤_};
 ghost use lib.ListN.{length};
 ghost use Rattle.leaves.specs.Words.{words};
-ghost use Rattle.nodes.specs.Block.{fill, quiet, added, totalAt, InMemory};
+ghost use Rattle.nodes.specs.Block.{fill, quiet, begun, added, totalAt, InMemory};
 use leaves::bytes::wide;
 use leaves::float::load;
 
@@ -14,6 +14,18 @@ fn clear(x: &mut [f32; 128], size: usize)
     let mut i = 0;
     while i < size {
         x[i] = 0.0;
+        i += 1;
+    }
+}
+
+// The samples that stand from value `at` on, each added to 0: the first source needs no clearing.
+fn begin(memory: &[u8], at: usize, size: usize, x: &mut [f32; 128])
+    requires { ⌜ (size ≤ 128) × (4 * (at + size) ≤ length (now memory)) ⌝ }
+    ensures { λ _. ⌜ now (x .exit) ≡ fill (begun (words (now (memory .entry))) at) size (now (x .entry)) ⌝ }
+{
+    let mut i = 0;
+    while i < size {
+        x[i] = 0.0 + load(memory, at + i);
         i += 1;
     }
 }
@@ -36,8 +48,13 @@ pub fn total(memory: &[u8], list: &[u8], starts: &[usize; 64], size: usize, x: &
     requires { ⌜ InMemory (now list) (now starts) size (length (now memory)) ⌝ }
     ensures { λ _. ⌜ now (x .exit) ≡ fill (totalAt (words (now (memory .entry))) (now (starts .entry)) (now (list .entry))) size (now (x .entry)) ⌝ }
 {
-    clear(x, size);
-    let mut k = 0;
+    if list.len() == 0 {
+        clear(x, size);
+        return;
+    }
+    let first = wide(list[0]);
+    begin(memory, starts[first], size, x);
+    let mut k = 1;
     while k < list.len() {
         let source = wide(list[k]);
         accumulate(memory, starts[source], size, x);

@@ -21,7 +21,7 @@ use Rattle.graph.specs.Board.{Parsed, Progress, going, refused, whole, memoryLe
 use Rattle.graph.specs.Judge.{readBoard}
 use Rattle.graph.specs.declared.answer.Answer.{Answer}
 use Rattle.context.specs.Memory.{passed, nodeAt, kindAt}
-use Rattle.context.specs.Calls.{andThen, checkMemory, changeBy, checkNumber, checkMessage, setNumber, messageOf}
+use Rattle.context.specs.Calls.{andThen, checkMemory, changeBy, checkNumber, checkMessage, putNumber, messageOf}
 use Rattle.context.specs.Fine.{Fine}
 use Rattle.graph.proofs.Ending.{Ended, board-ends}
 use Rattle.context.proofs.FineBoard.{fine-board}
@@ -57,20 +57,20 @@ module _ (s : List ℕ) (p : Parsed) (reads : readBoard s ≡ whole p) (fine : F
     all : Whole p ws
     all = ap length (sym (r .is)) ∙ omega (arith, length-words m, r .size)
 
-    sent : messageOf s m k x ≡ (passed, unwords (setNumber p k x ws))
+    sent : messageOf s m k x ≡ (passed, unwords (putNumber p k x ws))
     unfolding messageOf
     sent =
         let is = mul-takes (kindAt p k) (mul .1) in
         let takes : checkNumber p k x ≡ passed =
         λ i. cond (lt-ltb k (length (p .nodes)) (mul .0) i && is .0 i) (cond (is .1 x number i) passed (answer 12 k)) (answer 11 k) in
         let checks : checkMessage p m k x ≡ passed = checked m ws r (checkNumber p k x) ∙ takes in
-        ap (changeBy m (λ q. checkMessage q m k x) (λ q. setNumber q k x (words m))) reads
-        ∙ (λ i. cond (eqb (checks i .number) 0) (passed, unwords (setNumber p k x (r .is i))) (checks i, m))
+        ap (changeBy m (λ q. checkMessage q m k x) (λ q. putNumber q k x (words m))) reads
+        ∙ (λ i. cond (eqb (checks i .number) 0) (passed, unwords (putNumber p k x (r .is i))) (checks i, m))
 
-    ready : Ready (unwords (setNumber p k x ws)) (setNumber p k x ws)
+    ready : Ready (unwords (putNumber p k x ws)) (putNumber p k x ws)
     ready = record {
-      is = words-unwords (setNumber p k x ws);
-      size = length-unwords (setNumber p k x ws) ∙ omega (arith, set-long p fine ws all k x (mul .0), all);
+      is = words-unwords (putNumber p k x ws);
+      size = length-unwords (putNumber p k x ws) ∙ omega (arith, set-long p fine ws all k x (mul .0), all);
       judged = set-judged p fine ws all k x (mul .0) fit (mul-takes (kindAt p k) (mul .1) .1 x number) (r .judged);
     }
 
@@ -107,9 +107,9 @@ module _ (s : List ℕ) (p : Parsed) (reads : readBoard s ≡ whole p) (fine : F
 
     four : IsFour s m mix
     four =
-        let ws₁ = setNumber p 41 mix (words m) in
-        let ws₂ = setNumber p 47 mix ws₁ in
-        let ws₃ = setNumber p 43 dry ws₂ in
+        let ws₁ = putNumber p 41 mix (words m) in
+        let ws₂ = putNumber p 47 mix ws₁ in
+        let ws₃ = putNumber p 43 dry ws₂ in
         let sent₁ = sent m (words m) start 41 (told .left-wet) mix fit (told .number) in
         let ready₁ = ready m (words m) start 41 (told .left-wet) mix fit (told .number) in
         let sent₂ = sent (unwords ws₁) ws₁ ready₁ 47 (told .right-wet) mix fit (told .number) in
@@ -138,18 +138,18 @@ module _ (s : List ℕ) (p : Parsed) (reads : readBoard s ≡ whole p) (fine : F
 
     -- node k's number is set, and what others then set leaves it
     set-here : (ws : List ℕ) (k : ℕ) (x : Float) → length ws ≡ length (words m) → k < length (p .nodes)
-        → getD (setNumber p k x ws) (nodeAt p k .cell) 0 ≡ toBits binary32 x
+        → getD (putNumber p k x ws) (nodeAt p k .cell) 0 ≡ toBits binary32 x
     set-here ws k x e there = getD-set-same ws (nodeAt p k .cell) (toBits binary32 x) 0 (omega (arith, inside k there))
 
     set-there : (ws : List ℕ) (j k : ℕ) (x : Float) → (nodeAt p j .cell ≡ nodeAt p k .cell → ⊥)
-        → getD (setNumber p k x ws) (nodeAt p j .cell) 0 ≡ getD ws (nodeAt p j .cell) 0
+        → getD (putNumber p k x ws) (nodeAt p j .cell) 0 ≡ getD ws (nodeAt p j .cell) 0
     set-there ws j k x h = getD-set-other ws (nodeAt p k .cell) (nodeAt p j .cell) (toBits binary32 x) 0 h
 
     holds : HoldsMix p mix (setMix p mix (words m))
     holds =
-        let ws₁ = setNumber p 41 mix (words m) in
-        let ws₂ = setNumber p 47 mix ws₁ in
-        let ws₃ = setNumber p 43 dry ws₂ in
+        let ws₁ = putNumber p 41 mix (words m) in
+        let ws₂ = putNumber p 47 mix ws₁ in
+        let ws₃ = putNumber p 43 dry ws₂ in
         let long₁ : length ws₁ ≡ length (words m) = length-set (words m) _ _ in
         let long₂ : length ws₂ ≡ length (words m) = length-set ws₁ _ _ ∙ long₁ in
         let long₃ : length ws₃ ≡ length (words m) = length-set ws₂ _ _ ∙ long₂ in

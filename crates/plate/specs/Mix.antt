@@ -15,7 +15,7 @@ use Rattle.graph.specs.Answer.{answer}
 use Rattle.graph.specs.Board.{Parsed}
 use Rattle.graph.specs.Judge.{readBoard}
 use Rattle.context.specs.Memory.{passed, nodeAt, kindAt}
-use Rattle.context.specs.Calls.{andThen, checkMemory, changeBy, setNumber, messageOf}
+use Rattle.context.specs.Calls.{andThen, checkMemory, changeBy, putNumber, messageOf}
 use Rattle.graph.specs.declared.answer.Answer.{Answer}
 use Rattle.plate.specs.Plate.{dryOf}
 
@@ -44,7 +44,7 @@ checkMixed p m mix = checkMemory p m (checkMix p mix)
 
 -- 41, 47 to mix, then 43, 49 to 1 − mix
 abbrev pub setMix : Parsed → Float → List ℕ → List ℕ
-setMix p mix ws = setNumber p 49 (dryOf mix) (setNumber p 43 (dryOf mix) (setNumber p 47 mix (setNumber p 41 mix ws)))
+setMix p mix ws = putNumber p 49 (dryOf mix) (putNumber p 43 (dryOf mix) (putNumber p 47 mix (putNumber p 41 mix ws)))
 
 unfoldable pub mixOf : List ℕ → List ℕ → Float → Answer × List ℕ
 mixOf board m mix = changeBy m (λ p. checkMixed p m mix) (λ p. setMix p mix (words m)) (readBoard board)

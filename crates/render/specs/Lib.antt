@@ -1,6 +1,5 @@
 -- What the contracts of `render` cite.
 pub mod Board
-pub mod Extra
 pub mod Source
 pub mod Turn
 pub mod Run

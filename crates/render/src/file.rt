@@ -38,14 +38,28 @@ fn alike(a: i32, b: i32) -> bool {
     same(&x[..n], &y[..m])
 }
 
-// Whether an output that is there is the open input, under any name, or a copy of it: to write to it
-// would empty the input. Opening it for reading and writing neither waits nor changes it.
-pub fn is_input(fd: i32, output: &[u8]) -> bool {
+// Whether an output that is there is the open file, under any name, or a copy of it. Opening it for
+// reading and writing neither waits nor changes it.
+pub fn is_open_file(fd: i32, output: &[u8]) -> bool {
     let other = os::open_update(output);
     if other < 0 {
         return false;
     }
     let found = alike(fd, other);
     libc::close(other);
+    found
+}
+
+// The same of a file that is named; no file has an empty name.
+pub fn is_file(name: &[u8], output: &[u8]) -> bool {
+    if name.len() == 0 {
+        return false;
+    }
+    let fd = os::open_read(name);
+    if fd < 0 {
+        return false;
+    }
+    let found = is_open_file(fd, output);
+    libc::close(fd);
     found
 }

@@ -3,29 +3,30 @@ ghost use mathlib.Core.Path.{_≡_};
 ghost use Prim.Native.Nat.{_≤_};
 ghost use lib.ListN.{length};
 ghost use Rattle.render.specs.Run.{Ready};
-ghost use Rattle.render.specs.Extra.{Few};
 use crate::board::Made;
+use crate::board::from_file;
 use crate::board::make;
-use crate::file::is_input;
+use crate::board::tell_board;
+use crate::file::is_file;
+use crate::file::is_open_file;
+use crate::output::Way;
+use crate::output::part_name;
+use crate::output::way_of;
+use crate::play::Levels;
 use crate::play::Run;
 use crate::play::Went;
+use crate::play::no_levels;
 use crate::play::play;
 use crate::say;
 use crate::source::Sound;
 use crate::source::survey;
+use crate::words::Asked;
 use check::same;
 use graph::judge::read_board;
 use graph::tail::tail_of;
 use libc::STDOUT_FILENO;
-use text::number::whole_of;
 use wav::header::MOST;
 use wav::header::header;
-
-// How many frames follow the input's.
-pub enum Extra {
-    Frames(usize),
-    Bad,
-}
 
 // What the tail call answers for an endless tail, and the frames that are then given: four seconds.
 const ENDLESS: u32 = 4294967295;
@@ -45,18 +46,14 @@ fn tail_frames(board: &[u8]) -> usize
 }
 
 // The frames after the input: the seconds that are asked for, or the tail.
-fn frames_after(seconds: &[u8], board: &[u8]) -> Extra
-    ensures { λ r. ⌜ Few r ⌝ }
+fn frames_after(asked: Asked, board: &[u8]) -> usize
+    ensures { λ r. ⌜ r ≤ 4294967295 ⌝ }
 {
-    if seconds.len() == 0 {
-        return Extra::Frames(tail_frames(board));
+    if asked.timed {
+        44100 * asked.seconds as usize
+    } else {
+        tail_frames(board)
     }
-    let whole = whole_of(seconds, 600);
-    if whole.good {
-        return Extra::Frames(44100 * whole.value as usize);
-    }
-    say::problem(seconds, b"seconds are a whole number up to 600");
-    Extra::Bad
 }
 
 // Room for any board's memory.
@@ -81,27 +78,30 @@ fn write_file(run: Run, board: &[u8]) -> Went
     requires { ⌜ Ready run ⌝ }
 {
     let head = header(run.writes as u32);
-    if io::write_all(run.output, &head) {
-        blocks(run, board)
-    } else {
-        Went::NotWritten
+    if !io::write_all(run.output, &head) {
+        return Went::NotWritten;
     }
+    let went = blocks(run, board);
+    if run.progress {
+        say::percent_end();
+    }
+    went
 }
 
 // What went wrong, with the name of the file that it went wrong with; true if nothing did.
-fn told(went: Went, input: &[u8], output: &[u8]) -> bool {
+fn told(to: i32, went: Went, input: &[u8], output: &[u8]) -> bool {
     match went {
-        Went::Well => true,
+        Went::Well(_) => true,
         Went::NotRead => {
-            say::problem(input, b"has changed while it was read");
+            say::problem(to, input, b"has changed while it was read");
             false
         }
         Went::NotWritten => {
-            say::failed(output, b"cannot be written");
+            say::failed(to, output, b"cannot be written");
             false
         }
         Went::Refused(number, place) => {
-            say::refused(input, number, place);
+            say::refused(to, input, number, place);
             false
         }
     }
@@ -112,28 +112,117 @@ fn with_output(run: Run, fd: i32) -> Run
     requires { ⌜ Ready run ⌝ }
     ensures { λ r. ⌜ Ready r ⌝ }
 {
-    let mut to = run;
-    to.output = fd;
-    to
+    let mut next = run;
+    next.output = fd;
+    next
 }
 
-// From an input that is wholly fine, at its data, to the output.
-fn to_file(run: Run, board: &[u8], input: &[u8], output: &[u8])
+// What is told of a sound that was written: what its samples are, and that two channels became one where
+// nobody asked for it.
+fn warned(to: i32, went: Went, mixed: bool, input: &[u8], output: &[u8]) {
+    if let Went::Well(levels) = went {
+        say::level(to, output, levels.bad, b"infinite or NaN");
+        say::level(to, output, levels.loud, b"above full scale");
+    }
+    if mixed {
+        say::problem(
+            to,
+            input,
+            b"stereo, mixed to one channel ((left + right) / 2); left or right takes one alone",
+        );
+    }
+}
+
+// The end of a sound that is written whole to a file.
+fn finished(to: i32, run: Run, went: Went, mixed: bool, input: &[u8], output: &[u8]) {
+    say::done(to, output, run.reads as u64, run.writes as u64);
+    warned(to, went, mixed, input, output);
+}
+
+// To standard output.
+fn to_standard(to: i32, run: Run, board: &[u8], mixed: bool, input: &[u8], output: &[u8])
     requires { ⌜ Ready run ⌝ }
 {
-    if same(output, b"-") {
-        told(write_file(run, board), input, output);
-        return;
+    let went = write_file(run, board);
+    if told(to, went, input, output) {
+        warned(to, went, mixed, input, output);
     }
+}
+
+// To what is there, as a pipe.
+fn straight(to: i32, run: Run, board: &[u8], mixed: bool, input: &[u8], output: &[u8])
+    requires { ⌜ Ready run ⌝ }
+{
     let fd = os::open_overwrite(output);
     if fd < 0 {
-        say::failed(output, b"cannot be opened for writing");
+        say::failed(to, output, b"cannot be opened for writing");
         return;
     }
     let went = write_file(with_output(run, fd), board);
     libc::close(fd);
-    if told(went, input, output) {
-        say::done(output, run.reads as u64, run.writes as u64);
+    if told(to, went, input, output) {
+        finished(to, run, went, mixed, input, output);
+    }
+}
+
+// Closes the file that is written and gives it the output's name; true if both went well.
+fn named(to: i32, fd: i32, part: &[u8], output: &[u8]) -> bool {
+    if libc::close(fd) != 0 {
+        say::failed(to, output, b"cannot be written");
+        return false;
+    }
+    if os::rename(part, output) != 0 {
+        say::failed(to, output, b"cannot be written");
+        return false;
+    }
+    true
+}
+
+// To a file beside the output, which then takes its name.
+fn beside(to: i32, run: Run, board: &[u8], mixed: bool, input: &[u8], output: &[u8])
+    requires { ⌜ Ready run ⌝ }
+{
+    let mut name = io::buffer();
+    let n = part_name(output, &mut name);
+    let part = &name[..n];
+    let fd = os::create(part);
+    if fd < 0 {
+        if os::errno() == libc::EEXIST {
+            say::problem(
+                to,
+                part,
+                b"is there already: remove it, unless a render is writing it",
+            );
+            return;
+        }
+        say::failed(to, output, b"cannot be opened for writing");
+        return;
+    }
+    let went = write_file(with_output(run, fd), board);
+    if !told(to, went, input, output) {
+        libc::close(fd);
+        os::unlink(part);
+        return;
+    }
+    if named(to, fd, part, output) {
+        finished(to, run, went, mixed, input, output);
+    } else {
+        os::unlink(part);
+    }
+}
+
+// From an input that is wholly fine, at its data, to the output.
+fn to_output(to: i32, run: Run, board: &[u8], mixed: bool, input: &[u8], output: &[u8])
+    requires { ⌜ Ready run ⌝ }
+{
+    if same(output, b"-") {
+        to_standard(to, run, board, mixed, input, output);
+        return;
+    }
+    match way_of(to, output) {
+        Way::Straight => straight(to, run, board, mixed, input, output),
+        Way::Beside => beside(to, run, board, mixed, input, output),
+        Way::Bad => (),
     }
 }
 
@@ -144,22 +233,32 @@ struct Needs {
 }
 
 // The open input, surveyed, and then played.
-fn from_file(fd: i32, needs: Needs, board: &[u8], input: &[u8], output: &[u8], more: usize)
-    requires { ⌜ (1 ≤ needs .size) × (needs .size ≤ 128) × (needs .room ≤ 1114880) × (more ≤ 4294967295) ⌝ }
+fn from_open(
+    to: i32,
+    fd: i32,
+    needs: Needs,
+    asked: Asked,
+    board: &[u8],
+    input: &[u8],
+    output: &[u8],
+)
+    requires { ⌜ (1 ≤ needs .size) × (needs .size ≤ 128) × (needs .room ≤ 1114880) ⌝ }
 {
-    let Sound::Frames(format, frames, start) = survey(fd, input) else {
+    let taken = asked.taken;
+    let Sound::Frames(format, frames, start) = survey(to, fd, input, taken) else {
         return;
     };
-    let total = frames + more;
+    let total = frames + frames_after(asked, board);
     if MOST < total {
-        say::problem(input, b"too long: more than 4 GiB would be written");
+        say::problem(to, input, b"too long: more than 4 GiB would be written");
         return;
     }
-    if is_input(fd, output) {
-        say::problem(output, b"is the input, or a copy of it");
+    if is_open_file(fd, output) {
+        say::problem(to, output, b"is the input, or a copy of it");
         return;
     }
     libc::lseek(fd, start, libc::SEEK_SET);
+    let levels = no_levels();
     let run = Run {
         input: fd,
         output: STDOUT_FILENO,
@@ -168,46 +267,77 @@ fn from_file(fd: i32, needs: Needs, board: &[u8], input: &[u8], output: &[u8], m
         room: needs.room,
         reads: frames,
         writes: total,
+        done: 0,
+        levels,
+        progress: asked.progress,
     };
-    to_file(run, board, input, output);
+    let mixed = format.stereo && !asked.picked;
+    to_output(to, run, board, mixed, input, output);
 }
 
 // Through a board that the judge accepts.
-fn through(needs: Needs, board: &[u8], input: &[u8], output: &[u8], seconds: &[u8])
+fn through(to: i32, needs: Needs, asked: Asked, board: &[u8], input: &[u8], output: &[u8])
     requires { ⌜ (1 ≤ needs .size) × (needs .size ≤ 128) × (needs .room ≤ 1114880) ⌝ }
 {
-    let Extra::Frames(more) = frames_after(seconds, board) else {
-        return;
-    };
     let fd = os::open_read(input);
     if fd < 0 {
-        say::failed(input, b"cannot be opened");
+        say::failed(to, input, b"cannot be opened");
         return;
     }
-    from_file(fd, needs, board, input, output, more);
+    from_open(to, fd, needs, asked, board, input, output);
     libc::close(fd);
 }
 
 // Through a board's bytes, once they are judged.
-fn judged(board: &[u8], what: &[u8], input: &[u8], output: &[u8], seconds: &[u8]) {
+fn judged(to: i32, board: &[u8], what: &[u8], asked: Asked, input: &[u8], output: &[u8]) {
     let read = read_board(board);
     let refused = read.refused;
     if refused.number != 0 {
-        say::refused(what, refused.number, refused.place);
+        tell_board(to, what, board, refused.number, refused.place);
         return;
     }
     let needs = Needs {
         size: read.size,
         room: 4 * read.values,
     };
-    through(needs, board, input, output, seconds);
+    through(to, needs, asked, board, input, output);
 }
 
-// IN OUT plate MIX SECONDS, or IN OUT board FILE SECONDS; no seconds are an empty word.
-pub fn render(input: &[u8], output: &[u8], form: &[u8], what: &[u8], seconds: &[u8]) {
+// Through the board that is asked for.
+fn through_board(to: i32, form: &[u8], what: &[u8], asked: Asked, input: &[u8], output: &[u8]) {
     let mut board = [0u8; 69632];
-    match make(form, what, &mut board) {
-        Made::Bytes(n) => judged(&board[..n], what, input, output, seconds),
+    match make(to, form, what, &mut board) {
+        Made::Bytes(n) => judged(to, &board[..n], what, asked, input, output),
         Made::Bad => (),
     }
+}
+
+// Whether to write the output would lose the board's file or the list; that is told.
+fn loses(to: i32, form: &[u8], what: &[u8], list: &[u8], output: &[u8]) -> bool {
+    if from_file(form) && is_file(what, output) {
+        say::problem(to, output, b"is the board's file, or a copy of it");
+        return true;
+    }
+    if is_file(list, output) {
+        say::problem(to, output, b"is the list, or a copy of it");
+        return true;
+    }
+    false
+}
+
+// IN OUT plate MIX, or IN OUT board FILE, with what the other words ask for; `list` names the list that
+// has these words, or is empty, and `to` is where answers go.
+pub fn render(
+    to: i32,
+    list: &[u8],
+    form: &[u8],
+    what: &[u8],
+    asked: Asked,
+    input: &[u8],
+    output: &[u8],
+) {
+    if loses(to, form, what, list, output) {
+        return;
+    }
+    through_board(to, form, what, asked, input, output);
 }

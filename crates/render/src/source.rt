@@ -11,7 +11,8 @@ use wav::chunk::chunk_of;
 use wav::chunk::is_wave;
 use wav::chunk::passed;
 use wav::format::Format;
-use wav::format::Reading;
+use wav::format::FormatRead;
+use wav::format::Taken;
 use wav::format::format_of;
 use wav::format::frame_size;
 
@@ -63,43 +64,74 @@ fn pass_over(fd: i32, bytes: u64)
 const LONGEST: usize = 40;
 
 // The format of a fmt chunk of so many bytes.
-fn read_format(fd: i32, file: &[u8], length: u32) -> Step {
+fn read_format(to: i32, fd: i32, file: &[u8], length: u32) -> Step {
     let mut body = io::buffer();
     let want = least(length as usize, LONGEST);
     let n = read_some(fd, &mut body, want);
-    let reading = format_of(&body[..n]);
-    let Reading::Is(format) = reading else {
-        say::format(file, reading);
+    let read = format_of(&body[..n]);
+    let FormatRead::Is(format) = read else {
+        say::format(to, file, read);
         return Step::Bad;
     };
     pass_over(fd, passed(length) - want as u64);
     Step::On(Known::As(format))
 }
 
-// The data, so many bytes long, of a format that must be known by now.
-fn data_of(file: &[u8], known: Known, length: u32) -> Step {
+// A number that is not negative, or zero.
+fn size_of(n: i64) -> u64 {
+    if n >= 0 { n as u64 } else { 0 }
+}
+
+// The bytes from here to the file's end; none in a pipe.
+fn bytes_left(fd: i32) -> u64 {
+    let at = libc::lseek(fd, 0, libc::SEEK_CUR);
+    let end = size_of(libc::lseek(fd, 0, libc::SEEK_END));
+    libc::lseek(fd, at, libc::SEEK_SET);
+    let here = size_of(at);
+    if end < here {
+        return 0;
+    }
+    end - here
+}
+
+// The bytes of the data: as many as its chunk says; or up to the file's end, which is what the lengths 0
+// and FFFFFFFF mean, that programs write which did not know the length.
+fn data_length(fd: i32, length: u32) -> u64 {
+    if length != 0 && length != u32::MAX {
+        return length as u64;
+    }
+    bytes_left(fd)
+}
+
+// The data of a format that must be known by now.
+fn data_of(to: i32, fd: i32, file: &[u8], known: Known, length: u32) -> Step {
     let Known::As(format) = known else {
-        say::problem(file, b"no fmt chunk before the data");
+        say::problem(to, file, b"no fmt chunk before the data");
         return Step::Bad;
     };
-    if length as usize % frame_size(format) != 0 {
-        say::counted(file, length as u64, b" bytes of data are no whole frames");
+    let bytes = data_length(fd, length);
+    if 4294967295 < bytes {
+        say::problem(to, file, b"too long: more than 4 GiB are read");
         return Step::Bad;
     }
-    Step::Data(format, length)
+    if bytes as usize % frame_size(format) != 0 {
+        say::counted(to, file, bytes, b" bytes of data are no whole frames");
+        return Step::Bad;
+    }
+    Step::Data(format, bytes as u32)
 }
 
 // The next chunk.
-fn next_chunk(fd: i32, file: &[u8], known: Known) -> Step {
+fn next_chunk(to: i32, fd: i32, file: &[u8], known: Known) -> Step {
     let mut head = [0u8; 8];
     let n = io::read_full(fd, &mut head);
     if n < 8 {
-        say::problem(file, b"no data chunk");
+        say::problem(to, file, b"no data chunk");
         return Step::Bad;
     }
     match chunk_of(&head) {
-        Chunk::Format(length) => read_format(fd, file, length),
-        Chunk::Data(length) => data_of(file, known, length),
+        Chunk::Format(length) => read_format(to, fd, file, length),
+        Chunk::Data(length) => data_of(to, fd, file, known, length),
         Chunk::Other(length) => {
             pass_over(fd, passed(length));
             Step::On(known)
@@ -109,11 +141,11 @@ fn next_chunk(fd: i32, file: &[u8], known: Known) -> Step {
 
 // The data chunk. A proved loop has to end, and nothing says that a file does: so it counts the chunks
 // down, from a number that no file reaches.
-fn find_data(fd: i32, file: &[u8]) -> Step {
+fn find_data(to: i32, fd: i32, file: &[u8]) -> Step {
     let mut known = Known::Nothing;
     let mut chunks = u32::MAX;
     while 0 < chunks {
-        match next_chunk(fd, file, known) {
+        match next_chunk(to, fd, file, known) {
             Step::On(next) => known = next,
             Step::Data(format, length) => return Step::Data(format, length),
             Step::Bad => return Step::Bad,
@@ -143,19 +175,19 @@ fn read_part(fd: i32, format: Format, left: usize) -> Part
 }
 
 // Whether all data is there and finite.
-fn data_fine(fd: i32, file: &[u8], format: Format, length: u32) -> bool {
+fn data_fine(to: i32, fd: i32, file: &[u8], format: Format, length: u32) -> bool {
     let all = length as usize;
     let mut left = all;
     while 0 < left {
         match read_part(fd, format, left) {
             Part::Fine(n) => left -= n,
             Part::Cut(n) => {
-                say::cut(file, (all - left + n) as u64, all as u64);
+                say::cut(to, file, (all - left + n) as u64, all as u64);
                 return false;
             }
             Part::Bad(i) => {
                 let before = (all - left) / frame_size(format);
-                say::not_finite(file, (before + i) as u64);
+                say::not_finite(to, file, (before + i) as u64);
                 return false;
             }
         }
@@ -164,15 +196,15 @@ fn data_fine(fd: i32, file: &[u8], format: Format, length: u32) -> bool {
 }
 
 // The data of a file that is open at its data chunk's body.
-fn sound_at(fd: i32, file: &[u8], format: Format, length: u32) -> Sound
+fn sound_at(to: i32, fd: i32, file: &[u8], format: Format, length: u32) -> Sound
     ensures { λ r. ⌜ Short r ⌝ }
 {
     let start = libc::lseek(fd, 0, libc::SEEK_CUR);
     if start < 0 {
-        say::failed(file, b"cannot be read twice");
+        say::failed(to, file, b"cannot be read twice");
         return Sound::Bad;
     }
-    if data_fine(fd, file, format, length) {
+    if data_fine(to, fd, file, format, length) {
         let frames = length as usize / frame_size(format);
         Sound::Frames(format, frames, start)
     } else {
@@ -180,16 +212,48 @@ fn sound_at(fd: i32, file: &[u8], format: Format, length: u32) -> Sound
     }
 }
 
+// Whether one channel of two is taken alone.
+fn alone(taken: Taken) -> bool {
+    match taken {
+        Taken::Mean => false,
+        Taken::Left => true,
+        Taken::Right => true,
+    }
+}
+
+// The data of a format, of which a channel or the mean of both is taken.
+fn sound_of(to: i32, fd: i32, file: &[u8], format: Format, length: u32, taken: Taken) -> Sound
+    ensures { λ r. ⌜ Short r ⌝ }
+{
+    if alone(taken) && !format.stereo {
+        say::problem(to, file, b"mono: it has neither left nor right");
+        return Sound::Bad;
+    }
+    let coding = format.coding;
+    let stereo = format.stereo;
+    sound_at(
+        to,
+        fd,
+        file,
+        Format {
+            coding,
+            stereo,
+            taken,
+        },
+        length,
+    )
+}
+
 // The sound of an open file.
-pub fn survey(fd: i32, file: &[u8]) -> Sound
+pub fn survey(to: i32, fd: i32, file: &[u8], taken: Taken) -> Sound
     ensures { λ r. ⌜ Short r ⌝ }
 {
     if !begins(fd) {
-        say::problem(file, b"not a WAV file");
+        say::problem(to, file, b"not a WAV file");
         return Sound::Bad;
     }
-    match find_data(fd, file) {
-        Step::Data(format, length) => sound_at(fd, file, format, length),
+    match find_data(to, fd, file) {
+        Step::Data(format, length) => sound_of(to, fd, file, format, length, taken),
         Step::On(_) => Sound::Bad,
         Step::Bad => Sound::Bad,
     }

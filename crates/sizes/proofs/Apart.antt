@@ -21,7 +21,7 @@ use Rattle.graph.specs.Board.{Parsed, wire}
 use Rattle.graph.specs.Late.{isLate, lateWires}
 use Rattle.context.specs.Calls.{listed}
 use Rattle.context.specs.Fine.{Fine}
-use Rattle.context.specs.Reading.{reached}
+use Rattle.samples.specs.Reading.{reached}
 use Rattle.context.proofs.FineBoard.{lists}
 use Rattle.sizes.specs.Sizes.{OneLine, SizeOnly}
 use Rattle.sizes.proofs.Boards.{kind-in, line-fits, other-kind, new-kind, late-among, late-all}

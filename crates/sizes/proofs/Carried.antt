@@ -32,11 +32,11 @@ use Rattle.graph.proofs.RoundSources.{mem-distinct}
 use Rattle.context.specs.Memory.{kindAt}
 use Rattle.context.specs.Calls.{listed}
 use Rattle.context.specs.Fine.{Fine}
-use Rattle.context.specs.Reading.{Fixed, mono, silence, reached, rightSample, end, inputAt, toldIn, toldAt, agoN, brings, broughtTo, heldAt, IsReading}
-use Rattle.context.proofs.DemandAfter.{Blocks}
-use Rattle.context.proofs.Told.{told-xs, told-at-xs}
+use Rattle.samples.specs.Reading.{Fixed, mono, silence, reached, rightSample, end, inputAt, toldIn, toldAt, agoN, brings, broughtTo, heldAt, IsReading}
+use Rattle.samples.proofs.DemandAfter.{Blocks}
+use Rattle.samples.proofs.Told.{told-xs, told-at-xs}
 use Rattle.context.proofs.FineBoard.{lists, listed-there}
-use Rattle.context.proofs.ShownRun.{second-source}
+use Rattle.samples.proofs.ShownRun.{second-source}
 use Rattle.sizes.specs.Sizes.{join, Event, events}
 use Rattle.sizes.proofs.Streams.{length-join, input-joined, same-samples, toldNow, told-by, told-start}
 use Rattle.sizes.proofs.Line.{again, taken, same-line, delayed, has-taken}

@@ -23,12 +23,12 @@ use Rattle.graph.specs.declared.answer.Answer.{Answer}
 use Rattle.context.specs.Memory.{passed}
 use Rattle.context.specs.Calls.{listed, freshOf}
 use Rattle.context.specs.Fine.{Fine}
-use Rattle.context.specs.Reading.{Call, Reply, reached, accepted, end, outputs, repliesTo}
-use Rattle.context.specs.Silence.{played}
-use Rattle.context.specs.Claim.{Claim, callIn, freshMemory}
-use Rattle.context.proofs.DemandAfter.{accepted-whole}
+use Rattle.samples.specs.Reading.{Call, Reply, reached, accepted, end, outputs, repliesTo}
+use Rattle.samples.specs.Silence.{played}
+use Rattle.samples.specs.Claim.{Claim, callIn, freshMemory}
+use Rattle.samples.proofs.DemandAfter.{accepted-whole}
 use Rattle.context.proofs.FineBoard.{fine-board}
-use Rattle.context.proofs.Demand.{board-claim, own-order, demand}
+use Rattle.samples.proofs.Demand.{board-claim, own-order, demand}
 use Rattle.sizes.specs.Sizes.{OneLine, SizeOnly, join, inputStream, stereoOf, outputStream, SameSound, events, AllFinite, runsOf, plays, SamePlayed, SoundsAs}
 use Rattle.sizes.proofs.Streams.{stream-is, same-events}
 use Rattle.sizes.proofs.Plays.{Taken, played-taken, answers-taken, replies-long, runs-taken, runs-inputs, runs-still, runs-long, join-cut}

@@ -20,9 +20,9 @@ use Rattle.graph.specs.Judge.{judgeOf}
 use Rattle.graph.specs.Late.{lateWires}
 use Rattle.context.specs.Memory.{kindAt, passed}
 use Rattle.context.specs.Calls.{listed, freshOf}
-use Rattle.context.specs.Reading.{Call, block, Reply, Fixed, accepted}
-use Rattle.context.specs.Claim.{callIn, freshMemory}
-use Rattle.context.specs.Silence.{played}
+use Rattle.samples.specs.Reading.{Call, block, Reply, Fixed, accepted}
+use Rattle.samples.specs.Claim.{callIn, freshMemory}
+use Rattle.samples.specs.Silence.{played}
 
 -- ---- the two boards
 

@@ -1,43 +1,52 @@
 -- Digits read one after the other: a step, a stop, and what a run up to the end says. Assumes nothing.
 use mathlib.Core.Path.{_≡_, refl, sym, ap, subst, _∙_}
-use mathlib.Core.Bool.{Bool, true, false, cond, not, _||_}
+use mathlib.Core.Bool.{Bool, true, false, cond, _&&_}
 use mathlib.Core.List.{List, [], _∷_}
-use Prim.Native.Nat.{ℕ, suc, _+_, _-_, _*_, _^_, _<_, _≤_}
+use Prim.Native.Nat.{ℕ, zero, suc, _+_, _-_, _*_, _^_, _<_, _≤_}
 use native.Mathlib.Decide.{decLt}
-use native.Mathlib.Nat.{pow-suc, pow-le-pow-right}
+use native.Mathlib.Nat.{le-trans, le-of-eq, mul-assoc, mul-one, mul-le-mul-left, mul-le-mul-right, pow-succ', pow-le-pow-right, one-le-pow}
 use native.Mathlib.Numerals.{add-one}
 use native.Mathlib.Omega.{arith}
-use borrow.Author.Tests.{lt-ltb, le-ltb, le-leb, lt-leb, eq-eqb, ne-eqb}
-use lib.Dec.{ltb, eqb}
-use lib.ListN.{length, drop, getD, drop-of-length-le}
-use lib.Seq.{drop-cons}
+use borrow.Author.Tests.{lt-ltb, le-ltb, le-leb, ltb-true, leb-true, eq-eqb, ne-eqb}
+use lib.Dec.{ltb, leb}
+use lib.Ieee as ieee
+use lib.ListN.{length, take, drop, getD, drop-of-length-le, length-take, length-drop}
+use lib.Seq.{drop-cons, getD-take, take-all}
+use Rattle.text.specs.declared.number.Float.{Float}
 use Rattle.text.specs.declared.number.Float.the-variants.{Is, Bad}
 use Rattle.text.specs.declared.number.Digits.{Digits}
 use Rattle.text.specs.declared.number.Power.{Power}
 use Rattle.text.specs.declared.number.Run.{Run}
-use Rattle.text.specs.Number.{digitOf, more, digitsFrom, is, none, readFrom, upto, wholeOf, hexFrom, bitsOf, noPoint, behind, pointed, digitsOf, power, powerOf, powered, decimalBy, decimalAt, floatOf}
+use Rattle.text.specs.Number.{within, digitOf, more, digitsFrom, is, none, readFrom, upto, wholeOf, hexFrom, bitsOf, ending, Decimals, part, numberFrom, countOf, digitsOf, power, exponentOf, powerOf, signed, scaled, decimalBy, decimalAt, floatOf}
 
 -- ---- a digit, by its range
 
-pub under-digits : (c : ℕ) → c < 48 → 16 ≡ digitOf c
-unfolding digitOf
-under-digits c h = simp (lt-ltb c 48 h)
+inside : (low high c : ℕ) → low ≤ c → c ≤ high → within low high c ≡ true
+inside low high c l h = simp (le-leb low c l, le-leb c high h)
+
+outside : (low high c : ℕ) → (low ≤ c → c ≤ high → ⊥) → within low high c ≡ false
+outside low high c n = pick (leb low c) (leb c high) (leb-true low c) (leb-true c high)
+  where
+    pick : (a b : Bool) → (a ≡ true → low ≤ c) → (b ≡ true → c ≤ high) → (a && b) ≡ false
+    pick false b f g = refl
+    pick true false f g = refl
+    pick true true f g = absurd (n (f refl) (g refl))
 
 pub decimal-digit : (c : ℕ) → 48 ≤ c → c ≤ 57 → c - 48 ≡ digitOf c
 unfolding digitOf
-decimal-digit c l h = simp (le-ltb c 48 l, le-leb c 57 h)
+decimal-digit c l h = simp (inside 48 57 c l h)
 
-pub between-digits : (c : ℕ) → 57 < c → c < 97 → 16 ≡ digitOf c
+pub capital-digit : (c : ℕ) → 65 ≤ c → c ≤ 70 → c - 55 ≡ digitOf c
 unfolding digitOf
-between-digits c l h = simp (le-ltb c 48 (omega arith), lt-leb c 57 l, lt-ltb c 97 h)
+capital-digit c l h = simp (outside 48 57 c (λ _ f. omega arith), inside 65 70 c l h)
 
 pub letter-digit : (c : ℕ) → 97 ≤ c → c ≤ 102 → c - 87 ≡ digitOf c
 unfolding digitOf
-letter-digit c l h = simp (le-ltb c 48 (omega arith), lt-leb c 57 (omega arith), le-ltb c 97 l, le-leb c 102 h)
+letter-digit c l h = simp (outside 48 57 c (λ _ f. omega arith), outside 65 70 c (λ _ f. omega arith), inside 97 102 c l h)
 
-pub past-digits : (c : ℕ) → 102 < c → 16 ≡ digitOf c
+pub no-digit : (c : ℕ) → (48 ≤ c → c ≤ 57 → ⊥) → (65 ≤ c → c ≤ 70 → ⊥) → (97 ≤ c → c ≤ 102 → ⊥) → 16 ≡ digitOf c
 unfolding digitOf
-past-digits c l = simp (le-ltb c 48 (omega arith), lt-leb c 57 (omega arith), le-ltb c 97 (omega arith), lt-leb c 102 l)
+no-digit c f g h = simp (outside 48 57 c f, outside 65 70 c g, outside 97 102 c h)
 
 -- ---- a run of digits
 
@@ -167,34 +176,85 @@ bits-short s n = sym (ap (λ (b : Bool). cond b (hexFrom (drop 1 s) 0) Bad) (ne-
 pub hex-room : (k : ℕ) → k ≤ 8 → 16 ^ k ≤ 4294967296
 hex-room k h = pow-le-pow-right {n = 16} (omega arith) {i = k} {j = 8} h
 
-pub hex-grow : (k : ℕ) → 16 ^ (k + 1) ≡ 16 ^ k * 16
-hex-grow k = ap (λ (n : ℕ). 16 ^ n) (add-one k) ∙ pow-suc 16 k
-
 -- ---- decimals
 
--- the digits of a decimal, by their first run r
-module _ (word : List ℕ) (at : ℕ) (r : Run) (is-run : r ≡ digitsFrom (drop at word) 0 at) where
-  pub digits-whole : (eqb (r .next) at || not (eqb (getD word (r .next) 0) 46)) ≡ true → noPoint r ≡ digitsOf word at
-  unfolding digitsOf
-  digits-whole t = rw t at (ap (pointed word at) is-run)
+-- each byte of a run is a digit
+pub run-digits : (s : List ℕ) (v i k : ℕ) → i + k < digitsFrom s v i .next → digitOf (getD s k 0) < 10
+unfolding digitsFrom
+run-digits [] v i k h = absurd (omega arith)
+run-digits (c ∷ s) v i k h = pick k (ltb (digitOf c) 10) (ltb-true (digitOf c) 10) (run-digits s (more v (digitOf c)) (i + 1)) h
+  where
+    pick : (k : ℕ) (b : Bool) → (b ≡ true → digitOf c < 10)
+        → ((k : ℕ) → i + 1 + k < digitsFrom s (more v (digitOf c)) (i + 1) .next → digitOf (getD s k 0) < 10)
+        → i + k < cond {A = Run} b (digitsFrom s (more v (digitOf c)) (i + 1)) (record { value = v; next = i }) .next → digitOf (getD (c ∷ s) k 0) < 10
+    pick zero true t on h = t refl
+    pick (suc k) true t on h = on k (omega arith)
+    pick k false t on h = absurd (omega arith)
 
-  pub digits-pointed : (eqb (r .next) at || not (eqb (getD word (r .next) 0) 46)) ≡ false
-      → behind (r .next) (digitsFrom (drop (r .next + 1) word) (r .value) (r .next + 1)) ≡ digitsOf word at
-  unfolding digitsOf
-  digits-pointed t = rw t at (ap (pointed word at) is-run)
+pub part-digits : (word : List ℕ) (at next : ℕ) → next ≡ ending word at → Decimals (part word at next)
+part-digits word at next e k h =
+    let short : k < next - at = omega (arith, length-take (next - at) (drop at word)) in
+    subst (λ (c : ℕ). digitOf c < 10) (sym (getD-take (next - at) (drop at word) k 0 short))
+    (run-digits (drop at word) 0 at k (omega (arith, e)))
 
--- a power that is made of numbers in reach
-pub power-made : (p q : Power) (up down : ℕ) (good : Bool) → p ≡ power up down good → power up down good ≡ q → up ≤ 42949672960 → down ≤ 42949672960
-    → (p .up ≤ 42949672960) × (p .down ≤ 42949672960) × (p ≡ q)
-power-made p q up down good e f a b =
-    (subst (λ (x : Power). x .up ≤ 42949672960) (sym e) a, subst (λ (x : Power). x .down ≤ 42949672960) (sym e) b, e ∙ f)
+pub no-digits : (word : List ℕ) (at : ℕ) → Decimals (part word at at)
+no-digits word at k h = absurd (omega (arith, length-take (at - at) (drop at word)))
 
--- a decimal, by its digits and its power of ten
-pub decimal-by : (word : List ℕ) (at : ℕ) (minus : Bool) (d : Digits) (p : Power) → d ≡ digitsOf word at → p ≡ powerOf word (d .next)
-    → (d .next ≡ at → ⊥) → d .places ≤ 4294967295 → powered minus d p ≡ decimalAt word at minus
-unfolding decimalAt
-decimal-by word at minus d p e f n few =
-    ap (powered minus d) f ∙ (rw (ne-eqb (d .next) at n, le-ltb 4294967295 (d .places) few) at (ap (decimalBy word at minus) e))
+-- the number of digits, one after the other
+module _ (s : List ℕ) (i v : ℕ) where
+  pub number-more : i < length s → numberFrom (drop i s) v ≡ numberFrom (drop (i + 1) s) (v * 10 + digitOf (getD s i 0))
+  unfolding numberFrom
+  number-more h = rw (add-one, drop-cons s i 0)
+
+  pub number-end : length s ≤ i → numberFrom (drop i s) v ≡ v
+  unfolding numberFrom
+  number-end h = ap (λ (l : List ℕ). numberFrom l v) (drop-of-length-le s h)
+
+-- a digit more leaves room for the others: v is the number so far, and n digits follow it
+pub room-step : (v d n w : ℕ) → d < 10 → (v + 1) * 10 ^ suc n ≤ w → (v * 10 + d + 1) * 10 ^ n ≤ w
+room-step v d n w h r =
+    let under : v * 10 + d + 1 ≤ (v + 1) * 10 = omega arith in
+    le-trans (mul-le-mul-right (10 ^ n) under)
+    (le-trans (le-of-eq (mul-assoc (v + 1) 10 (10 ^ n) ∙ ap (λ (x : ℕ). (v + 1) * x) (sym (pow-succ' 10 n)))) r)
+
+pub room-now : (v d n w : ℕ) → d < 10 → (v + 1) * 10 ^ suc n ≤ w → v * 10 + d ≤ w
+room-now v d n w h r =
+    le-trans (omega (arith, mul-one ((v * 10 + d + 1)))) (le-trans (mul-le-mul-left (v * 10 + d + 1) (one-le-pow n 10 (omega arith))) (room-step v d n w h r))
+
+-- the bytes behind a place, as a part up to the end
+pub tail : (n : ℕ) (s : List ℕ) → take (length s - n) (drop n s) ≡ drop n s
+tail n s = take-all (length s - n) (drop n s) (le-of-eq (length-drop n s))
+
+-- no exponent
+pub exponent-empty : (s : List ℕ) → length s ≡ 0 → power 0 0 false ≡ exponentOf s
+unfolding wholeOf
+exponent-empty [] e = refl
+exponent-empty (c ∷ s) e = absurd (omega arith)
+
+-- a decimal, by its digits d: none; no power of ten behind them; or both
+module _ (word : List ℕ) (at : ℕ) (minus : Bool) (d : Digits) (found : d ≡ digitsOf word at) where
+  pub decimal-none : countOf at d ≡ 0 → Bad ≡ decimalAt word at minus
+  unfolding decimalAt
+  decimal-none e = rw (eq-eqb (countOf at d) 0 e) at (ap (decimalBy word at minus) found)
+
+  decimal-judged : (countOf at d ≡ 0 → ⊥) → (b : Bool) → powerOf word (d .next) .good ≡ b → cond b (scaled word at minus d (powerOf word (d .next))) Bad ≡ decimalAt word at minus
+  unfolding decimalAt
+  decimal-judged n b t =
+      ap (λ (x : Bool). cond x (scaled word at minus d (powerOf word (d .next))) Bad) (sym t)
+      ∙ ap (λ (x : Bool). cond x Bad (cond (powerOf word (d .next) .good) (scaled word at minus d (powerOf word (d .next))) Bad)) (sym (ne-eqb (countOf at d) 0 n))
+      ∙ ap (decimalBy word at minus) found
+
+  pub decimal-bad : (countOf at d ≡ 0 → ⊥) → (p : Power) → p ≡ powerOf word (d .next) → p .good ≡ false → Bad ≡ decimalAt word at minus
+  decimal-bad n p e t = decimal-judged n false (ap (λ (q : Power). q .good) (sym e) ∙ t)
+
+  pub decimal-good : (countOf at d ≡ 0 → ⊥) → (p : Power) → p ≡ powerOf word (d .next) → p .good ≡ true → (r : Float) → r ≡ scaled word at minus d p → r ≡ decimalAt word at minus
+  decimal-good n p e t r f = f ∙ ap (scaled word at minus d) e ∙ decimal-judged n true (ap (λ (q : Power). q .good) (sym e) ∙ t)
+
+-- a sign in front of the bits
+pub signed-is : (minus : Bool) (x : ieee.Float) (bits : ℕ) → bits ≡ ieee.toBits ieee.binary32 x → ieee.toBits ieee.binary32 (ieee.neg x) ≡ 2147483648 + ieee.toBits ieee.binary32 x
+    → Is (cond minus (2147483648 + bits) bits) ≡ signed minus x
+signed-is true x bits e n = ap Is (ap (λ (z : ℕ). 2147483648 + z) e ∙ sym n)
+signed-is false x bits e n = ap Is e
 
 -- an empty word is no float
 pub float-empty : (word : List ℕ) → length word ≡ 0 → Bad ≡ floatOf word

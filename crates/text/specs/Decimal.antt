@@ -6,12 +6,13 @@ use lib.Ieee.{Float, binary32, round, toBits}
 use Rattle.text.specs.declared.decimal.Decimal.{Decimal}
 use Rattle.text.specs.declared.decimal.Decimal.the-variants.{Is, Nothing}
 
--- the float nearest to d × 10^k, and to d / 10^k
-unfoldable pub times : ℕ → ℕ → Float
-times d k = round binary32 false (d * 10 ^ k) 1
-
+-- the float nearest to d / 10^k
 unfoldable pub over : ℕ → ℕ → Float
 over d k = round binary32 false d (10 ^ k)
+
+-- the float nearest to d × 10^up / 10^down
+unfoldable pub nearestTo : ℕ → ℕ → ℕ → Float
+nearestTo d up down = round binary32 false (d * 10 ^ up) (10 ^ down)
 
 -- a decimal that is found for a float has at most 10 places and gives its bits
 abbrev pub Prints : ℕ → Decimal → Type 0

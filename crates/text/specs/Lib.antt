@@ -3,3 +3,4 @@ pub mod Written
 pub mod Decimal
 pub mod Number
 pub mod Words
+pub mod Big

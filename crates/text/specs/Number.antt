@@ -1,21 +1,25 @@
 -- Numbers of a text: what a word says as a whole number, and as a float. Definitions only.
-use mathlib.Core.Bool.{Bool, true, false, cond, not, _||_}
+use mathlib.Core.Bool.{Bool, true, false, cond, _&&_, _||_}
 use mathlib.Core.List.{List, [], _∷_}
-use Prim.Native.Nat.{ℕ, _+_, _-_, _*_, min}
+use Prim.Native.Nat.{ℕ, _+_, _-_, _*_, _<_, _≤_, min}
 use lib.Dec.{ltb, leb, eqb}
 use lib.Ieee as ieee
-use lib.ListN.{length, drop, getD}
+use lib.ListN.{length, take, drop, getD}
 use Rattle.text.specs.declared.number.Float.{Float}
-use Rattle.text.specs.Decimal.{times, over}
+use Rattle.text.specs.Decimal.{nearestTo}
 use Rattle.text.specs.declared.number.Digits.{Digits}
 use Rattle.text.specs.declared.number.Float.the-variants.{Is, Bad, Long}
 use Rattle.text.specs.declared.number.Power.{Power}
 use Rattle.text.specs.declared.number.Run.{Run}
 use Rattle.text.specs.declared.number.Whole.{Whole}
 
--- the value of a digit, of base 16 too; 16 for any other byte
+-- a byte from `low` to `high`
+abbrev pub within : ℕ → ℕ → ℕ → Bool
+within low high c = leb low c && leb c high
+
+-- the value of a digit, of base 16 too, in either case of letters; 16 for any other byte
 unfoldable pub digitOf : ℕ → ℕ
-digitOf c = cond (ltb c 48) 16 (cond (leb c 57) (c - 48) (cond (ltb c 97) 16 (cond (leb c 102) (c - 87) 16)))
+digitOf c = cond (within 48 57 c) (c - 48) (cond (within 65 70 c) (c - 55) (cond (within 97 102 c) (c - 87) 16))
 
 -- one decimal digit more; from 42,949,672,960 on a number is read as that
 abbrev pub more : ℕ → ℕ → ℕ
@@ -50,62 +54,95 @@ unfoldable pub hexFrom : List ℕ → ℕ → Float
 hexFrom [] v = Is v
 hexFrom (c ∷ s) v = cond (ltb (digitOf c) 16) (hexFrom s (v * 16 + digitOf c)) Bad
 
--- a float's bits: 8 digits of base 16 after an `x`
+-- a float's bits: 8 digits of base 16 behind the first byte
 unfoldable pub bitsOf : List ℕ → Float
 bitsOf word = cond (eqb (length word) 9) (hexFrom (drop 1 word) 0) Bad
 
--- ---- decimals: 45 is `-`, 46 the point, 101 `e`
+-- ---- decimals: 43 is `+`, 45 `-`, 46 the point, 69 `E`, 101 `e`
 
--- the digits of a decimal from a place of a word on, its point aside: their number, how many follow the point, and the place behind them
-abbrev pub noPoint : Run → Digits
-noPoint run = record { value = run .value; places = 0; next = run .next }
+-- the place behind the decimal digits from a place of a word on
+abbrev pub ending : List ℕ → ℕ → ℕ
+ending word at = digitsFrom (drop at word) 0 at .next
 
-abbrev pub behind : ℕ → Run → Digits
-behind point run = record { value = run .value; places = run .next - (point + 1); next = run .next }
-
-abbrev pub pointed : List ℕ → ℕ → Run → Digits
-pointed word at run =
-    cond (eqb (run .next) at || not (eqb (getD word (run .next) 0) 46)) (noPoint run)
-    (behind (run .next) (digitsFrom (drop (run .next + 1) word) (run .value) (run .next + 1)))
+-- the digits of a decimal from a place on: those up to `point`, and those from `after` up to `next`, with a point between if one stands there
+abbrev pub pointed : List ℕ → ℕ → Digits
+pointed word end =
+    cond (eqb (getD word end 0) 46) (record { point = end; after = end + 1; next = ending word (end + 1) })
+    (record { point = end; after = end; next = end })
 
 unfoldable pub digitsOf : List ℕ → ℕ → Digits
-digitsOf word at = pointed word at (digitsFrom (drop at word) 0 at)
+digitsOf word at = pointed word (ending word at)
 
--- the power of ten from a place of a word on: none at the end; or an `e` and a whole number, perhaps with a minus
+-- how many they are
+abbrev pub countOf : ℕ → Digits → ℕ
+countOf at d = d .point - at + (d .next - d .after)
+
+-- decimal digits only
+abbrev pub Decimals : List ℕ → Type 0
+Decimals s = (k : ℕ) → k < length s → digitOf (getD s k 0) < 10
+
+-- a word from one place up to another
+abbrev pub part : List ℕ → ℕ → ℕ → List ℕ
+part word from to = take (to - from) (drop from word)
+
+-- where a decimal's digits stand
+pub record Placed (word : List ℕ) (at : ℕ) (d : Digits) : Type 0 where
+  pub whole : at ≤ d .point
+  pub between : d .point ≤ d .after
+  pub places : d .after ≤ d .next
+  pub fits : d .next ≤ length word
+  pub first : Decimals (part word at (d .point))
+  pub rest : Decimals (part word (d .after) (d .next))
+
+-- the number that digits say, read after the number v
+unfoldable pub numberFrom : List ℕ → ℕ → ℕ
+numberFrom [] v = v
+numberFrom (c ∷ s) v = numberFrom s (v * 10 + digitOf c)
+
+-- the number that all digits of a decimal say, its point left out
+unfoldable pub allOf : List ℕ → ℕ → Digits → ℕ
+allOf word at d = numberFrom (part word (d .after) (d .next)) (numberFrom (part word at (d .point)) 0)
+
+-- the power of ten from a place of a word on: none at the end; or an `e` and a whole number, perhaps with a sign
 abbrev pub power : ℕ → ℕ → Bool → Power
 power up down good = record { up = up; down = down; good = good }
 
+abbrev pub upward : Whole → Power
+upward w = power (w .value) 0 (w .good)
+
+abbrev pub downward : Whole → Power
+downward w = power 0 (w .value) (w .good)
+
 abbrev pub exponentOf : List ℕ → Power
 exponentOf s =
-    cond (eqb (getD s 0 0) 45) (power 0 (wholeOf (drop 1 s) 42949672960 .value) (wholeOf (drop 1 s) 42949672960 .good))
-    (power (wholeOf s 42949672960 .value) 0 (wholeOf s 42949672960 .good))
+    cond (eqb (getD s 0 0) 45) (downward (wholeOf (drop 1 s) 42949672960))
+    (upward (wholeOf (cond (eqb (getD s 0 0) 43) (drop 1 s) s) 42949672960))
 
 unfoldable pub powerOf : List ℕ → ℕ → Power
 powerOf word at =
-    cond (eqb at (length word)) (power 0 0 true) (cond (eqb (getD word at 0) 101) (exponentOf (drop (at + 1) word)) (power 0 0 false))
+    cond (eqb at (length word)) (power 0 0 true)
+    (cond (eqb (getD word at 0) 101 || eqb (getD word at 0) 69) (exponentOf (drop (at + 1) word)) (power 0 0 false))
 
--- the float nearest to digits × 10^up / 10^down, where one rounding gives it
+-- a float with a sign in front
 abbrev pub signed : Bool → ieee.Float → Float
 signed minus x = Is (ieee.toBits ieee.binary32 (cond minus (ieee.neg x) x))
 
-unfoldable pub scaled : Bool → ℕ → ℕ → ℕ → Float
-scaled minus digits up down =
-    cond (leb 16777216 digits || ltb 10 (up - down) || ltb 10 (down - up)) Long
-    (signed minus (cond (leb down up) (times digits (up - down)) (over digits (down - up))))
+-- the float nearest to a decimal; with more than 40 digits, or a power of ten that is not from -60 to 60, it is too long
+unfoldable pub scaled : List ℕ → ℕ → Bool → Digits → Power → Float
+scaled word at minus d p =
+    cond (ltb 40 (countOf at d) || ltb 60 (p .up) || ltb 60 (p .down)) Long
+    (signed minus (nearestTo (allOf word at d) (p .up) (d .next - d .after + p .down)))
 
 -- the float of the decimal from a place of a word on
-abbrev pub powered : Bool → Digits → Power → Float
-powered minus digits p = cond (p .good) (scaled minus (digits .value) (p .up) (digits .places + p .down)) Bad
-
 abbrev pub decimalBy : List ℕ → ℕ → Bool → Digits → Float
-decimalBy word at minus digits =
-    cond (eqb (digits .next) at) Bad (cond (ltb 4294967295 (digits .places)) Long (powered minus digits (powerOf word (digits .next))))
+decimalBy word at minus d =
+    cond (eqb (countOf at d) 0) Bad (cond (powerOf word (d .next) .good) (scaled word at minus d (powerOf word (d .next))) Bad)
 
 unfoldable pub decimalAt : List ℕ → ℕ → Bool → Float
 decimalAt word at minus = decimalBy word at minus (digitsOf word at)
 
--- the float that a word says: an `x` and its bits; or a decimal, perhaps with a minus
+-- the float that a word says: an `x` and its bits; or a decimal, perhaps with a sign
 unfoldable pub floatOf : List ℕ → Float
 floatOf word =
-    cond (eqb (getD word 0 0) 120) (bitsOf word)
-    (cond (eqb (getD word 0 0) 45) (decimalAt word 1 true) (decimalAt word 0 false))
+    cond (eqb (getD word 0 0) 120 || eqb (getD word 0 0) 88) (bitsOf word)
+    (cond (eqb (getD word 0 0) 45) (decimalAt word 1 true) (cond (eqb (getD word 0 0) 43) (decimalAt word 1 false) (decimalAt word 0 false)))

@@ -1,10 +1,10 @@
-// Decimals and floats: digits below 2^24 times or over a power of ten up to 10^10. Both are floats
-// exactly, so one operation gives the nearest float.
+// Floats as decimals: digits below 2^24 over a power of ten up to 10^10. Both are floats exactly, so
+// one division gives the nearest float.
 ghost use mathlib.Core.Path.{_≡_};
 ghost use mathlib.Core.Bool.{false};
-ghost use Prim.Native.Nat.{_*_, _^_, _<_, _≤_};
+ghost use Prim.Native.Nat.{_^_, _<_, _≤_};
 ghost use lib.Ieee.Exact.{HasValue};
-ghost use Rattle.text.specs.Decimal.{times, over, Prints};
+ghost use Rattle.text.specs.Decimal.{over, Prints};
 use leaves::float::to_bits;
 
 // A decimal: its digits as a whole number, over ten to `places`; or none that gives the float.
@@ -47,14 +47,6 @@ fn ten(k: u32) -> f32
     ensures { λ r. ⌜ HasValue r false (10 ^ k) 1 ⌝ }
 {
     TENS[k as usize]
-}
-
-// The float nearest to digits × 10^k.
-pub fn product(digits: u32, k: u32) -> f32
-    requires { ⌜ (digits < 2 ^ 24) × (k ≤ 10) ⌝ }
-    ensures { λ r. ⌜ r ≡ times digits k ⌝ }
-{
-    digits as f32 * ten(k)
 }
 
 // The float nearest to digits / 10^k.

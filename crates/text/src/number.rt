@@ -1,11 +1,14 @@
 // Numbers of a text: whole numbers, and floats as decimals or as bits.
 ghost use mathlib.Core.Path.{_≡_};
-ghost use Prim.Native.Nat.{_<_, _≤_};
+ghost use mathlib.Core.Bool.{cond};
+ghost use Prim.Native.Nat.{_+_, _*_, _^_, _<_, _≤_};
 ghost use lib.ListN.{length, drop};
-ghost use Rattle.text.specs.Number.{digitOf, more, digitsFrom, wholeOf, digitsOf, power, powerOf, signed, scaled, decimalAt, bitsOf, floatOf};
-use crate::decimal::product;
-use crate::decimal::quotient;
-use leaves::float::to_bits;
+ghost use Rattle.text.specs.Big.{valueOf};
+ghost use Rattle.text.specs.Number.{digitOf, more, digitsFrom, wholeOf, Placed, Decimals, countOf, numberFrom, digitsOf, allOf, power, exponentOf, powerOf, scaled, decimalAt, bitsOf, floatOf};
+use crate::big::Big;
+use crate::big::small;
+use crate::big::times;
+use crate::nearest::nearest;
 
 // A run of digits: its value, and the place after it.
 pub struct Run {
@@ -13,11 +16,11 @@ pub struct Run {
     pub next: usize,
 }
 
-// The digits of a decimal without its point: their value, how many follow the point, and the place
-// after them.
+// The digits of a decimal: those up to `point`, and those from `after` up to `next`, with a point
+// between if there is one.
 pub struct Digits {
-    pub value: u64,
-    pub places: u64,
+    pub point: usize,
+    pub after: usize,
     pub next: usize,
 }
 
@@ -42,7 +45,7 @@ pub struct Whole {
     pub good: bool,
 }
 
-// The bits of a float; or a word that is no float; or a decimal that is too long for one rounding.
+// The bits of a float; or a word that is no float; or a decimal that is too long.
 pub enum Float {
     Is(u32),
     Bad,
@@ -53,19 +56,12 @@ pub enum Float {
 fn digit_of(byte: u8) -> u64
     ensures { λ r. ⌜ (r ≡ digitOf byte) × (r ≤ 16) ⌝ }
 {
-    if byte < 48 {
-        return 16;
+    match byte {
+        b'0'..=b'9' => (byte - 48) as u64,
+        b'A'..=b'F' => (byte - 55) as u64,
+        b'a'..=b'f' => (byte - 87) as u64,
+        _ => 16,
     }
-    if byte <= 57 {
-        return (byte - 48) as u64;
-    }
-    if byte < 97 {
-        return 16;
-    }
-    if byte <= 102 {
-        return (byte - 87) as u64;
-    }
-    16
 }
 
 // From this on a number is too large for every field, and is read as this.
@@ -125,90 +121,124 @@ pub fn whole_of(word: &[u8], most: u64) -> Whole
     }
 }
 
-// The digits of a decimal from `at` on: some, and then perhaps a point and more.
+// The digits of a decimal from `at` on: some, and perhaps a point and more.
 fn digits_of(word: &[u8], at: usize) -> Digits
     requires { ⌜ at ≤ length (now word) ⌝ }
-    ensures { λ r. ⌜ (at ≤ r .next) × (r .next ≤ length (now (word .entry))) × (r ≡ digitsOf (now (word .entry)) at) ⌝ }
+    ensures { λ r. ⌜ Placed (now (word .entry)) at r × (r ≡ digitsOf (now (word .entry)) at) ⌝ }
 {
     let run = digits_from(word, at, 0);
-    let point = run.next;
+    let end = run.next;
     let whole = Digits {
-        value: run.value,
-        places: 0,
-        next: point,
+        point: end,
+        after: end,
+        next: end,
     };
-    if point == at {
+    if end == word.len() {
         return whole;
     }
-    if point == word.len() {
+    if word[end] != b'.' {
         return whole;
     }
-    if word[point] != b'.' {
-        return whole;
-    }
-    let after = point + 1;
-    let rest = digits_from(word, after, run.value);
+    let after = end + 1;
+    let rest = digits_from(word, after, 0);
     Digits {
-        value: rest.value,
-        places: (rest.next - after) as u64,
+        point: end,
+        after,
         next: rest.next,
     }
 }
 
-// The power of ten from `at` on: none, or `e` and a whole number, perhaps with a minus.
+// Digits appended to a number.
+fn number_from(start: Big, digits: &[u8]) -> Big
+    requires { ⌜ Decimals (now digits) × ((valueOf start + 1) * 10 ^ length (now digits) ≤ 10 ^ 40) ⌝ }
+    ensures { λ r. ⌜ (valueOf r ≡ numberFrom (now (digits .entry)) (valueOf start)) × (valueOf r + 1 ≤ (valueOf start + 1) * 10 ^ length (now (digits .entry))) ⌝ }
+{
+    let mut number = start;
+    let mut i = 0;
+    while i < digits.len() {
+        number = times(number, 10, digit_of(digits[i]) as u32);
+        i += 1;
+    }
+    number
+}
+
+// The number that all digits of a decimal say.
+fn all_of(word: &[u8], at: usize, d: Digits) -> Big
+    requires { ⌜ Placed (now word) at d × (countOf at d ≤ 40) ⌝ }
+    ensures { λ r. ⌜ (valueOf r < 10 ^ 40) × (valueOf r ≡ allOf (now (word .entry)) at d) ⌝ }
+{
+    let point = d.point;
+    let after = d.after;
+    let next = d.next;
+    let whole = number_from(small(0), &word[at..point]);
+    number_from(whole, &word[after..next])
+}
+
+// The exponent of a power of ten: a whole number, perhaps with a sign.
+fn exponent_of(s: &[u8]) -> Power
+    ensures { λ r. ⌜ r ≡ exponentOf (now (s .entry)) ⌝ }
+{
+    if s.len() == 0 {
+        return Power::new(0, 0, false);
+    }
+    if s[0] == b'-' {
+        let down = whole_of(&s[1..], LARGEST);
+        return Power::new(0, down.value, down.good);
+    }
+    if s[0] == b'+' {
+        let up = whole_of(&s[1..], LARGEST);
+        return Power::new(up.value, 0, up.good);
+    }
+    let up = whole_of(s, LARGEST);
+    Power::new(up.value, 0, up.good)
+}
+
+// The power of ten from `at` on: none, or `e` and an exponent.
 fn power_of(word: &[u8], at: usize) -> Power
     requires { ⌜ at ≤ length (now word) ⌝ }
-    ensures { λ r. ⌜ (r .up ≤ 42949672960) × (r .down ≤ 42949672960) × (r ≡ powerOf (now (word .entry)) at) ⌝ }
+    ensures { λ r. ⌜ r ≡ powerOf (now (word .entry)) at ⌝ }
 {
     if at == word.len() {
         return Power::new(0, 0, true);
     }
-    if word[at] != b'e' {
-        return Power::new(0, 0, false);
+    let e = word[at];
+    if (e == b'e') | (e == b'E') {
+        let start = at + 1;
+        return exponent_of(&word[start..]);
     }
-    let start = at + 1;
-    if start == word.len() {
-        return Power::new(0, 0, false);
-    }
-    if word[start] == b'-' {
-        let after = start + 1;
-        let down = whole_of(&word[after..], LARGEST);
-        return Power::new(0, down.value, down.good);
-    }
-    let up = whole_of(&word[start..], LARGEST);
-    Power::new(up.value, 0, up.good)
+    Power::new(0, 0, false)
 }
 
-// The float of a decimal's sign and size.
-fn signed(minus: bool, x: f32) -> Float
-    ensures { λ r. ⌜ r ≡ signed minus x ⌝ }
+// A float's bits with its sign.
+fn signed(minus: bool, bits: u32) -> Float
+    requires { ⌜ bits < 2 ^ 31 ⌝ }
+    ensures { λ r. ⌜ r ≡ Float.Is (cond minus (2 ^ 31 + bits) bits) ⌝ }
 {
     if minus {
-        Float::Is(to_bits(-x))
+        Float::Is(0x8000_0000 + bits)
     } else {
-        Float::Is(to_bits(x))
+        Float::Is(bits)
     }
 }
 
-// The float nearest to digits × 10^up / 10^down, where one rounding gives it.
-fn scaled(minus: bool, digits: u64, up: u64, down: u64) -> Float
-    ensures { λ r. ⌜ r ≡ scaled minus digits up down ⌝ }
+// The float nearest to a decimal, if it has at most 40 digits and a power of ten from -60 to 60.
+fn scaled(word: &[u8], at: usize, minus: bool, d: Digits, power: Power) -> Float
+    requires { ⌜ Placed (now word) at d ⌝ }
+    ensures { λ r. ⌜ r ≡ scaled (now (word .entry)) at minus d power ⌝ }
 {
-    if 0x100_0000 <= digits {
+    let places = d.next - d.after;
+    if 40 < d.point - at + places {
         return Float::Long;
     }
-    if down <= up {
-        let tens = up - down;
-        if 10 < tens {
-            return Float::Long;
-        }
-        return signed(minus, product(digits as u32, tens as u32));
-    }
-    let tens = down - up;
-    if 10 < tens {
+    if 60 < power.up {
         return Float::Long;
     }
-    signed(minus, quotient(digits as u32, tens as u32))
+    if 60 < power.down {
+        return Float::Long;
+    }
+    let digits = all_of(word, at, d);
+    let down = places as u64 + power.down;
+    signed(minus, nearest(digits, power.up as u32, down as u32))
 }
 
 // The float of the decimal from `at` on.
@@ -216,18 +246,15 @@ fn decimal_at(word: &[u8], at: usize, minus: bool) -> Float
     requires { ⌜ at ≤ length (now word) ⌝ }
     ensures { λ r. ⌜ r ≡ decimalAt (now (word .entry)) at minus ⌝ }
 {
-    let digits = digits_of(word, at);
-    if digits.next == at {
+    let d = digits_of(word, at);
+    if d.point - at + (d.next - d.after) == 0 {
         return Float::Bad;
     }
-    if 4294967295 < digits.places {
-        return Float::Long;
-    }
-    let power = power_of(word, digits.next);
+    let power = power_of(word, d.next);
     if !power.good {
         return Float::Bad;
     }
-    scaled(minus, digits.value, power.up, digits.places + power.down)
+    scaled(word, at, minus, d, power)
 }
 
 // The bits that 8 digits of base 16 after an `x` give.
@@ -250,18 +277,24 @@ fn bits_of(word: &[u8]) -> Float
     Float::Is(bits as u32)
 }
 
-// The float that a word says: a decimal, or `x` and its bits.
+// The float that a word says: a decimal, perhaps with a sign, or `x` and its bits. Ruled out, and tried
+// by must-fail edits: one that rounds a tie away from the even float (tie_away), one that loses an
+// exponent's minus (exponent_upward).
 pub fn float_of(word: &[u8]) -> Float
     ensures { λ r. ⌜ r ≡ floatOf (now (word .entry)) ⌝ }
 {
     if word.len() == 0 {
         return Float::Bad;
     }
-    if word[0] == b'x' {
+    let first = word[0];
+    if (first == b'x') | (first == b'X') {
         return bits_of(word);
     }
-    if word[0] == b'-' {
+    if first == b'-' {
         return decimal_at(word, 1, true);
+    }
+    if first == b'+' {
+        return decimal_at(word, 1, false);
     }
     decimal_at(word, 0, false)
 }

@@ -23,7 +23,7 @@ unfolding over23
 over-exact n h =
     round-exact binary32 false n (2 ^ 23) n 126 (lit< tt) h (lt-of-lt-of-le (shl-lt 24 126 h) (lit≤ tt)) (sym (mul-assoc n (2 ^ 126) (2 ^ 23)))
 
-negated : (x : Float) (n d : ℕ) → HasValue x false n d → HasValue (neg x) true n d
+pub negated : (x : Float) (n d : ℕ) → HasValue x false n d → HasValue (neg x) true n d
 unfolding neg
 negated nan n d v = absurd v
 negated (inf s) n d v = absurd v

@@ -6,14 +6,16 @@ use mathlib.Core.List.{List, [], _∷_, _++_}
 use lib.ListN.{length, getD}
 use lib.Dec.{ltb}
 use lib.IntN.{pos, negsuc}
-use lib.Ieee.{Float, fin, binary32, ofBits, toBits, add, mul, neg}
+use lib.Ieee.{Float, fin, binary32, ofBits, toBits, round, add, mul, neg}
 use Rattle.leaves.specs.Bytes.{u16At, u32At}
 use Rattle.leaves.specs.Floors.{zeroF, finiteF}
 use Rattle.leaves.specs.Sine.{over23}
 use Rattle.wav.specs.Format.{widthOf, frameOf}
 use Rattle.wav.specs.declared.format.Format.{Format}
 use Rattle.wav.specs.declared.format.Coding.{Coding}
-use Rattle.wav.specs.declared.format.Coding.the-variants.{Whole16, Whole24, Float32}
+use Rattle.wav.specs.declared.format.Coding.the-variants.{Whole8, Whole16, Whole24, Whole32, Float32}
+use Rattle.wav.specs.declared.format.Taken.{Taken}
+use Rattle.wav.specs.declared.format.Taken.the-variants.{Mean, Left, Right}
 
 abbrev pub u24At : List ℕ → ℕ → ℕ
 u24At s at = u16At s at + getD s (at + 2) 0 * 65536
@@ -22,10 +24,20 @@ u24At s at = u16At s at + getD s (at + 2) 0 * 65536
 unfoldable pub wholeOf : ℕ → Float
 wholeOf w = cond (ltb w (2 ^ 23)) (over23 (pos w)) (neg (over23 (pos (2 ^ 24 - w))))
 
+-- a byte, in which 128 is zero, over 128
+unfoldable pub byteOf : ℕ → Float
+byteOf b = cond (ltb b 128) (neg (round binary32 false (128 - b) 128)) (round binary32 false (b - 128) 128)
+
+-- a whole number of 32 bits, negative from 2^31 on, over 2^31: the nearest float, and of two the even one
+unfoldable pub longOf : ℕ → Float
+longOf w = cond (ltb w (2 ^ 31)) (round binary32 false w (2 ^ 31)) (neg (round binary32 false (2 ^ 32 - w) (2 ^ 31)))
+
 -- the sample at a byte; one of 16 bits is the upper 16 of 24, so its w over 2^15 is 256 × w over 2^23
 abbrev pub sampleOf : Coding → List ℕ → ℕ → Float
+sampleOf Whole8 s at = byteOf (getD s at 0)
 sampleOf Whole16 s at = wholeOf (u16At s at * 256)
 sampleOf Whole24 s at = wholeOf (u24At s at)
+sampleOf Whole32 s at = longOf (u32At s at)
 sampleOf Float32 s at = ofBits binary32 (u32At s at)
 
 -- 0.5
@@ -35,10 +47,16 @@ fHalf = fin false 1 (negsuc 0)
 unfoldable pub halved : Float → Float → Float
 halved left right = mul binary32 (add binary32 left right) fHalf
 
+-- what two samples are taken as
+abbrev pub takenOf : Taken → Float → Float → Float
+takenOf Mean left right = halved left right
+takenOf Left left right = left
+takenOf Right left right = right
+
 -- the one sample that the frame at a byte becomes
 unfoldable pub frameAt : Format → List ℕ → ℕ → Float
 frameAt f s at =
-    cond (f .stereo) (halved (sampleOf (f .coding) s at) (sampleOf (f .coding) s (at + widthOf (f .coding)))) (sampleOf (f .coding) s at)
+    cond (f .stereo) (takenOf (f .taken) (sampleOf (f .coding) s at) (sampleOf (f .coding) s (at + widthOf (f .coding)))) (sampleOf (f .coding) s at)
 
 -- ---- the block that a board takes
 

@@ -3,3 +3,4 @@ pub mod Chunk
 pub mod Format
 pub mod Frames
 pub mod Header
+pub mod Level

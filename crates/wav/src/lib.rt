@@ -4,4 +4,5 @@ pub mod block;
 pub mod chunk;
 pub mod format;
 pub mod header;
+pub mod level;
 pub mod sample;

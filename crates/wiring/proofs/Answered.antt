@@ -10,7 +10,7 @@ use lib.ListN.{length}
 use Rattle.leaves.specs.Words.{Bytes}
 use Rattle.graph.specs.Board.{Parsed, Progress, going, refused, whole, wireFits}
 use Rattle.graph.specs.Judge.{readBoard, checkSix}
-use Rattle.graph.specs.Parts.{wired as withWires}
+use Rattle.graph.specs.BoardParts.{wired as withWires}
 use Rattle.graph.proofs.Ending.{Ended, board-ends}
 use Rattle.graph.proofs.Six.{six-whole, six-refused}
 use Rattle.wiring.specs.Carried.{added, wired, pulled}

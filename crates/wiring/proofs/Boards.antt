@@ -18,7 +18,7 @@ use Rattle.graph.specs.Board.{whole, wire, wireFits, blank}
 use Rattle.graph.specs.Formed.{Formed}
 use Rattle.graph.specs.Judge.{passAt, inputFits, readBoard, checkSix}
 use Rattle.graph.specs.Listed.{SourcesBelow}
-use Rattle.graph.specs.Parts.{wired as withWires}
+use Rattle.graph.specs.BoardParts.{wired as withWires}
 use Rattle.graph.specs.Read.{Read, parsedOf}
 use Rattle.graph.specs.Sources.{distinctSources}
 use Rattle.graph.specs.Visit.{visitingList, Lists}

@@ -18,7 +18,7 @@ use Rattle.leaves.specs.Words.{Bytes}
 use Rattle.reading.specs.Order.{Wire}
 use Rattle.graph.specs.Board.{Parsed, Progress, going, refused, whole, wire, wireFits}
 use Rattle.graph.specs.Judge.{readBoard, checkSix}
-use Rattle.graph.specs.Parts.{wired as withWires}
+use Rattle.graph.specs.BoardParts.{wired as withWires}
 use Rattle.graph.specs.Visit.{visitingList}
 use Rattle.graph.specs.Write.{wireBytes, endBytes}
 use Rattle.graph.proofs.Ending.{Ended, board-ends}

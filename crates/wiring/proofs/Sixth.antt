@@ -15,7 +15,7 @@ use Rattle.reading.specs.Order.{Wire, sources}
 use Rattle.graph.specs.Board.{Parsed, Progress, going, refused, whole, blank, readRecords}
 use Rattle.graph.specs.Formed.{Formed}
 use Rattle.graph.specs.Judge.{passAt, inputFits, checkSources, checkSix, thenSix, readBoard}
-use Rattle.graph.specs.Parts.{wired as withWires}
+use Rattle.graph.specs.BoardParts.{wired as withWires}
 use Rattle.graph.specs.Sources.{distinctSources}
 use Rattle.graph.proofs.Formed.{six-same}
 use Rattle.graph.proofs.Run.{refused-is-not-whole, going-is-not-whole}

@@ -14,7 +14,7 @@ use Rattle.leaves.specs.Words.{Bytes}
 use Rattle.reading.specs.Order.{Wire, Each}
 use Rattle.graph.specs.Board.{Parsed, whole, refused, wire, wireFits, readRecords}
 use Rattle.graph.specs.Judge.{readBoard}
-use Rattle.graph.specs.Parts.{wired as withWires}
+use Rattle.graph.specs.BoardParts.{wired as withWires}
 use Rattle.graph.specs.Write.{NodeCard, Card, nodeBytes, wireBytes, wiresBytes, endBytes, headBytes, nodesBytes, writeBoard, asRead, WireObeys, noWire, Obeys}
 use Rattle.graph.proofs.Fits.{wire-fits}
 use Rattle.graph.proofs.Round.{read-write, fits}

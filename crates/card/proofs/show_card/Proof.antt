@@ -9,10 +9,10 @@ use Rattle.card.proofs.show_card.Statement.{statement}
 use Rattle.card.proofs.show_card.Tie as tie
 
 -- the board's bytes lie within the buffer
-within : (c : tie.After-known-told) → c .before .n .given .0 .0 ≤ length (c .before .before .before .before .board-of .last .1 .0)
+within : (c : tie.After-known-told) → c .before .made .given .0 .0 ≤ length (c .before .before .before .before .board-of .last .1 .0)
 within c =
     let read = c .before in
-    subst (Within _) (read .n .given .1) (read .before .before .before .board-of .ensures .0)
+    subst (Within _) (read .made .given .1) (read .before .before .before .board-of .ensures .0)
 
 array-borrow-prefix-out : tie.Need-array-borrow-prefix-out
 array-borrow-prefix-out c = within c
@@ -24,5 +24,5 @@ pub show-card-spec : {M : Type 1} → statement M
 show-card-spec =
     tie.close
     (tie.spec (λ c. search needs) (λ c κs. search needs) (λ c. search needs) array-borrow-prefix-out
-    slice-aggregate-show-board (λ c κs. search needs) (λ c. search needs) (λ c κs. search needs)
-    (λ c. search needs) (λ c κs. search needs) (λ c. search needs) (λ c. search needs) (λ c. search needs))
+    slice-aggregate-show-board (λ c κs. search needs) (λ c. search needs) (λ c. search needs)
+    (λ c κs. search needs) (λ c. search needs) (λ c κs. search needs) (λ c. search needs) (λ c. search needs))

@@ -6,9 +6,9 @@ use lib.Ieee.{ofBits}
 use Rattle.leaves_trial.proofs.sine.Statement.{statement}
 use Rattle.leaves_trial.proofs.sine.Tie as tie
 
-sine-requires : tie.Need-sine-requires
+phase-units-requires : tie.Need-phase-units-requires
 unfolding ofBits
-sine-requires c κs = passes _ (sym (c .before .within .ensures) ∙ c .if1 .taken)
+phase-units-requires c κs = passes _ (sym (c .before .within .ensures) ∙ c .if1 .taken)
 
 pub sine-spec : {M : Type 1} → statement M
-sine-spec = tie.close (tie.spec (λ c κs. search needs) sine-requires (λ c κs. search needs) (λ c. search needs) (λ c. search needs))
+sine-spec = tie.close (tie.spec (λ c κs. search needs) phase-units-requires (λ c κs. search needs) (λ c κs. search needs) (λ c. search needs) (λ c. search needs))

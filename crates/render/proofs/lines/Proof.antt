@@ -8,10 +8,10 @@ use Rattle.render.proofs.lines.Statement.{statement}
 use Rattle.render.proofs.lines.Tie as tie
 
 abbrev Inv-loop : tie.InvT-loop
-Inv-loop list start₀ start = start ≤ length list
+Inv-loop to name list start₀ start = start ≤ length list
 
 abbrev μ-loop : tie.MeasureT-loop
-μ-loop list start₀ start = length list - start
+μ-loop to name list start₀ start = length list - start
 
 slice-aggregate-line : tie.Need-slice-aggregate-line Inv-loop μ-loop
 slice-aggregate-line c = sym (length-take-le _ _ (c .before .find2 .ensures .1))

@@ -2,8 +2,9 @@
 use mathlib.Core.Path.{sym, ap, _∙_}
 use borrow.Author.Tests.{not-true, not-false}
 use Rattle.text.specs.Words.{wordAt}
-use Rattle.text.specs.declared.number.Whole.{Whole}
-use Rattle.cards.specs.Line.{floatLine, wholeLine}
+use Rattle.cards.specs.Line.{floatLine, lengthLine}
+use Rattle.cards.specs.Lengths.{lengthOf}
+use Rattle.cards.specs.declared.lengths.Samples.{Samples}
 use borrow.Author.Needs.{needs}
 use Rattle.cards.proofs.line.node_line.Statement.{statement}
 use Rattle.cards.proofs.line.node_line.Tie as tie
@@ -15,22 +16,24 @@ returns c =
 
 returns-2 : tie.Need-returns-2
 returns-2 c =
-    let a = c .before .before .before .before .before .before .args in
-    let n = c .before .before .whole-word in
-    rw (sym (c .before .before .before .before .has-whole .ensures) ∙ not-false _ (c .before .before .before .if1 .left))
-    (rw (not-true (n .result .good) (c .if2 .taken)) at (ap (λ (w : Whole). wholeLine (a .t) w (wordAt 2 (a .line .now))) (n .ensures .1)))
+    let a = c .before .before .before .before .before .before .before .before .before .before .args in
+    let said = c .before .before .before .before .before in
+    let n = c .before .before .before .n .given in
+    rw (sym (c .before .before .before .before .before .before .before .before .has-whole .ensures) ∙ not-false _ (c .before .before .before .before .before .before .before .if1 .left))
+    (c .float-line2 .ensures
+    ∙ ap (floatLine (a .t) (n .0 .0)) (c .before .word-at3 .ensures)
+    ∙ ap (λ (s : Samples). lengthLine (a .t) s (wordAt 2 (a .line .now))) (sym (n .1) ∙ said .length-of .ensures ∙ ap (lengthOf (a .t)) (said .before .word-at2 .ensures)))
 
 returns-3 : tie.Need-returns-3
 returns-3 c =
-    let a = c .before .before .before .before .before .before .before .before .before .args in
-    let n = c .before .before .before .before .before .whole-word in
-    rw (sym (c .before .before .before .before .before .before .before .has-whole .ensures) ∙ not-false _ (c .before .before .before .before .before .before .if1 .left))
-    (c .float-line2 .ensures
-    ∙ ap (floatLine (a .t) (n .result .value)) (c .before .before .word-at2 .ensures)
-    ∙ (rw (not-false (n .result .good) (c .before .before .before .if2 .left)) at (ap (λ (w : Whole). wholeLine (a .t) w (wordAt 2 (a .line .now))) (n .ensures .1))))
+    let a = c .before .before .before .before .before .before .before .before .args in
+    let said = c .before .before .before in
+    rw (sym (c .before .before .before .before .before .before .has-whole .ensures) ∙ not-false _ (c .before .before .before .before .before .if1 .left))
+    (ap (λ (s : Samples). lengthLine (a .t) s (wordAt 2 (a .line .now))) (sym (c .before .reason .given .1) ∙ said .length-of .ensures ∙ ap (lengthOf (a .t)) (said .before .word-at2 .ensures)))
 
 pub node-line-spec : {M : Type 1} → statement M
 node-line-spec =
     tie.close
-    (tie.spec (λ c κs. search needs) (λ c κs. search needs) (λ c κs. search needs) returns (λ c κs. search needs)
-    returns-2 (λ c κs. search needs) (λ c. search needs) (λ c κs. search needs) returns-3)
+    (tie.spec (λ c κs. search needs) (λ c κs. search needs) (λ c κs. search needs) returns
+    (λ c κs. search needs) (λ c κs. search needs) (λ c. search needs) (λ c κs. search needs)
+    (λ c κs. search needs) (λ c. search needs) returns-2 returns-3)

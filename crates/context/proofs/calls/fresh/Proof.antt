@@ -10,7 +10,7 @@ use Rattle.graph.specs.Judge.{readBoard}
 use Rattle.graph.specs.Read.{parsedOf}
 use Rattle.context.specs.Memory.{freshValues, passed}
 use Rattle.context.specs.Calls.{checkLength, changeBy, freshOf}
-use Rattle.context.specs.Parts.{readOpen, putNumbers}
+use Rattle.context.specs.Stages.{readOpen, putNumbers}
 use Rattle.context.proofs.CallCells.{cells-in}
 use Rattle.context.proofs.CallFresh.{numbers-fresh, words-zeros}
 use Rattle.context.proofs.CallBy.{held-only, change-refused, change-done}

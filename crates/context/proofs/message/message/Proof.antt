@@ -9,8 +9,8 @@ use Rattle.leaves.specs.Words.{words}
 use Rattle.graph.specs.Board.{Parsed}
 use Rattle.graph.specs.Read.{parsedOf}
 use Rattle.graph.specs.declared.answer.Answer.{Answer}
-use Rattle.context.specs.Calls.{checkNumber, setNumber, messageOf}
-use Rattle.context.specs.Parts.{readJudged}
+use Rattle.context.specs.Calls.{checkNumber, putNumber, messageOf}
+use Rattle.context.specs.Stages.{readJudged}
 use Rattle.context.proofs.CallCells.{count-nodes}
 use Rattle.context.proofs.CallMessage.{number-told}
 use Rattle.context.proofs.CallBy.{judged-refused, judged-lacking, judged-done}
@@ -22,7 +22,7 @@ abbrev own : tie.Start → Parsed → Answer
 own start p = checkNumber p (start .args .node) (start .args .value)
 
 abbrev change : tie.Start → Parsed → List ℕ
-change start p = setNumber p (start .args .node) (start .args .value) (words (start .args .memory .now))
+change start p = putNumber p (start .args .node) (start .args .value) (words (start .args .memory .now))
 
 returns : tie.Need-returns
 unfolding messageOf

@@ -6,7 +6,7 @@ use borrow.Author.Needs.{needs}
 use native.Mathlib.Omega.{arith}
 use lib.ListN.{length}
 use denote.Ref.{now}
-use Rattle.graph.specs.Parts.{startsWith, isWire}
+use Rattle.graph.specs.BoardParts.{startsWith, isWire}
 use Rattle.graph.specs.declared.record.Found.{Found}
 use Rattle.graph.proofs.Parts.{starts-room, starts-wire, starts-no-wire}
 use Rattle.graph.proofs.board.is_wire.Statement.{statement}

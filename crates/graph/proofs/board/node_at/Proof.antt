@@ -3,7 +3,7 @@ use mathlib.Core.Path.{_≡_, sym, ap, _∙_}
 use mathlib.Core.Bool.{true}
 use borrow.Author.Needs.{needs}
 use denote.Ref.{now}
-use Rattle.graph.specs.Parts.{startsWith, nodeRead}
+use Rattle.graph.specs.BoardParts.{startsWith, nodeRead}
 use Rattle.graph.proofs.Parts.{starts-room, starts-node, starts-no-node}
 use Rattle.graph.proofs.board.node_at.Statement.{statement}
 use Rattle.graph.proofs.board.node_at.Tie as tie

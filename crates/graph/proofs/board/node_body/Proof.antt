@@ -4,7 +4,7 @@ use Prim.Native.Nat.{_+_}
 use denote.Ref.{now}
 use Rattle.leaves.specs.Bytes.{u16At, u32At}
 use Rattle.nodes.specs.Kind.{ruleOf}
-use Rattle.graph.specs.Parts.{nodeRead}
+use Rattle.graph.specs.BoardParts.{nodeRead}
 use borrow.Author.Needs.{needs}
 use Rattle.graph.proofs.board.node_body.Statement.{statement}
 use Rattle.graph.proofs.board.node_body.Tie as tie

@@ -1,7 +1,7 @@
 -- `graph::board::part_end` meets its contract: each arm knows what was found. Assumes nothing.
 use mathlib.Core.Path.{sym, ap, _∙_}
 use borrow.Author.Needs.{needs}
-use Rattle.graph.specs.Parts.{partEnd}
+use Rattle.graph.specs.BoardParts.{partEnd}
 use Rattle.graph.proofs.board.part_end.Statement.{statement}
 use Rattle.graph.proofs.board.part_end.Tie as tie
 

@@ -4,16 +4,16 @@ use mathlib.Core.Path.{_≡_}
 use mathlib.Core.Bool.{false}
 use native.Mathlib.Omega.{arith}
 use borrow.Author.Tests.{not-true}
-use Rattle.graph.specs.Parts.{AllFit}
+use Rattle.graph.specs.BoardParts.{AllFit}
 use Rattle.graph.proofs.Six.{all-more}
 use Rattle.graph.proofs.judge.all_fit.Statement.{statement}
 use Rattle.graph.proofs.judge.all_fit.Tie as tie
 
 abbrev Inv-loop : tie.InvT-loop
-Inv-loop least top counts count wrong₀ i₀ wrong i = (i ≤ count) × (wrong ≡ false → AllFit least top counts i)
+Inv-loop bounds counts count wrong₀ i₀ wrong i = (i ≤ count) × (wrong ≡ false → AllFit bounds counts i)
 
 abbrev μ-loop : tie.MeasureT-loop
-μ-loop least top counts count wrong₀ i₀ wrong i = count - i
+μ-loop bounds counts count wrong₀ i₀ wrong i = count - i
 
 loop-holds : tie.Need-loop-holds Inv-loop μ-loop
 loop-holds c = (omega arith, λ e j b. absurd (omega arith))
@@ -22,7 +22,7 @@ loop-again : tie.Need-loop-again Inv-loop μ-loop
 loop-again c =
     let at = c .before .before .before .before .before in
     let a = at .before .args in
-    (omega arith, all-more (a .least .now) (a .top .now) (a .counts .now) (at .loop .i) (at .loop .wrong) (at .loop .inv .1))
+    (omega arith, all-more (a .bounds .now) (a .counts .now) (at .loop .i) (at .loop .wrong) (at .loop .inv .1))
 
 returns : tie.Need-returns Inv-loop μ-loop
 returns c = λ e.

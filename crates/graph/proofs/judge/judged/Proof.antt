@@ -6,21 +6,29 @@ use mathlib.Core.List.{List}
 use native.Mathlib.Omega.{arith}
 use borrow.Author.Tests.{not-true, not-false}
 use lib.ListN.{length, getD}
-use Rattle.graph.specs.Board.{Parsed, refused}
+use Rattle.graph.specs.Board.{Parsed, Progress, refused}
 use Rattle.graph.specs.Judge.{passAt, checkSources, checkSix}
-use Rattle.graph.specs.Parts.{AllFit, Counts}
-use Rattle.graph.proofs.Answers.{accepted-as, refused-as}
+use Rattle.graph.specs.BoardParts.{orRefused, AllFit, Counts}
+use Rattle.graph.proofs.Answers.{accepted-as, refused-as, or-accepts, or-refuses}
 use Rattle.graph.proofs.Six.{six-none, six-no-pass, six-entered, six-open, check-all}
 use borrow.Author.Needs.{needs}
 use Rattle.graph.proofs.judge.judged.Statement.{statement}
 use Rattle.graph.proofs.judge.judged.Tie as tie
 
+-- the records ended well
+module _ (c : tie.Else1) where
+  abbrev start : tie.Start
+  start = c .before .before
+
+  on : (v : Progress) → orRefused (start .args .ended) v ≡ v
+  on v = or-accepts (start .args .ended) v (c .if1 .left)
+
 -- the input node is one of the nodes
-there : (c : tie.Else2) → c .before .before .args .input < c .before .before .args .count
-there c = c .before .before .pre .2 (not-false _ (c .if2 .left))
+there : (c : tie.Else3) → start (c .before .before) .args .input < start (c .before .before) .args .count
+there c = start (c .before .before) .pre .2 (not-false _ (c .if3 .left))
 
 -- a board as the contract speaks of it
-module _ (p : Parsed) (count input : ℕ) (least top counts : List ℕ) (n : length (p .nodes) ≡ count) (i : p .input ≡ input) (h : Counts p least top counts)
+module _ (p : Parsed) (count input : ℕ) (bounds counts : List ℕ) (n : length (p .nodes) ≡ count) (i : p .input ≡ input) (h : Counts p bounds counts)
     (some : count ≡ 0 → ⊥) where
   nodes-some : length (p .nodes) ≡ 0 → ⊥
   nodes-some e = some (sym n ∙ e)
@@ -36,31 +44,34 @@ module _ (p : Parsed) (count input : ℕ) (least top counts : List ℕ) (n : len
     open-in e = six-open p nodes-some (rw i pass) counts (h .counted (p .input) (omega arith)) (rw i e)
 
 returns : tie.Need-returns
-returns c = λ p n i b h. six-none p (n ∙ c .before .if1 .taken) ∙ refused-as _ (c .new .ensures) (omega arith)
+returns c = λ p n i b h. or-refuses _ _ (c .if1 .taken) ∙ sym (or-refuses _ _ (c .if1 .taken))
 
 returns-2 : tie.Need-returns-2
-returns-2 c = λ p n i b h.
-    no-pass p _ _ _ _ _ n i h (c .before .before .if1 .left) (b ∙ not-true _ (c .before .if2 .taken)) ∙ refused-as _ (c .new2 .ensures) (omega arith)
+returns-2 c = λ p n i b h. on (c .before .before) _ ∙ six-none p (n ∙ c .before .if2 .taken) ∙ refused-as _ (c .new .ensures) (omega arith)
 
 returns-3 : tie.Need-returns-3
 returns-3 c = λ p n i b h.
-    let t = c .before .before .before in
-    entered p _ _ _ _ _ n i h (t .before .if1 .left) (b ∙ not-false _ (t .if2 .left)) (there t) (c .before .if3 .taken) ∙ refused-as _ (c .new3 .ensures) (omega arith)
+    on (c .before .before .before) _ ∙ no-pass p _ _ _ _ n i h (c .before .before .if2 .left) (b ∙ not-true _ (c .before .if3 .taken)) ∙ refused-as _ (c .new2 .ensures) (omega arith)
 
 returns-4 : tie.Need-returns-4
 returns-4 c = λ p n i b h.
-    let t = c .before .before .before .before .before in
-    open-in p _ _ _ _ _ n i h (t .before .if1 .left) (b ∙ not-false _ (t .if2 .left)) (there t) (c .before .before .before .if3 .left)
-    ∙ check-all p _ _ _ h (rw n (c .before .before .all-fit .ensures (c .before .if4 .taken))) ∙ accepted-as _ (c .new4 .ensures)
+    let t = c .before .before .before in
+    on (t .before .before) _ ∙ entered p _ _ _ _ n i h (t .before .if2 .left) (b ∙ not-false _ (t .if3 .left)) (there t) (c .before .if4 .taken) ∙ refused-as _ (c .new3 .ensures) (omega arith)
 
 returns-5 : tie.Need-returns-5
 returns-5 c = λ p n i b h.
     let t = c .before .before .before .before .before in
-    open-in p _ _ _ _ _ n i h (t .before .if1 .left) (b ∙ not-false _ (t .if2 .left)) (there t) (c .before .before .before .if3 .left)
+    on (t .before .before) _ ∙ open-in p _ _ _ _ n i h (t .before .if2 .left) (b ∙ not-false _ (t .if3 .left)) (there t) (c .before .before .before .if4 .left)
+    ∙ check-all p _ _ h (rw n (c .before .before .all-fit .ensures (c .before .if5 .taken))) ∙ accepted-as _ (c .new4 .ensures)
+
+returns-6 : tie.Need-returns-6
+returns-6 c = λ p n i b h.
+    let t = c .before .before .before .before .before in
+    on (t .before .before) _ ∙ open-in p _ _ _ _ n i h (t .before .if2 .left) (b ∙ not-false _ (t .if3 .left)) (there t) (c .before .before .before .if4 .left)
     ∙ c .sources-judged .ensures p n h
 
 pub judged-spec : {M : Type 1} → statement M
 judged-spec =
     tie.close
-    (tie.spec (λ c κs. search needs) returns (λ c κs. search needs) returns-2 (λ c. omega (arith, there c)) (λ c κs. search needs) returns-3
-    (λ c κs. search needs) (λ c κs. search needs) (λ c κs. search needs) returns-4 returns-5)
+    (tie.spec returns (λ c κs. search needs) returns-2 (λ c κs. search needs) returns-3 (λ c. omega (arith, there c)) (λ c κs. search needs) returns-4
+    (λ c κs. search needs) (λ c κs. search needs) (λ c κs. search needs) returns-5 returns-6)

@@ -1,8 +1,15 @@
--- `graph::judge::read_board` meets its contract: where the head or the nodes are refused the board is, and else the rest decides. Assumes
--- nothing.
+-- `graph::judge::read_board` meets its contract: where the head or the nodes are refused the board is; else the records come to the board
+-- that the parts make, and the end record and check 6 decide of it. Assumes nothing.
+use mathlib.Core.Path.{_≡_, refl, sym, _∙_}
+use mathlib.Core.Bool.{true}
+use Prim.Native.Nat.{_<_}
+use native.Mathlib.Omega.{arith}
 use borrow.Author.Needs.{needs}
-use Rattle.graph.proofs.Joined.{read-as, head-refuses, head-inside, nodes-refuse}
-use Rattle.graph.proofs.Six.{six-refused}
+use lib.ListN.{length, take}
+use Rattle.graph.specs.Judge.{passAt}
+use Rattle.graph.proofs.Tabling.{tabled-none}
+use Rattle.graph.proofs.Joined.{read-as, head-refuses, head-inside, nodes-refuse, made, made-sound, made-counts}
+use Rattle.graph.proofs.Six.{counted, pass-asked, six-ended, six-refused}
 use Rattle.graph.proofs.judge.read_board.Statement.{statement}
 use Rattle.graph.proofs.judge.read_board.Tie as tie
 
@@ -22,14 +29,49 @@ returns-2 c =
     let head = nodes .before .before .before .before in
     read-as (six-refused _ _ _ (nodes-refuse _ _ (head .read-head .ensures) (nodes .before .if1 .left) _ (nodes .read-nodes .ensures) (c .before .if2 .taken))) (c .refusal2 .ensures)
 
-read-rest-requires : tie.Need-read-rest-requires
-read-rest-requires c κs =
-    let nodes = c .before .before .before in
-    let head = nodes .before .before .before .before in
-    ((head .read-head .ensures, nodes .before .if1 .left), (nodes .read-nodes .ensures, c .if2 .left))
+read-wires-requires : tie.Need-read-wires-requires
+read-wires-requires c κs =
+    let nodes = c .before .before .before .before .before .before .before .before .read-nodes .ensures in
+    ((nodes .few, omega (arith, nodes .next-is, nodes .few), nodes .inside, refl, refl), tabled-none)
+
+read-end-requires : tie.Need-read-end-requires
+read-end-requires c κs =
+    let nodes = c .before .before .before .before .before .before .before .before .before .read-nodes .ensures in
+    let wires = c .read-wires .ensures .0 in
+    omega (arith, wires .next-is, wires .few, nodes .next-is, nodes .few)
+
+index-of-requires : tie.Need-index-of-requires
+index-of-requires c κs = c .before .before .before .before .before .before .before .before .before .before .read-nodes .ensures .few
+
+-- whether the input node is there and a pass
+asked : (c : tie.After-pass-at) →
+    let n = c .before .before .before .before .before .before .before .before .before .before .before .before .before .read-nodes .result in
+    let h = c .before .before .before .before .before .before .before .before .before .before .before .before .before .before .before .before .before .read-head .result in
+    (passAt (take (n .count) (n .nodes)) (h .input) ≡ c .pass-at .result) × (c .pass-at .result ≡ true → h .input < n .count)
+asked c =
+    let n = c .before .before .before .before .before .before .before .before .before .before .before .before .before .read-nodes in
+    pass-asked (n .result .nodes) (n .result .count) (omega (arith, n .ensures .long, n .ensures .few)) _ _ _ (c .before .before .index-of .ensures .1) (c .pass-at .ensures)
+
+judged-requires : tie.Need-judged-requires
+judged-requires c κs = (c .before .before .before .before .before .before .before .before .before .before .before .before .before .before .before .before .before .read-nodes .ensures .few, c .before .before .before .before .before .before .before .before .before .before .before .before .before .before .before .before .before .before .before .before .before .read-head .ensures .input-small, asked (c .before .before .before .before) .1)
+
+returns-3 : tie.Need-returns-3
+returns-3 c =
+    let head = c .before .before .before .before .before .before .before .before .before .before .before .before .before .before .before .before .before .before .before .before .before .before .read-head in
+    let nodes = c .before .before .before .before .before .before .before .before .before .before .before .before .before .before .before .before .before .before .read-nodes in
+    let wires = c .before .before .before .before .before .before .before .before .before .read-wires in
+    let ended = c .before .before .before .before .before .before .before .before .read-end in
+    let n = nodes .result in
+    let total : length (take (n .count) (n .nodes)) ≡ n .count = counted (n .nodes) (n .count) (omega (arith, nodes .ensures .long, nodes .ensures .few)) in
+    record {
+      reading =
+          six-ended _ (ended .result) _ (made _ _ (head .ensures) (c .before .before .before .before .before .before .before .before .before .before .before .before .before .before .before .before .before .before .before .if1 .left) _ (nodes .ensures) (c .before .before .before .before .before .before .before .before .before .before .before .before .before .before .before .if2 .left) _ _ _ (wires .ensures .0) (ended .result) (ended .ensures))
+          ∙ c .judged .ensures _ total refl (asked (c .before .before .before .before .before) .0) (made-counts _ (head .result) n _ _ _ _ (nodes .ensures) (wires .ensures .1));
+      sound = made-sound _ (head .result) n _ _ _ _ _ _ _ (head .ensures .small, head .ensures .input-small) (nodes .ensures) (wires .ensures .0) (wires .ensures .1);
+    }
 
 pub read-board-spec : {M : Type 1} → statement M
 read-board-spec =
     tie.close
-    (tie.spec (λ c κs. search needs) (λ c κs. search needs) returns read-nodes-requires (λ c κs. search needs) returns-2 read-rest-requires
-    (λ c. search needs))
+    (tie.spec (λ c κs. search needs) (λ c κs. search needs) returns read-nodes-requires (λ c κs. search needs) returns-2 read-wires-requires
+    read-end-requires index-of-requires (λ c. search needs) (λ c. search needs) (λ c κs. search needs) judged-requires returns-3)

@@ -5,18 +5,18 @@ use native.Mathlib.Omega.{arith}
 use lib.ListN.{length, drop}
 use Rattle.graph.specs.Board.{Parsed}
 use Rattle.graph.specs.Judge.{checkSources}
-use Rattle.graph.specs.Parts.{Counts}
+use Rattle.graph.specs.BoardParts.{Counts}
 use Rattle.graph.proofs.Answers.{accepted-as, refused-as}
 use Rattle.graph.proofs.Six.{check-next, check-wrong, check-end}
 use Rattle.graph.proofs.judge.sources_judged.Statement.{statement}
 use Rattle.graph.proofs.judge.sources_judged.Tie as tie
 
 abbrev Inv-loop : tie.InvT-loop
-Inv-loop least top counts count i₀ i =
-    (i ≤ count) × ((p : Parsed) → length (p .nodes) ≡ count → Counts p least top counts → checkSources p i (drop i (p .nodes)) ≡ checkSources p 0 (p .nodes))
+Inv-loop bounds counts count i₀ i =
+    (i ≤ count) × ((p : Parsed) → length (p .nodes) ≡ count → Counts p bounds counts → checkSources p i (drop i (p .nodes)) ≡ checkSources p 0 (p .nodes))
 
 abbrev μ-loop : tie.MeasureT-loop
-μ-loop least top counts count i₀ i = count - i
+μ-loop bounds counts count i₀ i = count - i
 
 loop-holds : tie.Need-loop-holds Inv-loop μ-loop
 loop-holds c = (omega arith, λ p n h. refl)
@@ -27,17 +27,17 @@ new-requires c κs = omega arith
 returns : tie.Need-returns Inv-loop μ-loop
 returns c = λ p n h.
     let at = c .before .before .before .before .before .before .before in
-    sym (at .loop .inv .1 p n h) ∙ check-wrong p _ _ _ h (at .loop .i) (omega (arith, n)) (c .before .if1 .taken) ∙ refused-as _ (c .new .ensures) (omega arith)
+    sym (at .loop .inv .1 p n h) ∙ check-wrong p _ _ h (at .loop .i) (omega (arith, n)) (c .before .if1 .taken) ∙ refused-as _ (c .new .ensures) (omega arith)
 
 loop-again : tie.Need-loop-again Inv-loop μ-loop
 loop-again c =
     let at = c .before .before .before .before .before .before in
-    (omega arith, λ p n h. check-next p _ _ _ h (at .loop .i) (omega (arith, n)) (c .if1 .left) ∙ at .loop .inv .1 p n h)
+    (omega arith, λ p n h. check-next p _ _ h (at .loop .i) (omega (arith, n)) (c .if1 .left) ∙ at .loop .inv .1 p n h)
 
 returns-2 : tie.Need-returns-2 Inv-loop μ-loop
 returns-2 c = λ p n h.
     let all : length (p .nodes) ≡ c .before .before .loop .i = omega (arith, n) in
-    sym (c .before .before .loop .inv .1 p n h) ∙ rw (← all) (check-end p _ _ _ h) ∙ accepted-as _ (c .new2 .ensures)
+    sym (c .before .before .loop .inv .1 p n h) ∙ rw (← all) (check-end p _ _ h) ∙ accepted-as _ (c .new2 .ensures)
 
 pub sources-judged-spec : {M : Type 1} → statement M
 sources-judged-spec =

@@ -16,14 +16,16 @@ chosen : (n size : ℕ) (f : Float) (x m : List Float) (ws vs : List ℕ) (two b
 chosen n size f x m ws vs two b e h = rw e h
 
 returns : tie.Need-returns
-returns c f =
-    let a = c .before .before .before .before .before .before .before .before .args in
-    chosen _ _ f (a .x .now) (a .m .now) _ _ _ true (c .before .before .before .before .if1 .taken) (c .before .before .run-modulated .ensures f)
+returns c =
+    let r = c .before .before in
+    let a = r .before .before .before .before .before .before .before .args in
+    (λ f. chosen _ _ f (a .x .now) (a .m .now) _ _ _ true (r .before .before .before .if1 .taken) (r .run-modulated .ensures .0 f), r .run-modulated .ensures .1)
 
 returns-2 : tie.Need-returns-2
-returns-2 c f =
-    let a = c .before .before .before .before .before .before .before .before .args in
-    chosen _ _ f (a .x .now) (a .m .now) _ _ _ false (c .before .before .before .before .if1 .left) (c .before .before .run .ensures f)
+returns-2 c =
+    let r = c .before .before in
+    let s = r .before .before .before .before .before .before in
+    (λ f. chosen _ _ f (s .args .x .now) (s .args .m .now) _ _ _ false (r .before .before .if1 .left) (r .run .ensures f), s .pre .4)
 
 pub all-pass-spec : {M : Type 1} → statement M
 all-pass-spec = tie.close

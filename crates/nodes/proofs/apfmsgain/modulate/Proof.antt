@@ -1,29 +1,26 @@
 -- `nodes::apfmsgain::modulate` meets its contract: the neighbours that it reads are those of the rule. Assumes nothing.
 use mathlib.Core.Path.{_≡_, refl, sym, ap, _∙_}
 use mathlib.Core.List.{List}
-use Prim.Native.Nat.{ℕ, _+_, _%_, _^_, _<_}
+use Prim.Native.Nat.{ℕ, _+_, _%_, _<_}
 use native.Mathlib.Omega.{arith}
 use lib.ListN.{length, set}
 use lib.Ieee.{Float, binary32, ofBits, toBits}
 use Rattle.leaves.specs.Words.{words, length-words}
 use Rattle.leaves.specs.Floats.{floatAt}
-use Rattle.leaves.specs.Floors.{floorOf}
-use Rattle.leaves.specs.Position.{positionOf, restOf}
-use Rattle.leaves.proofs.Floors.{upto-more, floor-le}
+use Rattle.leaves.specs.Position.{positionOf}
 use Rattle.nodes.specs.Kind.{cellSize, samplesFrom, numberIndex}
 use Rattle.nodes.specs.Rule.{allPass, between, tap, get}
-use Rattle.nodes.specs.Block.{sample, pair}
+use Rattle.nodes.specs.Block.{sample, Split, pair}
 use Rattle.nodes.specs.Ring.{wrapOf, stretchValues}
 use Rattle.nodes.specs.declared.kind.NodeKind.the-variants.{AllPass}
 use Rattle.nodes.proofs.Rings.{wrap-below, all-pass-ring, stretch-none, float-at, tap-two, all-pass-reads, all-pass-then}
-use Rattle.nodes.proofs.Answers.{next2, next3, next4, next10}
+use Rattle.nodes.proofs.Answers.{next3, next4, next5, next10}
 use Rattle.nodes.proofs.apfmsgain.modulate.Statement.{statement}
 use Rattle.nodes.proofs.apfmsgain.modulate.Tie as tie
 
 -- the sample: what it reads, its output and its three stores
-sample-by : (n size place i : ℕ) (f : Float) (x m : List Float) (ws us ts rs : List ℕ) (g a b o pos rest : Float) (index older newer y : ℕ)
-    → pos ≡ positionOf (sample m i) n
-    → (index ≡ floorOf pos) × (rest ≡ restOf pos)
+sample-by : (n size place i : ℕ) (f : Float) (x m : List Float) (ws us ts rs : List ℕ) (g a b o rest : Float) (index older newer y : ℕ)
+    → Split (positionOf (sample m i) n) index rest
     → (older ≡ (place + index) % n) × (older < n)
     → newer ≡ wrapOf (older + 1) n
     → a ≡ between (floatAt ws (samplesFrom + size + older)) (floatAt ws (samplesFrom + size + newer)) rest
@@ -35,7 +32,7 @@ sample-by : (n size place i : ℕ) (f : Float) (x m : List Float) (ws us ts rs :
     → rs ≡ set ts (samplesFrom + i) y
     → g ≡ floatAt ws numberIndex → length ws ≡ cellSize size (AllPass n f) → place < n → i < size
     → rs ≡ stretchValues (AllPass n f) size (pair x m) place i 1 ws
-sample-by n size place i f x m ws us ts rs g a b o pos rest index older newer y e-pos e-at e-older e-newer e-a e-b e-o e-y e-us e-ts e-rs e-g long in-ring in-block =
+sample-by n size place i f x m ws us ts rs g a b o rest index older newer y e-at e-older e-newer e-a e-b e-o e-y e-us e-ts e-rs e-g long in-ring in-block =
     all-pass-then n f size (pair x m) ws place i 0 i _ y _ _ _ ws us ts rs (stretch-none (AllPass n f) n (all-pass-ring n f) size (pair x m) ws long place i)
     e-us e-ts e-rs refl (λ q c h v.
     let s = c .state in
@@ -46,7 +43,7 @@ sample-by n size place i f x m ws us ts rs g a b o pos rest index older newer y 
     e-z
     ∙ (λ t. between (float-at size q c (h .samples) ws v (from + older) (at + older) (omega arith) t)
     (float-at size q c (h .samples) ws v (from + newer) (at + newer) (omega arith) t) rest)
-    ∙ tap-two n from s (pair x m i) index older newer rest refl (e-at .0 ∙ ap floorOf e-pos) (e-at .1 ∙ ap restOf e-pos) (e-older .0 ∙ ap (λ (p : ℕ). (p + index) % n) here)
+    ∙ tap-two n from s (pair x m i) index older newer rest refl (e-at .0) (e-at .1) (e-older .0 ∙ ap (λ (p : ℕ). (p + index) % n) here)
     e-newer (e-older .1) in
     e-y
     ∙ ap (toBits binary32)
@@ -54,43 +51,35 @@ sample-by n size place i f x m ws us ts rs g a b o pos rest index older newer y 
     (read 0 (samplesFrom + size) a (omega arith) e-a) (read n (samplesFrom + size + n) b refl e-b)))
     long (omega arith) in-block (omega arith) (omega arith) (omega arith) refl
 
-split-requires : tie.Need-split-requires
-split-requires c κs =
-    let s = c .before .before in
-    upto-more (s .args .n) (2 ^ 24) (sample (s .args .p .now) (s .args .i)) (omega arith) (s .pre .6)
-
-wrapped-requires : tie.Need-wrapped-requires
-wrapped-requires c κs =
-    let s = c .before .before .before .before in
-    (omega arith, omega (arith, c .before .split .ensures .0, floor-le (sample (s .args .p .now) (s .args .i)) (s .args .n) (s .pre .6)))
-
 between-requires : tie.Need-between-requires
 between-requires c κs =
-    let a = c .before .before .before .before .before .before .before .args in
-    let newer = wrap-below (a .n) (c .before .before .wrapped .result + 1) (omega arith) in
-    (omega arith, omega (arith, c .before .wrap .ensures, newer))
+    let w = c .before .before in
+    let a = w .before .before .before .before .args in
+    let newer = wrap-below (a .n) (w .before .wrapped .result + 1) (omega arith) in
+    (omega arith, omega (arith, w .wrap .ensures, newer))
 
 between-requires-2 : tie.Need-between-requires-2
 between-requires-2 c κs =
-    let a = c .before .before .before .before .before .before .before .before .before .args in
-    let newer = wrap-below (a .n) (c .before .before .before .before .wrapped .result + 1) (omega arith) in
-    (omega arith, omega (arith, c .before .before .before .wrap .ensures, newer))
+    let w = c .before .before .before .before .before in
+    let a = w .before .before .before .before .args in
+    let newer = wrap-below (a .n) (w .before .wrapped .result + 1) (omega arith) in
+    (omega arith, omega (arith, w .wrap .ensures, newer))
 
 returns : tie.Need-returns
 returns c f m e =
     let p = c .before .before .before .before .before .before in
     let t = p .before .before .before .before in
     let r = t .before .before .before in
-    let w = r .before .before .before .before .before .before .before in
-    let s = w .before .before .before .before .before .before in
+    let w = r .before .before .before .before .before .before .before .before .before in
+    let s = w .before .before .before .before in
     let a = s .args in
-    sample-by (a .n) (a .size) (a .place) (a .i) f (a .x .now) m (words (a .cell .now)) _ _ _ _ _ _ _ _ _ _ _ _ _ e (w .before .before .before .split .ensures)
-    (w .before .wrapped .ensures) (w .wrap .ensures) (r .before .before .before .before .before .between .ensures) (r .before .before .before .between2 .ensures)
+    sample-by (a .n) (a .size) (a .place) (a .i) f (a .x .now) m (words (a .cell .now)) _ _ _ _ _ _ _ _ _ _ _ _ e
+    (w .before .wrapped .ensures) (w .wrap .ensures) (r .before .before .before .before .before .before .between .ensures) (r .before .before .before .between2 .ensures)
     (r .before .output .ensures) (r .to-bits .ensures) (t .store .ensures) (p .put-word .ensures) (c .before .before .put-word2 .ensures)
     (s .pre .5) (omega (arith, length-words (a .cell .now), s)) (omega (arith, s)) (omega (arith, s))
 
 pub modulate-spec : {M : Type 1} → statement M
 modulate-spec =
     tie.close
-    (next4 (next10 (next3 (next2 tie.spec (omega arith) split-requires (λ c. omega arith) wrapped-requires)
-    (omega arith) between-requires (λ c. omega arith) between-requires-2) (omega arith)) (omega arith) returns)
+    (next4 (next10 (next3 (next5 (next4 tie.spec (omega arith))
+    (omega arith) between-requires) (omega arith) between-requires-2) (omega arith)) (omega arith) returns)

@@ -5,6 +5,7 @@ use mathlib.Core.List.{List}
 use Prim.Native.Nat.{ℕ}
 use native.Mathlib.Omega.{arith}
 use denote.Ref.{now}
+use lib.ListN.{length}
 use Rattle.nodes.specs.Node.{CellReady}
 use Rattle.nodes.specs.declared.kind.NodeKind.{NodeKind}
 use Rattle.nodes.proofs.Alike.{mul-reads, add-reads, delay-reads, all-pass-reads, one-pole-reads, sine-reads}
@@ -23,10 +24,14 @@ runs s vs k = Runs (now (s .args .cell)) (s .args .size) (s .args .count) (now (
 -- the same in the arm of the type k
 module _ (s : tie.Start) {k : NodeKind} (e : s .args .kind ≡ k) where
   ready : asked s k
-  ready = subst (asked s) e (s .pre)
+  ready = subst (asked s) e (s .pre .0)
 
-  shown : {vs : List ℕ} → (asked s k → runs s vs k) → runs s vs (s .args .kind)
-  shown {vs} r = subst (runs s vs) (sym e) (r ready)
+  told : {vs : List ℕ} → (asked s k → runs s vs k) → runs s vs (s .args .kind)
+  told {vs} r = subst (runs s vs) (sym e) (r ready)
+
+  -- with m as it was
+  shown : {vs : List ℕ} → (asked s k → runs s vs k) → runs s vs (s .args .kind) × (length (now (s .args .m)) ≡ 128)
+  shown r = (told r, s .pre .1)
 
 pub run-cell-spec : {M : Type 1} → statement M
 run-cell-spec =
@@ -37,19 +42,19 @@ run-cell-spec =
     (λ c κs. let t = c .before .before in let r = ready (t .before .before .before) (t .enum-told .given .1) in omega arith)
     (λ c. search needs)
     (λ c κs. let t = c .before in let r = ready (t .before .before .before) (t .enum-told2 .given .1) in omega arith)
-    (λ c κs. let t = c .before in let w = stereo-whole (t .match .keys3) (t .before .before .pre) in omega arith)
+    (λ c κs. let t = c .before in let w = stereo-whole (t .match .keys3) (t .before .before .pre .0) in omega arith)
     (λ c. search needs)
-    (λ c κs. let t = c .before .before .before .before .before in let w = stereo-whole (t .match .keys3) (t .before .before .pre) in omega arith)
+    (λ c κs. let t = c .before .before .before .before .before .before in let w = stereo-whole (t .match .keys3) (t .before .before .pre .0) in omega arith)
     (λ c. search needs)
-    (λ c κs. let t = c .before .before in let r = ready (t .before .before .before) (t .kind .given .1) in omega arith)
+    (λ c κs. let t = c .before .before .before in let r = ready (t .before .before .before) (t .kind .given .1) in omega arith)
     (λ c. search needs)
-    (λ c κs. let t = c .before .before in let r = ready (t .before .before .before) (t .kind2 .given .1) in omega arith)
+    (λ c κs. let t = c .before .before .before in let r = ready (t .before .before .before) (t .kind2 .given .1) in omega arith)
     (λ c. search needs)
     (λ c. search needs)
     (λ c κs. let t = c .before .before in let r = ready (t .before .before .before) (t .kind3 .given .1) in omega (arith, delay-place r))
     (λ c. search needs)
     (λ c. search needs)
-    (λ c κs. let t = c .before .before in let r = ready (t .before .before .before) (t .kind4 .given .1) in omega (arith, all-pass-place r))
+    (λ c κs. let t = c .before .before .before in let r = ready (t .before .before .before) (t .kind4 .given .1) in omega (arith, all-pass-place r))
     (λ c. search needs)
     (λ c κs. let t = c .before .before in let r = ready (t .before .before .before) (t .kind5 .given .1) in omega arith)
     (λ c. search needs)
@@ -61,15 +66,15 @@ run-cell-spec =
     (λ c. search needs)
     (λ c. let t = c .before .before .before .before in shown (t .before .before .before) (t .enum-told2 .given .1) (λ r. sum-runs r (c .before .before .put2 .ensures)))
     (λ c. search needs)
-    (λ c. let p = c .before .before .before .before .before .before in let t = p .before .before in stereo-runs (t .match .keys3) (t .before .before .pre) (p .put3 .ensures) (c .before .before .put4 .ensures))
+    (λ c. let p = c .before .before .before .before .before .before .before in let t = p .before .before in (stereo-runs (t .match .keys3) (t .before .before .pre .0) (p .put3 .ensures) (c .before .before .put4 .ensures), t .before .before .pre .1))
     (λ c. search needs)
-    (λ c. let t = c .before .before .before .before .before in shown (t .before .before .before) (t .kind .given .1) (λ r. given-runs (mul-reads _) r (omega arith) (c .before .before .mul .ensures _)))
+    (λ c. let t = c .before .before .before .before .before .before in shown (t .before .before .before) (t .kind .given .1) (λ r. given-runs (mul-reads _) r (omega arith) (c .before .before .mul .ensures _)))
     (λ c. search needs)
-    (λ c. let t = c .before .before .before .before .before in shown (t .before .before .before) (t .kind2 .given .1) (λ r. given-runs (add-reads _) r (omega arith) (c .before .before .add .ensures _)))
+    (λ c. let t = c .before .before .before .before .before .before in shown (t .before .before .before) (t .kind2 .given .1) (λ r. given-runs (add-reads _) r (omega arith) (c .before .before .add .ensures _)))
     (λ c. search needs)
     (λ c. let t = c .before .before .before .before .before in shown (t .before .before .before) (t .kind3 .given .1) (λ r. alone-runs (delay-reads _) r refl refl (c .before .before .delay .ensures)))
     (λ c. search needs)
-    (λ c. let t = c .before .before .before .before .before in shown (t .before .before .before) (t .kind4 .given .1) (λ r. given-runs (all-pass-reads _ _) r (omega arith) (c .before .before .all-pass .ensures _)))
+    (λ c. let t = c .before .before .before .before .before .before in (told (t .before .before .before) (t .kind4 .given .1) (λ r. given-runs (all-pass-reads _ _) r (omega arith) (c .before .before .all-pass .ensures .0 _)), c .before .before .all-pass .ensures .1))
     (λ c. search needs)
     (λ c. let t = c .before .before .before .before .before in shown (t .before .before .before) (t .kind5 .given .1) (λ r. alone-runs (one-pole-reads _) r refl refl (c .before .before .one-pole .ensures)))
     (λ c. search needs)

@@ -23,15 +23,17 @@ run-cell-requires c κs =
     let k = cellSize (s .args .size) (s .args .node .kind) in
     let at = s .args .node .cell in
     let r = 4 * at + 4 * (c .before .before .before .cell-size .result) - 4 * at in
-    let e : r ≡ 4 * k = omega arith in
-    record {
-      above = ready .above;
-      small = ready .small;
-      line = ready .line;
-      whole = lent-long m at k r e (ready .inside);
-      judged = subst (λ (ws : List ℕ). cellFits (s .args .node .kind) ws ≡ true) (sym (words-part m at k r e)) (ready .judged);
-      counted = ready .counted;
-    }
+    let e : r ≡ 4 * k = omega arith in (
+      record {
+        above = ready .above;
+        small = ready .small;
+        line = ready .line;
+        whole = lent-long m at k r e (ready .inside);
+        judged = subst (λ (ws : List ℕ). cellFits (s .args .node .kind) ws ≡ true) (sym (words-part m at k r e)) (ready .judged);
+        counted = ready .counted;
+      },
+      c .before .before .before .before .before .bring .ensures .1 .1,
+    )
 
 returns : tie.Need-returns
 unfolding nodeRun
@@ -42,8 +44,8 @@ returns c =
     let brings = broughtAt (words (now (s .args .memory))) (now (s .args .lefts)) (now (s .args .rights)) (now (s .args .list)) (s .args .second) in
     let r = 4 * at + 4 * (c .before .before .before .before .before .before .cell-size .result) - 4 * at in (
       lent-run (runValues (s .args .node .kind) (s .args .size) brings) (now (s .args .memory)) (c .before .before .run-cell .last .0) at (cellSize (s .args .size) (s .args .node .kind)) r (omega arith) (ready .inside)
-          (c .before .before .run-cell .kept .0) (c .before .before .run-cell .ensures brings (c .before .before .before .before .before .before .before .before .bring .ensures .0)),
-      c .before .before .before .before .before .before .before .before .bring .ensures .1,
+          (c .before .before .run-cell .kept .0) (c .before .before .run-cell .ensures .0 brings (c .before .before .before .before .before .before .before .before .bring .ensures .0)),
+      (c .before .before .before .before .before .before .before .before .bring .ensures .1 .0, c .before .before .run-cell .ensures .1),
     )
 
 pub step-spec : {M : Type 1} → statement M

@@ -2,7 +2,7 @@
 use mathlib.Core.Path.{ap, _∙_}
 use native.Mathlib.Omega.{arith}
 use lib.Ieee.{ofBits}
-use Rattle.context.specs.Calls.{setNumber}
+use Rattle.context.specs.Calls.{putNumber}
 use Rattle.graph.specs.Read.{parsedOf}
 use Rattle.plate.specs.Plate.{dryOf}
 use borrow.Author.Needs.{needs}
@@ -36,7 +36,7 @@ returns c =
     let p = parsedOf (start .board) in
     let dry = dryOf (start .mix) in
     c .before .before .put-number4 .ensures
-    ∙ ap (setNumber p 49 dry) (c .before .before .before .before .before .before .put-number3 .ensures ∙ ap (setNumber p 43 dry) (c .before .before .before .before .before .before .before .before .before .before .put-number2 .ensures ∙ ap (setNumber p 47 (start .mix)) (c .before .before .before .before .before .before .before .before .before .before .before .before .before .before .put-number .ensures)))
+    ∙ ap (putNumber p 49 dry) (c .before .before .before .before .before .before .put-number3 .ensures ∙ ap (putNumber p 43 dry) (c .before .before .before .before .before .before .before .before .before .before .put-number2 .ensures ∙ ap (putNumber p 47 (start .mix)) (c .before .before .before .before .before .before .before .before .before .before .before .before .before .before .put-number .ensures)))
 
 pub put-mix-spec : {M : Type 1} → statement M
 put-mix-spec =

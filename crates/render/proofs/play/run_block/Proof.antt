@@ -46,7 +46,7 @@ slice-aggregate-write-frames : tie.Need-slice-aggregate-write-frames
 slice-aggregate-write-frames c = sym (length-take-le _ _ (within (c .before)))
 
 write-frames-requires : tie.Need-write-frames-requires
-write-frames-requires c κs = (c .before .before .before .before .before .before .before .before .before .before .before .before .before .before .before .before .before .before .before .before .before .before .before .before .pre .most-size, length-take-le _ _ (within (c .before)))
+write-frames-requires c κs = (c .before .before .before .before .before .before .before .before .before .before .before .before .before .before .before .before .before .before .before .before .before .before .before .before .pre, length-take-le _ _ (within (c .before)))
 
 pub run-block-spec : {M : Type 1} → statement M
 run-block-spec =

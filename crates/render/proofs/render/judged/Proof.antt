@@ -10,10 +10,10 @@ use Rattle.render.proofs.render.judged.Tie as tie
 
 through-requires : tie.Need-through-requires
 through-requires c κs =
-    let start = c .before .before .before .before .before .before .before .before .before .before in
+    let start = c .before .before .before .before .before .before .before .before .before in
     let read = c .before .before .before .before .read-board in
     let fine : Fine (parsedOf (read .result)) =
-    fine-board (start .args .board .now) (λ i. omega (arith, c .before .before .before .before .before .before .before .before .before .shared-slice-known .given i)) (parsedOf (read .result))
+    fine-board (start .args .board .now) (λ i. omega (arith, c .before .before .before .before .before .before .before .before .shared-slice-known .given i)) (parsedOf (read .result))
     (accepted-board (start .args .board .now) (read .result) (read .ensures) (c .before .if1 .left)) in
     (fine .least-size, fine .most-size, omega (arith, read .ensures .sound .few-values))
 

@@ -9,10 +9,10 @@ use Rattle.render.proofs.source.data_fine.Statement.{statement}
 use Rattle.render.proofs.source.data_fine.Tie as tie
 
 abbrev Inv-loop : tie.InvT-loop
-Inv-loop fd file format length all left₀ left = left ≤ all
+Inv-loop to fd file format length all left₀ left = left ≤ all
 
 abbrev μ-loop : tie.MeasureT-loop
-μ-loop fd file format length all left₀ left = left
+μ-loop to fd file format length all left₀ left = left
 
 sub-left : tie.Need-sub-left Inv-loop μ-loop
 sub-left c = subst (PartOf _) (c .before .n .given .1) (c .before .before .before .read-part .ensures) .1

@@ -5,10 +5,10 @@ use Rattle.render.proofs.source.find_data.Statement.{statement}
 use Rattle.render.proofs.source.find_data.Tie as tie
 
 abbrev Inv-loop : tie.InvT-loop
-Inv-loop fd file known₀ chunks₀ known chunks = Unit {0}
+Inv-loop to fd file known₀ chunks₀ known chunks = Unit {0}
 
 abbrev μ-loop : tie.MeasureT-loop
-μ-loop fd file known₀ chunks₀ known chunks = chunks
+μ-loop to fd file known₀ chunks₀ known chunks = chunks
 
 pub find-data-spec : {M : Type 1} → statement M
 find-data-spec =

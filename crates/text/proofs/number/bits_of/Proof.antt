@@ -8,7 +8,8 @@ use borrow.Author.Tests.{lt-ltb, le-ltb}
 use lib.Dec.{ltb}
 use lib.ListN.{drop}
 use Rattle.text.specs.Number.{hexFrom}
-use Rattle.text.proofs.Reading.{hex-more, hex-stop, hex-end, bits-long, bits-short, hex-room, hex-grow}
+use Rattle.text.proofs.Reading.{hex-more, hex-stop, hex-end, bits-long, bits-short, hex-room}
+use Rattle.text.proofs.Sums.{pow-more}
 use Rattle.text.proofs.number.bits_of.Statement.{statement}
 use Rattle.text.proofs.number.bits_of.Tie as tie
 
@@ -47,7 +48,7 @@ loop-again c =
     let digit = c .before .digit-of in
     let on = ap (λ (n : ℕ). ltb n 16) (sym (digit .ensures .0)) ∙ lt-ltb (digit .result) 16 (c .if2 .left) in (
       omega arith,
-      omega (arith, hex-grow i),
+      omega (arith, pow-more 16 i),
       ap (λ (d : ℕ). hexFrom (drop (i + 1 + 1) word) (bits * 16 + d)) (digit .ensures .0) ∙ sym (hex-more word (i + 1) bits (omega arith) on) ∙ at .loop .inv .2,
     )
 

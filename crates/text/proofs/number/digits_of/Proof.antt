@@ -1,43 +1,57 @@
 -- `text::number::digits_of` meets its contract: a run of digits, and one more behind a point. Assumes nothing.
-use mathlib.Core.Path.{ap, _∙_}
+use mathlib.Core.Path.{_≡_, ap, _∙_}
 use native.Mathlib.Omega.{arith}
 use borrow.Author.Tests.{eq-eqb, ne-eqb}
+use Prim.Native.Nat.{ℕ, _+_}
 use lib.ListN.{List·getD-eq-default}
-use Rattle.text.specs.Number.{behind}
-use Rattle.text.proofs.Reading.{digits-whole, digits-pointed}
+use Rattle.text.specs.declared.number.Run.{Run}
+use Rattle.text.specs.Number.{digitsOf, pointed}
+use Rattle.text.proofs.Reading.{part-digits, no-digits}
 use borrow.Author.Needs.{needs}
 use Rattle.text.proofs.number.digits_of.Statement.{statement}
 use Rattle.text.proofs.number.digits_of.Tie as tie
 
+-- the place behind the first run
+behind : {s t : Run} → s ≡ t → s .next ≡ t .next
+behind e = ap (λ (r : Run). r .next) e
+
 returns : tie.Need-returns
+unfolding digitsOf
 returns c =
     let run = c .before .digits-from in
-    (search needs, search needs, digits-whole _ _ (run .result) (run .ensures .3) (rw (eq-eqb (run .result .next) (c .before .before .before .args .at) (c .if1 .taken))))
+    let a = c .before .before .before .args in
+    let n = run .result .next in
+    let end = behind (run .ensures .3) in
+    let past = List·getD-eq-default (a .word .now) 0 {n = n} (omega arith) in (
+      record { whole = search needs; between = search needs; places = search needs; fits = search needs; first = part-digits (a .word .now) (a .at) n end; rest = no-digits (a .word .now) n },
+      rw past at (ap (pointed (a .word .now)) end),
+    )
 
 returns-2 : tie.Need-returns-2
+unfolding digitsOf
 returns-2 c =
-    let run = c .before .before .digits-from in
-    let a = c .before .before .before .before .args in
-    let apart = ne-eqb (run .result .next) (a .at) (c .before .if1 .left) in
-    let past = List·getD-eq-default (a .word .now) 0 {n = run .result .next} (omega arith) in
-    (search needs, search needs, digits-whole _ _ (run .result) (run .ensures .3) (rw (apart, past)))
+    let run = c .before .before .before .digits-from in
+    let a = c .before .before .before .before .before .args in
+    let n = run .result .next in
+    let end = behind (run .ensures .3) in (
+      record { whole = search needs; between = search needs; places = search needs; fits = search needs; first = part-digits (a .word .now) (a .at) n end; rest = no-digits (a .word .now) n },
+      rw (ne-eqb _ 46 (c .if2 .taken)) at (ap (pointed (a .word .now)) end),
+    )
 
 returns-3 : tie.Need-returns-3
+unfolding digitsOf
 returns-3 c =
     let run = c .before .before .before .before .digits-from in
+    let more = c .digits-from2 in
     let a = c .before .before .before .before .before .before .args in
-    let apart = ne-eqb (run .result .next) (a .at) (c .before .before .before .if1 .left) in
-    (search needs, search needs, digits-whole _ _ (run .result) (run .ensures .3) (rw (apart, ne-eqb _ 46 (c .if3 .taken))))
-
-returns-4 : tie.Need-returns-4
-returns-4 c =
-    let run = c .before .before .before .before .before .before .digits-from in
-    let a = c .before .before .before .before .before .before .before .before .args in
-    let apart = ne-eqb (run .result .next) (a .at) (c .before .before .before .before .before .if1 .left) in
-    (search needs, search needs, ap (behind (run .result .next)) (c .before .digits-from2 .ensures .3) ∙ digits-pointed _ _ (run .result) (run .ensures .3) (rw (apart, eq-eqb _ 46 (c .before .before .if3 .left))))
+    let n = run .result .next in
+    let end = behind (run .ensures .3) in
+    let last = behind (more .ensures .3) in (
+      record { whole = search needs; between = search needs; places = search needs; fits = search needs; first = part-digits (a .word .now) (a .at) n end; rest = part-digits (a .word .now) (n + 1) (more .result .next) last },
+      ap (λ (z : ℕ). record { point = n; after = n + 1; next = z }) last ∙ (rw (eq-eqb _ 46 (c .before .if2 .left)) at (ap (pointed (a .word .now)) end)),
+    )
 
 pub digits-of-spec : {M : Type 1} → statement M
 digits-of-spec =
     tie.close
-    (tie.spec (λ c κs. search needs) returns returns-2 (λ c. search needs) returns-3 (λ c. search needs)
-    (λ c κs. search needs) (λ c. search needs) returns-4)
+    (tie.spec (λ c κs. search needs) returns (λ c. search needs) returns-2 (λ c. search needs) (λ c κs. search needs) returns-3)

@@ -1,44 +1,58 @@
--- `text::number::scaled` meets its contract: one product or one quotient, or too long. Assumes nothing.
+-- `text::number::scaled` meets its contract: too long, or all digits, one rounding, and the sign. Assumes nothing.
 use mathlib.Core.Path.{ap, _∙_}
+use Prim.Native.Nat.{ℕ, _+_, _-_, _≤_}
 use native.Mathlib.Omega.{arith}
-use borrow.Author.Tests.{lt-ltb, le-ltb, le-leb, lt-leb}
-use Prim.Native.Nat.{_-_}
-use Rattle.text.specs.Number.{signed, scaled}
 use borrow.Author.Needs.{needs}
+use borrow.Author.Tests.{lt-ltb, le-ltb}
+use lib.Ieee.{binary32, toBits}
+use Rattle.text.specs.Decimal.{nearestTo}
+use Rattle.text.specs.Number.{scaled}
+use Rattle.text.proofs.Reading.{signed-is}
+use Rattle.text.proofs.Rounding.{nearest-neg}
 use Rattle.text.proofs.number.scaled.Statement.{statement}
 use Rattle.text.proofs.number.scaled.Tie as tie
 
 returns : tie.Need-returns
 unfolding scaled
-returns c = rw (le-leb 16777216 _ (c .if1 .taken))
+returns c = rw (lt-ltb 40 _ (c .if1 .taken))
 
 returns-2 : tie.Need-returns-2
 unfolding scaled
-returns-2 c = rw (lt-leb 16777216 _ (c .before .before .if1 .left), lt-ltb 10 _ (c .if3 .taken))
+returns-2 c = rw (le-ltb 40 _ (c .before .before .if1 .left), lt-ltb 60 _ (c .if2 .taken))
 
 returns-3 : tie.Need-returns-3
 unfolding scaled
-returns-3 c =
-    let a = c .before .before .before .before .before .args in
-    rw (lt-leb 16777216 _ (c .before .before .before .before .if1 .left), le-ltb 10 (a .up - a .down) (omega arith), le-ltb 10 (a .down - a .up) (omega arith), le-leb (a .down) (a .up) (c .before .before .before .if2 .taken))
-    (c .signed .ensures ∙ ap (signed (a .minus)) (c .before .product .ensures))
+returns-3 c = rw (le-ltb 40 _ (c .before .before .before .before .if1 .left), le-ltb 60 _ (c .before .before .if2 .left), lt-ltb 60 _ (c .if3 .taken))
+
+all-of-requires : tie.Need-all-of-requires
+all-of-requires c κs = (c .before .before .before .before .before .before .before .before .pre, c .before .before .before .before .if1 .left)
+
+nearest-requires : tie.Need-nearest-requires
+nearest-requires c κs =
+    let all = c .before .before in
+    let large = all .before .before .before in
+    (all .all-of .ensures .0, large .if2 .left, sum _ _ _ (large .before .before .if1 .left) (all .before .if3 .left))
+  where
+    sum : (a b d : ℕ) → a + b ≤ 40 → d ≤ 60 → b + d ≤ 100
+    sum a b d h l = omega arith
+
+signed-requires : tie.Need-signed-requires
+signed-requires c κs = omega (arith, c .nearest .ensures .0)
 
 returns-4 : tie.Need-returns-4
 unfolding scaled
 returns-4 c =
-    let a = c .before .before .before .args in
-    rw (lt-leb 16777216 _ (c .before .before .if1 .left), le-ltb 10 (a .up - a .down) (omega arith), lt-ltb 10 (a .down - a .up) (c .if4 .taken))
-
-returns-5 : tie.Need-returns-5
-unfolding scaled
-returns-5 c =
-    let a = c .before .before .before .before .before .args in
-    rw (lt-leb 16777216 _ (c .before .before .before .before .if1 .left), le-ltb 10 (a .up - a .down) (omega arith), le-ltb 10 (a .down - a .up) (omega arith), lt-leb (a .down) (a .up) (c .before .before .before .if2 .left))
-    (c .signed2 .ensures ∙ ap (signed (a .minus)) (c .before .quotient .ensures))
+    let all = c .before .before .before .before in
+    let small = all .before in
+    let large = small .before .before in
+    let a = large .before .before .before .before .before .before .args in
+    let down = a .d .next - a .d .after + a .power .down in
+    rw (le-ltb 40 _ (large .before .before .if1 .left), le-ltb 60 _ (large .if2 .left), le-ltb 60 _ (small .if3 .left))
+    (c .signed .ensures
+    ∙ signed-is (a .minus) _ (c .before .nearest .result) (c .before .nearest .ensures .1 ∙ ap (λ (v : ℕ). toBits binary32 (nearestTo v (a .power .up) down)) (all .all-of .ensures .1)) (nearest-neg _ (a .power .up) down))
 
 pub scaled-spec : {M : Type 1} → statement M
 scaled-spec =
     tie.close
-    (tie.spec returns returns-2 (λ c. search needs) (λ c. search needs) (λ c κs. search needs) (λ c κs. search needs)
-    returns-3 (λ c. search needs) returns-4 (λ c. search needs) (λ c. search needs) (λ c κs. search needs)
-    (λ c κs. search needs) returns-5)
+    (tie.spec (λ c. search needs) (λ c. search needs) (λ c. search needs) returns returns-2 returns-3 all-of-requires
+    (λ c. search needs) (λ c. search needs) (λ c. search needs) nearest-requires signed-requires returns-4)

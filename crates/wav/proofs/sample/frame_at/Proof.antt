@@ -21,7 +21,7 @@ unfolding frameAt
 returns c =
     let second = c .before in
     let first = second .before .before .before in
-    c .halved .ensures ∙ simp (second .before .before .if1 .taken, first .sample-at .ensures, second .before .width .ensures .0, second .sample-at2 .ensures)
+    c .taken-as .ensures ∙ simp (second .before .before .if1 .taken, first .sample-at .ensures, second .before .width .ensures .0, second .sample-at2 .ensures)
 
 returns-2 : tie.Need-returns-2
 unfolding frameAt

@@ -1,0 +1,20 @@
+-- Every call as the reading by samples says it (Shown..), and the theorems: demand 3 (Demand), the tail (Silence), the trial values (Trials).
+pub mod ShownCells
+pub mod ShownRun
+pub mod ShownBlock
+pub mod ShownBytes
+pub mod ShownCall
+pub mod ShownFresh
+pub mod Lawful
+pub mod Told
+pub mod DemandOn
+pub mod DemandReading
+pub mod DemandAfter
+pub mod Demand
+pub mod DemandWorked
+pub mod SilenceFloats
+pub mod SilenceNodes
+pub mod SilenceLags
+pub mod Silence
+pub mod SilenceWorked
+pub mod Trials
