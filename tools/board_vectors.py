@@ -3,6 +3,7 @@
 
 Use: python3 tools/board_vectors.py crates/judge_run
 """
+import os
 import random
 import struct
 import sys
@@ -167,6 +168,8 @@ def cases():
 
 
 def main():
+    if len(sys.argv) != 2 or not os.path.isdir(sys.argv[1]):
+        sys.exit(__doc__)
     folder = sys.argv[1]
     with open(folder + "/stdin", "wb") as i, open(folder + "/stdout", "w") as o:
         for b in cases():

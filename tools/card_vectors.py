@@ -641,6 +641,7 @@ def try_programs(card_program, order_program):
         if refused:
             for word in ('text', 'dot'):
                 assert run(card_program, [word], s) == (b'', ('refused %d %d: %s\n' % refused).encode()), (refused, s.hex())
+            assert run(card_program, ['size', '64'], s) == (b'', ('not carried: refused %d %d: %s\n' % refused).encode()), (refused, s.hex())
             assert run(order_program, [], s) == (('refused %d %d\n' % refused[:2]).encode(), b''), s.hex()
         tried += 1
     long = b'#' * 69632

@@ -5,6 +5,7 @@ FOLDER/stdin has the questions, four little-endian words each: which leaf, and w
 with two words for each. The answers are worked out here from document 01 alone, in exact fractions, with one rounding to a
 32-bit float after each operation. Nothing is random: the spread values come from a fixed sequence.
 """
+import os
 import struct
 import sys
 from fractions import Fraction
@@ -243,4 +244,6 @@ def main(folder):
             out.write("%08x %08x\n" % answer(*q))
 
 
+if len(sys.argv) != 2 or not os.path.isdir(sys.argv[1]):
+    sys.exit(__doc__)
 main(sys.argv[1])

@@ -694,6 +694,8 @@ def rendered(files, words):
 
 
 def main():
+    if len(sys.argv) != 2 or not os.path.isdir(sys.argv[1]):
+        sys.exit(__doc__)
     folder = sys.argv[1]
     files = make_files()
     for name in ("echo", "pingpong", "chorus", "widener", "room", "plate"):

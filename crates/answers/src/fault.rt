@@ -1,20 +1,20 @@
 // What is wrong with a board that the judge refuses: the rule of document 01 that its bytes break.
 ghost use Prim.Native.Nat.{_+_, _≤_};
 ghost use lib.ListN.{length};
-ghost use Rattle.graph.specs.Read.{Sound};
+ghost use Rattle.boards.specs.Read.{Sound};
+use boards::board::Board;
+use boards::judge::read_board;
 use cards::names::has_float;
 use cards::names::has_whole;
-use graph::board::Board;
-use graph::judge::read_board;
+use kinds::kind::bounds_of;
+use kinds::kind::is_frequency;
+use kinds::kind::is_pass;
+use kinds::kind::length_fits;
 use leaves::bytes::u16_at;
 use leaves::bytes::u32_at;
 use leaves::bytes::wide;
 use leaves::float::finite_bits;
 use leaves::float::of_bits;
-use nodes::kind::bounds_of;
-use nodes::kind::is_frequency;
-use nodes::kind::is_pass;
-use nodes::kind::length_fits;
 
 // The rules, a line each, and the line of each: refusals 1 to 3; a node by itself and in its place; a wire;
 // the input node.

@@ -1,8 +1,8 @@
 -- What drawing a board asks of it. Definitions only.
-use Rattle.graph.specs.Read.{Sound}
+use Rattle.boards.specs.Read.{Sound}
 use Rattle.graph.specs.Walking.{Table, Gathered}
-use Rattle.graph.specs.Wires.{wiresOf}
-use Rattle.graph.specs.declared.board.Board.{Board}
+use Rattle.boards.specs.Wires.{wiresOf}
+use Rattle.boards.specs.declared.board.Board.{Board}
 
 -- the board was accepted, so its table holds the sources of its wires
 pub record Accepted (b : Board) : Type 0 where

@@ -17,15 +17,16 @@ mod write;
 use answers::answer::answer_text;
 use answers::answer::refusal_text;
 use answers::fault::board_end;
+use boards::judge::read_board;
 use cards::board::Made;
 use cards::board::board_of;
 use check::same;
-use graph::judge::read_board;
 use leaves::bytes::wide;
 use libc::STDERR_FILENO;
 use libc::STDIN_FILENO;
 use libc::STDOUT_FILENO;
 use size::show_resized;
+use sizes::resize::Reason;
 use sizes::resize::Resized;
 use sizes::resize::resize;
 use text::number::whole_of;
@@ -137,13 +138,26 @@ fn show_cards(cards: &[u8]) {
 // The input is cut at this length. No board is so long that the rest could change an answer.
 const MOST: usize = 69632;
 
+// Why a board was not carried: refused bytes in the words that the other modes have for them.
+fn show_kept(s: &[u8], size: u32, reason: Reason) {
+    match reason {
+        Reason::Refused(number, place) => {
+            io::write_all(STDERR_FILENO, b"not carried: ");
+            show_refusal(STDERR_FILENO, s, number, place);
+        }
+        _ => {
+            show_resized(STDERR_FILENO, size, Resized::Kept(reason));
+        }
+    }
+}
+
 // A board at blocks of `size`: its bytes, if it was carried there.
 fn show_size(s: &mut [u8], size: u32) {
     let resized = resize(s, size);
-    show_resized(STDERR_FILENO, size, resized);
     match resized {
-        Resized::Kept(_) => {}
+        Resized::Kept(reason) => show_kept(s, size, reason),
         _ => {
+            show_resized(STDERR_FILENO, size, resized);
             io::write_all(STDOUT_FILENO, s);
         }
     }

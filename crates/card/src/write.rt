@@ -3,15 +3,15 @@
 ghost use Prim.Native.Nat.{_+_, _<_, _≤_};
 ghost use lib.ListN.{length};
 ghost use Rattle.io.specs.Counts.{Counts};
-ghost use Rattle.graph.specs.Read.{Sound};
+ghost use Rattle.boards.specs.Read.{Sound};
 ghost use Rattle.card.specs.Board.{Accepted};
 use answers::kind::put_kind;
-use graph::board::Board;
+use boards::board::Board;
 use graph::graph::is_late;
 use graph::graph::places;
 use graph::graph::visiting_list;
+use kinds::kind::NodeKind;
 use leaves::bytes::wide;
-use nodes::kind::NodeKind;
 use text::written::put;
 use text::written::put_number;
 use text::written::put_pair;
@@ -219,7 +219,7 @@ fn counted(hit: bool) -> usize
 }
 
 // How many wires before wire i lead into the same node.
-fn earlier(targets: &[u8; 128], i: usize) -> usize
+fn wires_before(targets: &[u8; 128], i: usize) -> usize
     requires { ⌜ i < 128 ⌝ }
     ensures { λ r. ⌜ r ≤ i ⌝ }
 {
@@ -249,7 +249,7 @@ fn mark_of(board: Board, t: usize, i: usize) -> u32
     if !is_ordered(kind) | (board.counts[t] != 2) {
         return 0;
     }
-    match earlier(&board.targets, i) {
+    match wires_before(&board.targets, i) {
         0 => 1,
         1 => 2,
         _ => 0,

@@ -6,8 +6,8 @@ use Prim.Native.Nat.{ℕ, _+_}
 use borrow.Author.Tests.{eqb-true, eqb-false}
 use lib.Dec.{eqb}
 use lib.ListN.{length}
-use Rattle.graph.specs.Judge.{judgeOf}
-use Rattle.graph.specs.Write.{endBytes}
+use Rattle.boards.specs.Judge.{judgeOf}
+use Rattle.records.specs.Write.{endBytes}
 use Rattle.text.specs.Words.{linesOf}
 use Rattle.cards.specs.Labels.{unmarked}
 use Rattle.cards.specs.Line.{saidOf}

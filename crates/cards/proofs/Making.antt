@@ -6,10 +6,10 @@ use native.Mathlib.Omega.{arith}
 use borrow.Author.Tests.{eq-eqb, ne-eqb}
 use lib.ListN.{length, take, drop, length-append}
 use lib.Seq.{sets, length-take-le}
-use Rattle.graph.specs.Judge.{judgeOf}
-use Rattle.graph.specs.Write.{endBytes}
-use Rattle.graph.specs.declared.answer.Answer.{Answer}
-use Rattle.graph.proofs.Stores.{next as then}
+use Rattle.boards.specs.Judge.{judgeOf}
+use Rattle.records.specs.Write.{endBytes}
+use Rattle.records.specs.declared.answer.Answer.{Answer}
+use Rattle.records.proofs.Stores.{next as then}
 use Rattle.text.specs.Words.{linesOf}
 use Rattle.text.proofs.Finding.{no-line}
 use Rattle.text.proofs.Writing.{wrote-sets}

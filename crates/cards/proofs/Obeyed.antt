@@ -5,8 +5,9 @@ use Prim.Native.Nat.{ℕ, zero, suc, _+_}
 use native.Mathlib.Omega.{arith}
 use Rattle.leaves.specs.Bytes.{u16Bytes, u32Bytes}
 use Rattle.leaves.specs.Words.{Bytes}
-use Rattle.graph.specs.Write.{endBytes, writeBoard, Card, Obeys}
-use Rattle.graph.proofs.Round.{judge-exact}
+use Rattle.records.specs.Write.{endBytes, writeBoard, Card}
+use Rattle.boards.specs.Obeys.{Obeys}
+use Rattle.boards.proofs.Round.{judge-exact}
 use Rattle.text.specs.Words.{linesOf}
 use Rattle.cards.specs.Labels.{unmarked}
 use Rattle.cards.specs.Line.{saidOf}

@@ -8,11 +8,11 @@ use lib.Ieee.{round, mul, div, eq, lt, le, ofBits, toBits}
 use lib.ListN.{length}
 use Rattle.leaves.specs.Floors.{within, floorOf}
 use Rattle.leaves.specs.Lengths.{samplesOf, delayOf}
-use Rattle.graph.specs.Board.{takeFound, stepOf as recordStep, run, readRecords}
-use Rattle.graph.specs.Judge.{readBoard, judgeOf}
-use Rattle.graph.specs.Record.{foundAt}
-use Rattle.graph.specs.JudgeCases.{printed, printed-judged}
-use Rattle.graph.specs.declared.answer.Answer.{Answer}
+use Rattle.boards.specs.Board.{takeFound, stepOf as recordStep, run, readRecords}
+use Rattle.boards.specs.Judge.{readBoard, judgeOf}
+use Rattle.records.specs.Record.{foundAt}
+use Rattle.boards.specs.JudgeCases.{printed, printed-judged}
+use Rattle.records.specs.declared.answer.Answer.{Answer}
 use Rattle.text.specs.Decimal.{nearestTo}
 use Rattle.text.specs.Number.{digitOf, digitsFrom, readFrom, wholeOf, digitsOf, numberFrom, allOf, powerOf, scaled, decimalAt, floatOf}
 use Rattle.text.specs.Words.{ahead, nextWord, wordAt, countFrom, linesOf}

@@ -5,11 +5,11 @@ use mathlib.Core.List.{List, [], _∷_, _++_}
 use Prim.Native.Nat.{ℕ, _+_}
 use lib.Dec.{eqb}
 use lib.ListN.{length}
-use Rattle.graph.specs.Answer.{answer}
-use Rattle.graph.specs.Board.{wire}
-use Rattle.graph.specs.Judge.{judgeOf}
-use Rattle.graph.specs.Write.{headBytes, nodeBytes, wireBytes, endBytes}
-use Rattle.graph.specs.declared.answer.Answer.{Answer}
+use Rattle.records.specs.Answer.{answer}
+use Rattle.reading.specs.Order.{wire}
+use Rattle.boards.specs.Judge.{judgeOf}
+use Rattle.records.specs.Write.{headBytes, nodeBytes, wireBytes, endBytes}
+use Rattle.records.specs.declared.answer.Answer.{Answer}
 use Rattle.text.specs.Words.{linesOf}
 use Rattle.cards.specs.Labels.{unmarked}
 use Rattle.cards.specs.Line.{saidOf}

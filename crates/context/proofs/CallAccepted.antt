@@ -12,18 +12,18 @@ use native.Mathlib.Omega.{arith}
 use lib.ListN.{length, take, drop}
 use lib.Seq.{paste, length-paste, length-take-le, length-paste-head}
 use Rattle.leaves.specs.Words.{words, length-words, words-append, words-take, words-drop}
-use Rattle.nodes.specs.Kind.{cellSize}
-use Rattle.nodes.specs.declared.kind.NodeRecord.{NodeRecord}
-use Rattle.graph.specs.Board.{Parsed, cellsOf, memoryLength}
-use Rattle.graph.specs.Formed.{TableAt}
+use Rattle.kinds.specs.Kind.{cellSize}
+use Rattle.kinds.specs.declared.kind.NodeRecord.{NodeRecord}
+use Rattle.boards.specs.Board.{Parsed, cellsOf, memoryLength}
+use Rattle.boards.specs.Formed.{TableAt}
 use Rattle.graph.specs.Visit.{Lists}
 use Rattle.graph.specs.Walking.{Table, Gathered}
 use Rattle.context.specs.Memory.{nodeIn, nodeAt, kindAt, putInput}
 use Rattle.context.specs.Calls.{andThen, checkBlocks, checkSamples, listed}
-use Rattle.graph.specs.Read.{parsedOf, Sound}
+use Rattle.boards.specs.Read.{parsedOf, Sound}
 use Rattle.context.specs.Fine.{Fine}
 use Rattle.context.specs.Stages.{Runs}
-use Rattle.graph.specs.declared.board.Board.{Board}
+use Rattle.boards.specs.declared.board.Board.{Board}
 use Rattle.graph.specs.declared.graph.Order.{Order}
 use Rattle.context.proofs.CallCells.{cell-in, node-in, count-nodes}
 use Rattle.context.proofs.CallChecks.{sizes-accepted, then-both}

@@ -8,11 +8,11 @@ use lib.ListN.{length, take, drop, length-drop}
 use lib.Seq.{paste, length-paste, drop-length}
 use Rattle.leaves.specs.Words.{words, unwords, unwords-words, Bytes}
 use Rattle.leaves.specs.Parts.{part, words-part}
-use Rattle.graph.specs.Board.{cellsOf}
+use Rattle.boards.specs.Board.{cellsOf}
 use Rattle.context.specs.Memory.{passed, runBlock}
 use Rattle.context.specs.Calls.{asLeft, ranBlock, listed}
-use Rattle.graph.specs.Read.{parsedOf}
-use Rattle.graph.specs.declared.board.Board.{Board}
+use Rattle.boards.specs.Read.{parsedOf}
+use Rattle.boards.specs.declared.board.Board.{Board}
 use Rattle.context.proofs.CallAccepted.{AcceptedRun, checked, output-room}
 
 -- a copy over the whole of a slice

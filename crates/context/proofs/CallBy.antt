@@ -14,15 +14,15 @@ use borrow.Author.Tests.{eqb-true, ne-eqb}
 use lib.Dec.{eqb}
 use lib.ListN.{length}
 use Rattle.leaves.specs.Words.{words, unwords, Bytes, unwords-words}
-use Rattle.graph.specs.Board.{Parsed, Progress, going, refused, whole, memoryLength}
-use Rattle.graph.specs.Judge.{readBoard}
-use Rattle.graph.specs.Formed.{TableAt}
-use Rattle.graph.specs.BoardParts.{orRefused}
-use Rattle.graph.specs.Read.{parsedOf, Sound, Read}
-use Rattle.graph.specs.declared.answer.Answer.{Answer}
-use Rattle.graph.specs.declared.board.Board.{Board}
-use Rattle.graph.proofs.Answers.{or-accepts, or-refuses}
-use Rattle.graph.proofs.Run.{refused-is-not-whole, going-is-not-whole}
+use Rattle.boards.specs.Board.{Parsed, Progress, going, refused, whole, memoryLength}
+use Rattle.boards.specs.Judge.{readBoard}
+use Rattle.boards.specs.Formed.{TableAt}
+use Rattle.boards.specs.BoardParts.{orRefused}
+use Rattle.boards.specs.Read.{parsedOf, Sound, Read}
+use Rattle.records.specs.declared.answer.Answer.{Answer}
+use Rattle.boards.specs.declared.board.Board.{Board}
+use Rattle.boards.proofs.Answers.{or-accepts, or-refuses}
+use Rattle.boards.proofs.Run.{refused-is-not-whole, going-is-not-whole}
 use Rattle.context.specs.Memory.{passed}
 use Rattle.context.specs.Calls.{andThen, checkNeeded, checkValues, checkMemory, callBy, changeBy}
 use Rattle.context.specs.Stages.{heldTo, readOpen, readJudged}

@@ -6,17 +6,17 @@ use mathlib.Core.List.{List, [], _∷_}
 use lib.ListN.{set, replicate}
 use lib.Ieee.{ofBits}
 use Rattle.leaves.specs.Words.{words}
-use Rattle.nodes.specs.Kind.{ruleOf}
-use Rattle.nodes.specs.Cell.{numberFits, carryFits, placeFits}
-use Rattle.graph.specs.Answer.{answer}
-use Rattle.graph.specs.Record.{foundOf, foundAt}
-use Rattle.graph.specs.Sources.{distinct}
-use Rattle.graph.specs.Board.{takeFound, stepOf, run, readRecords}
-use Rattle.graph.specs.Judge.{checkSources, readBoard}
+use Rattle.kinds.specs.Kind.{ruleOf}
+use Rattle.kinds.specs.Cell.{numberFits, carryFits, placeFits}
+use Rattle.records.specs.Answer.{answer}
+use Rattle.records.specs.Record.{foundOf, foundAt}
+use Rattle.sources.specs.Sources.{distinct}
+use Rattle.boards.specs.Board.{takeFound, stepOf, run, readRecords}
+use Rattle.boards.specs.Judge.{checkSources, readBoard}
 use Rattle.context.specs.Memory.{checkCells}
 use Rattle.context.specs.Calls.{asLeft, checkSamples, freshOf, blockIn, blockOf}
-use Rattle.graph.specs.Write.{writeBoard}
-use Rattle.graph.proofs.RoundWorked.{feedback}
+use Rattle.records.specs.Write.{writeBoard}
+use Rattle.boards.proofs.RoundWorked.{feedback}
 
 abbrev board : List ℕ
 board = writeBoard feedback

@@ -8,16 +8,16 @@ use mathlib.Core.List.{List}
 use native.Mathlib.Omega.{arith}
 use lib.ListN.{length, take}
 use lib.Seq.{getD-take, take-length}
-use Rattle.nodes.specs.Kind.{cellSize}
-use Rattle.nodes.specs.declared.kind.NodeRecord.{NodeRecord}
-use Rattle.graph.specs.Board.{Parsed, blank, cellsOf}
+use Rattle.kinds.specs.Kind.{cellSize}
+use Rattle.kinds.specs.declared.kind.NodeRecord.{NodeRecord}
+use Rattle.boards.specs.Board.{Parsed, blank, cellsOf}
 use Rattle.context.specs.Memory.{nodeIn, nodeAt, kindAt}
-use Rattle.graph.specs.Read.{parsedOf, Sound}
+use Rattle.boards.specs.Read.{parsedOf, Sound}
 use Rattle.context.specs.Fine.{Fine}
 use Rattle.context.specs.Stages.{CellsIn}
-use Rattle.graph.specs.declared.board.Board.{Board}
+use Rattle.boards.specs.declared.board.Board.{Board}
 use Rattle.graph.proofs.Accepted.{cells-apart}
-use Rattle.graph.proofs.Six.{counted}
+use Rattle.boards.proofs.Six.{counted}
 
 -- ---- the cells of a fine board
 

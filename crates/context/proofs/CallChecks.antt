@@ -16,14 +16,14 @@ use lib.Dec.{eqb}
 use lib.ListN.{length, getD, take, drop}
 use lib.Seq.{drop-cons, drop-length}
 use Rattle.leaves.specs.Floats.{finiteBits}
-use Rattle.nodes.specs.Cell.{cellFits}
-use Rattle.nodes.specs.declared.kind.NodeRecord.{NodeRecord}
-use Rattle.graph.specs.Answer.{answer}
+use Rattle.kinds.specs.Cell.{cellFits}
+use Rattle.kinds.specs.declared.kind.NodeRecord.{NodeRecord}
+use Rattle.records.specs.Answer.{answer}
 use Rattle.context.specs.Memory.{nodeIn, passed, checkCells}
 use Rattle.context.specs.Calls.{andThen, checkNeeded, checkSize, checkSizes, checkSamples}
-use Rattle.graph.specs.declared.answer.Answer.{Answer}
-use Rattle.graph.specs.Board.{blank}
-use Rattle.graph.proofs.Six.{counted, node-here}
+use Rattle.records.specs.declared.answer.Answer.{Answer}
+use Rattle.boards.specs.Board.{blank}
+use Rattle.boards.proofs.Six.{counted, node-here}
 
 -- ---- answers
 

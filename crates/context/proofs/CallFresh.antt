@@ -12,17 +12,17 @@ use lib.ListN.{length, set, take, drop, replicate, length-append, replicate-appe
 use lib.Ieee.{binary32, toBits}
 use Rattle.leaves.specs.Words.{words}
 use Rattle.leaves.specs.Floats.{setFloat}
-use Rattle.nodes.specs.Kind.{channelsOf, lineOf, cellSize}
-use Rattle.nodes.specs.Cell.{valuesOf, freshCell, numberOf}
-use Rattle.nodes.specs.declared.kind.NodeKind.{NodeKind}
-use Rattle.nodes.specs.declared.kind.NodeRecord.{NodeRecord}
-use Rattle.nodes.proofs.Cells.{set-append-right}
-use Rattle.nodes.proofs.Fresh.{fresh-long}
-use Rattle.graph.specs.Board.{blank, Parsed, cellsOf}
+use Rattle.kinds.specs.Kind.{channelsOf, lineOf, cellSize}
+use Rattle.kinds.specs.Cell.{valuesOf, freshCell, numberOf}
+use Rattle.kinds.specs.declared.kind.NodeKind.{NodeKind}
+use Rattle.kinds.specs.declared.kind.NodeRecord.{NodeRecord}
+use Rattle.kinds.proofs.Cells.{set-append-right}
+use Rattle.kinds.proofs.Fresh.{fresh-long}
+use Rattle.boards.specs.Board.{blank, Parsed, cellsOf}
 use Rattle.context.specs.Memory.{nodeIn, freshFrom, freshValues}
 use Rattle.context.specs.Fine.{Fine}
 use Rattle.context.specs.Stages.{putNumbers}
-use Rattle.graph.proofs.Six.{node-here}
+use Rattle.boards.proofs.Six.{node-here}
 use Rattle.context.proofs.CallChecks.{none-left}
 
 module _ (nodes : List NodeRecord) (n : ℕ) (fits : n ≤ length nodes) (ws : List ℕ) where

@@ -16,19 +16,19 @@ use lib.ListN.{length, drop, length-drop}
 use lib.Seq.{paste, length-paste, length-take-le}
 use Rattle.leaves.specs.Words.{words}
 use Rattle.leaves.specs.Parts.{part, part-before, part-after}
-use Rattle.nodes.specs.Kind.{cellSize}
-use Rattle.nodes.specs.Cell.{cellFits, runValues}
-use Rattle.nodes.specs.Node.{nodeRun}
-use Rattle.nodes.specs.declared.kind.NodeKind.{NodeKind}
-use Rattle.nodes.specs.declared.kind.NodeKind.the-variants.{Pass}
-use Rattle.nodes.specs.declared.kind.NodeRecord.{NodeRecord}
-use Rattle.nodes.proofs.Kept.{run-long, run-own, run-fits, fits-part}
-use Rattle.graph.specs.Answer.{answer}
-use Rattle.graph.specs.Board.{Parsed, cellsOf, memoryLength}
+use Rattle.kinds.specs.Kind.{cellSize}
+use Rattle.kinds.specs.Cell.{cellFits, runValues}
+use Rattle.kinds.specs.Node.{nodeRun}
+use Rattle.kinds.specs.declared.kind.NodeKind.{NodeKind}
+use Rattle.kinds.specs.declared.kind.NodeKind.the-variants.{Pass}
+use Rattle.kinds.specs.declared.kind.NodeRecord.{NodeRecord}
+use Rattle.kinds.proofs.Kept.{run-long, run-own, run-fits, fits-part}
+use Rattle.records.specs.Answer.{answer}
+use Rattle.boards.specs.Board.{Parsed, cellsOf, memoryLength}
 use Rattle.context.specs.Memory.{nodeIn, passed, nodeAt, kindAt, checkCells, broughtBy, runNode, putInput}
 use Rattle.context.specs.Calls.{andThen, checkLength, checkValues, checkMemory}
 use Rattle.context.specs.Fine.{Fine}
-use Rattle.graph.specs.declared.answer.Answer.{Answer}
+use Rattle.records.specs.declared.answer.Answer.{Answer}
 use Rattle.context.proofs.CallCells.{cell-in, cell-apart}
 use Rattle.context.proofs.CallChecks.{passes, needed-long, then-both}
 

@@ -18,23 +18,23 @@ use lib.Ieee.{Float, binary32, toBits, fits}
 use lib.ListN.{length, set, take, drop, length-set}
 use lib.Seq.{drop-set-add, take-set-lt, set-split, append-snoc, paste}
 use Rattle.leaves.specs.Parts.{part}
-use Rattle.nodes.specs.Kind.{cellSize}
-use Rattle.nodes.specs.Cell.{takesNumber, valueFits, cellFits}
-use Rattle.nodes.specs.declared.kind.NodeKind.{NodeKind}
-use Rattle.nodes.specs.declared.kind.NodeRecord.{NodeRecord}
-use Rattle.nodes.proofs.Kept.{message-fits}
-use Rattle.graph.specs.Answer.{answer}
-use Rattle.graph.specs.Board.{Parsed}
+use Rattle.kinds.specs.Kind.{cellSize}
+use Rattle.kinds.specs.Cell.{takesNumber, valueFits, cellFits}
+use Rattle.kinds.specs.declared.kind.NodeKind.{NodeKind}
+use Rattle.kinds.specs.declared.kind.NodeRecord.{NodeRecord}
+use Rattle.kinds.proofs.Kept.{message-fits}
+use Rattle.records.specs.Answer.{answer}
+use Rattle.boards.specs.Board.{Parsed}
 use Rattle.context.specs.Memory.{nodeIn, passed, nodeAt, kindAt}
 use Rattle.context.specs.Calls.{checkNumber, putNumber}
-use Rattle.graph.specs.Read.{parsedOf, Sound}
+use Rattle.boards.specs.Read.{parsedOf, Sound}
 use Rattle.context.specs.Fine.{Fine}
-use Rattle.graph.specs.declared.answer.Answer.{Answer}
-use Rattle.graph.specs.declared.board.Board.{Board}
+use Rattle.records.specs.declared.answer.Answer.{Answer}
+use Rattle.boards.specs.declared.board.Board.{Board}
 use Rattle.context.proofs.CallCells.{node-in, count-nodes, cell-in}
 use Rattle.context.proofs.CallChecks.{passes}
 use Rattle.context.proofs.CallLaws.{cellAt, Whole, Judged, paste-other}
-use Rattle.graph.proofs.Choice.{both}
+use Rattle.reading.proofs.Choice.{both}
 
 -- ---- checks 11 and 12 on the code's arrays
 

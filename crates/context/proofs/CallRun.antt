@@ -15,34 +15,33 @@ use lib.ListN.{length, getD, take, drop, length-drop, drop-of-length-le}
 use lib.Seq.{getD-take, getD-drop, drop-cons, length-take-le, ext-getD}
 use Rattle.leaves.specs.Words.{words, length-words}
 use Rattle.leaves.specs.Floats.{floatAt}
-use Rattle.nodes.specs.Row.{Writes, mono, keeping, stereo, rowOf}
-use Rattle.nodes.specs.Kind.{channelsBy, channelsOf, lineOf, cellSize}
-use Rattle.nodes.specs.Rule.{Brought}
-use Rattle.nodes.specs.Block.{InMemory}
-use Rattle.nodes.specs.Node.{broughtAt, nodeRun, Ready}
-use Rattle.nodes.specs.declared.kind.NodeKind.{NodeKind}
-use Rattle.nodes.specs.declared.kind.NodeRecord.{NodeRecord}
+use Rattle.kinds.specs.Row.{Writes, mono, keeping, stereo, rowOf}
+use Rattle.kinds.specs.Kind.{channelsBy, channelsOf, lineOf, cellSize}
+use Rattle.kinds.specs.Rule.{Brought}
+use Rattle.nodes.specs.Ready.{InMemory, Ready}
+use Rattle.kinds.specs.Node.{broughtAt, nodeRun}
+use Rattle.kinds.specs.declared.kind.NodeKind.{NodeKind}
+use Rattle.kinds.specs.declared.kind.NodeRecord.{NodeRecord}
 use Rattle.reading.specs.Table.{mem}
 use Rattle.reading.specs.Order.{sources}
 use Rattle.reading.proofs.Table.{mem-head, or-right, map-agree}
-use Rattle.graph.specs.Board.{blank, Parsed, cellsOf}
-use Rattle.graph.specs.Sources.{distinctSources, secondSource}
+use Rattle.boards.specs.Board.{blank, Parsed, cellsOf}
+use Rattle.sources.specs.Sources.{distinctSources, secondSource}
 use Rattle.context.specs.Memory.{nodeIn, nodeAt, kindAt, leftStart, rightStart, broughtBy, runNode, runNodes}
 use Rattle.context.specs.Calls.{listed}
-use Rattle.graph.specs.Read.{parsedOf, Sound}
+use Rattle.boards.specs.Read.{parsedOf, Sound}
 use Rattle.graph.specs.Listed.{SourcesBelow}
 use Rattle.context.specs.Fine.{Fine}
-use Rattle.graph.specs.Formed.{TableAt}
+use Rattle.boards.specs.Formed.{TableAt}
 use Rattle.context.specs.Stages.{StartFits, StartsFit, Starts, Runs}
-use Rattle.graph.specs.declared.answer.Answer.{Answer}
-use Rattle.graph.specs.declared.board.Board.{Board}
+use Rattle.records.specs.declared.answer.Answer.{Answer}
+use Rattle.boards.specs.declared.board.Board.{Board}
 use Rattle.graph.specs.declared.graph.Order.{Order}
 use Rattle.graph.proofs.Listed.{listed-within}
-use Rattle.graph.proofs.RoundSources.{mem-distinct}
-use Rattle.context.proofs.FineBoard.{lists}
+use Rattle.boards.proofs.RoundSources.{mem-distinct}
+use Rattle.context.proofs.FineBoard.{lists, source-there}
 use Rattle.context.proofs.CallCells.{cell-in, node-in, count-nodes}
 use Rattle.context.proofs.CallStarts.{mapped-at}
-use Rattle.context.proofs.FineBoard.{source-there}
 use Rattle.context.proofs.CallLaws.{Judged, passed-judged, node-judged}
 
 -- ---- the samples of a cell

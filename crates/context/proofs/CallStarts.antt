@@ -9,9 +9,9 @@ use native.Mathlib.Numerals.{add-one}
 use native.Mathlib.Omega.{arith}
 use lib.ListN.{length, getD, set, take, length-set}
 use lib.Seq.{take-suc, take-suc-set}
-use Rattle.graph.specs.Board.{blank}
+use Rattle.boards.specs.Board.{blank}
 use Rattle.context.specs.Memory.{nodeIn}
-use Rattle.nodes.specs.declared.kind.NodeRecord.{NodeRecord}
+use Rattle.kinds.specs.declared.kind.NodeRecord.{NodeRecord}
 use Rattle.context.specs.Stages.{Starts}
 
 pub mapped-at : (f : NodeRecord → ℕ) (l : List NodeRecord) (k : ℕ) → k < length l → getD (map f l) k 0 ≡ f (nodeIn l k)

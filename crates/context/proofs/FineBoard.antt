@@ -11,31 +11,32 @@ use mathlib.Core.List.{List, [], _∷_}
 use native.Mathlib.Omega.{arith}
 use lib.ListN.{length, getD, take}
 use Rattle.leaves.specs.Words.{Bytes}
-use Rattle.nodes.specs.Kind.{channelsOf, cellSize}
-use Rattle.nodes.specs.Node.{LineFits}
-use Rattle.nodes.specs.declared.kind.NodeKind.the-variants.{Pass, Destination}
-use Rattle.nodes.specs.declared.kind.NodeRecord.{NodeRecord}
-use Rattle.nodes.proofs.Fresh.{rule-sound}
+use Rattle.kinds.specs.Kind.{channelsOf, cellSize}
+use Rattle.kinds.specs.Node.{LineFits}
+use Rattle.kinds.specs.declared.kind.NodeKind.the-variants.{Pass, Destination}
+use Rattle.kinds.specs.declared.kind.NodeRecord.{NodeRecord}
+use Rattle.kinds.proofs.Fresh.{rule-sound}
 use Rattle.reading.specs.Table.{mem}
 use Rattle.reading.specs.Order.{sources}
 use Rattle.reading.proofs.Order.{each-source}
-use Rattle.graph.specs.Board.{Parsed, whole, cellsOf}
-use Rattle.graph.specs.Judge.{readBoard}
-use Rattle.graph.specs.Read.{parsedOf, Read}
-use Rattle.graph.specs.Formed.{Formed}
+use Rattle.boards.specs.Board.{Parsed, whole, cellsOf}
+use Rattle.boards.specs.Judge.{readBoard}
+use Rattle.boards.specs.Read.{parsedOf, Read}
+use Rattle.boards.specs.Formed.{Formed}
 use Rattle.graph.specs.Listed.{ListsReached}
-use Rattle.graph.specs.declared.board.Board.{Board}
+use Rattle.boards.specs.declared.board.Board.{Board}
 use Rattle.graph.proofs.Accepted.{accepted-board}
-use Rattle.graph.proofs.Formed.{whole-formed}
+use Rattle.boards.proofs.Formed.{whole-formed}
 use Rattle.graph.proofs.Listed.{lists-reached}
 use Rattle.context.specs.Calls.{listed}
 use Rattle.context.specs.Memory.{nodeAt}
-use Rattle.graph.specs.Write.{NodeCard, Card, kindOf, recordsFrom, asRead, WireObeys, Obeys, noNode, noWire}
+use Rattle.records.specs.Write.{NodeCard, Card}
+use Rattle.boards.specs.Obeys.{kindOf, recordsFrom, asRead, WireObeys, Obeys, noNode, noWire}
 use Rattle.context.specs.Fine.{NodeFine, Fine}
-use Rattle.graph.proofs.RoundRule.{kind-kept}
-use Rattle.graph.proofs.RoundObeys.{each-from}
-use Rattle.graph.proofs.RoundSix.{Free, records-length, free-in}
-use Rattle.graph.proofs.Round.{beyond, read-write}
+use Rattle.boards.proofs.RoundRule.{kind-kept}
+use Rattle.boards.proofs.RoundObeys.{each-from}
+use Rattle.boards.proofs.RoundSix.{Free, records-length, free-in}
+use Rattle.boards.proofs.Round.{beyond, read-write}
 
 -- ---- the records of a card
 

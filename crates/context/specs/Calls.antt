@@ -9,14 +9,14 @@ use lib.Ieee.{Float, binary32, toBits}
 use Rattle.leaves.specs.Words.{words, unwords}
 use Rattle.leaves.specs.Floats.{finiteBits}
 use Rattle.leaves.specs.Parts.{part}
-use Rattle.graph.specs.Answer.{answer}
-use Rattle.graph.specs.Board.{Parsed, Progress, going, refused, whole, memoryLength}
-use Rattle.graph.specs.Judge.{readBoard}
+use Rattle.records.specs.Answer.{answer}
+use Rattle.boards.specs.Board.{Parsed, Progress, going, refused, whole, memoryLength}
+use Rattle.boards.specs.Judge.{readBoard}
 use Rattle.graph.specs.Visit.{visitingList}
-use Rattle.nodes.specs.Kind.{samplesFrom}
-use Rattle.nodes.specs.Cell.{takesNumber, valueFits}
+use Rattle.kinds.specs.Kind.{samplesFrom}
+use Rattle.kinds.specs.Cell.{takesNumber, valueFits}
 use Rattle.context.specs.Memory.{passed, nodeAt, kindAt, freshValues, checkCells, runBlock}
-use Rattle.graph.specs.declared.answer.Answer.{Answer}
+use Rattle.records.specs.declared.answer.Answer.{Answer}
 
 -- the answer, and the bytes of the memory and of the two output blocks as a block run left them
 pub record Outcome : Type 0 where

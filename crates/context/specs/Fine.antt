@@ -5,13 +5,13 @@ use mathlib.Core.Bool.{true}
 use mathlib.Core.List.{[]}
 use lib.ListN.{length, take}
 use lib.Ieee.{binary32, toBits}
-use Rattle.nodes.specs.Kind.{channelsOf}
-use Rattle.nodes.specs.Cell.{numberOf, numberFits}
-use Rattle.nodes.specs.Node.{LineFits}
-use Rattle.nodes.specs.declared.kind.NodeKind.the-variants.{Pass, Destination}
+use Rattle.kinds.specs.Kind.{channelsOf}
+use Rattle.kinds.specs.Cell.{numberOf, numberFits}
+use Rattle.kinds.specs.Node.{LineFits}
+use Rattle.kinds.specs.declared.kind.NodeKind.the-variants.{Pass, Destination}
 use Rattle.reading.specs.Order.{sources}
-use Rattle.graph.specs.Board.{Parsed, cellsOf}
-use Rattle.graph.specs.Formed.{Formed}
+use Rattle.boards.specs.Board.{Parsed, cellsOf}
+use Rattle.boards.specs.Formed.{Formed}
 use Rattle.context.specs.Memory.{nodeAt, kindAt}
 
 -- node k's record: its channels, where its cell starts, and what its kind may be
@@ -21,7 +21,7 @@ pub record NodeFine (p : Parsed) (k : ℕ) : Type 0 where
   pub line : LineFits (kindAt p k)
   pub number : numberFits (kindAt p k) (toBits binary32 (numberOf (kindAt p k))) ≡ true
 
--- what the crate graph knows of it, `Formed`, speaks of its wires: they join two of its nodes, and give each as many sources as its type
+-- what the crate boards knows of it, `Formed`, speaks of its wires: they join two of its nodes, and give each as many sources as its type
 -- takes. Besides, N is 1 to 128; at most 64 nodes, the destination first; the input node is a pass without wires in
 pub record Fine (p : Parsed) : Type 0 where
   pub formed : Formed p

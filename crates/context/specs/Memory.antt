@@ -4,16 +4,16 @@ use mathlib.Core.Bool.{cond}
 use mathlib.Core.List.{List, [], _∷_, _++_, map}
 use lib.ListN.{getD, drop}
 use lib.Seq.{paste}
-use Rattle.nodes.specs.Kind.{samplesFrom}
-use Rattle.nodes.specs.Rule.{Brought}
-use Rattle.nodes.specs.Cell.{valuesOf, freshCell, cellFits}
-use Rattle.nodes.specs.Node.{broughtAt, nodeRun}
-use Rattle.nodes.specs.declared.kind.NodeKind.{NodeKind}
-use Rattle.nodes.specs.declared.kind.NodeRecord.{NodeRecord}
-use Rattle.graph.specs.Answer.{answer}
-use Rattle.graph.specs.Sources.{distinctSources, secondSource}
-use Rattle.graph.specs.Board.{Parsed, blank}
-use Rattle.graph.specs.declared.answer.Answer.{Answer}
+use Rattle.kinds.specs.Kind.{samplesFrom}
+use Rattle.kinds.specs.Rule.{Brought}
+use Rattle.kinds.specs.Cell.{valuesOf, freshCell, cellFits}
+use Rattle.kinds.specs.Node.{broughtAt, nodeRun}
+use Rattle.kinds.specs.declared.kind.NodeKind.{NodeKind}
+use Rattle.kinds.specs.declared.kind.NodeRecord.{NodeRecord}
+use Rattle.records.specs.Answer.{answer}
+use Rattle.sources.specs.Sources.{distinctSources, secondSource}
+use Rattle.boards.specs.Board.{Parsed, blank}
+use Rattle.records.specs.declared.answer.Answer.{Answer}
 
 -- ---- nodes by number
 

@@ -4,20 +4,20 @@ use mathlib.Core.Path.{_≡_}
 use mathlib.Core.List.{List, [], _∷_, map}
 use lib.ListN.{length, take}
 use Rattle.leaves.specs.Floats.{setFloat}
-use Rattle.nodes.specs.Kind.{samplesFrom}
-use Rattle.nodes.specs.Cell.{numberOf}
-use Rattle.nodes.specs.declared.kind.NodeRecord.{NodeRecord}
-use Rattle.graph.specs.Board.{Parsed, Progress, going, refused, whole, memoryLength}
-use Rattle.graph.specs.Judge.{readBoard}
-use Rattle.graph.specs.BoardParts.{orRefused}
+use Rattle.kinds.specs.Kind.{samplesFrom}
+use Rattle.kinds.specs.Cell.{numberOf}
+use Rattle.kinds.specs.declared.kind.NodeRecord.{NodeRecord}
+use Rattle.boards.specs.Board.{Parsed, Progress, going, refused, whole, memoryLength}
+use Rattle.boards.specs.Judge.{readBoard}
+use Rattle.boards.specs.BoardParts.{orRefused}
 use Rattle.graph.specs.Visit.{Lists}
 use Rattle.context.specs.Memory.{nodeIn, leftStart, rightStart, passed}
 use Rattle.context.specs.Calls.{checkNeeded, checkValues, listed}
-use Rattle.graph.specs.Read.{parsedOf, Sound, Read}
+use Rattle.boards.specs.Read.{parsedOf, Sound, Read}
 use Rattle.context.specs.Fine.{Fine}
-use Rattle.graph.specs.Formed.{TableAt}
-use Rattle.graph.specs.declared.answer.Answer.{Answer}
-use Rattle.graph.specs.declared.board.Board.{Board}
+use Rattle.boards.specs.Formed.{TableAt}
+use Rattle.records.specs.declared.answer.Answer.{Answer}
+use Rattle.boards.specs.declared.board.Board.{Board}
 use Rattle.graph.specs.declared.graph.Order.{Order}
 
 -- ---- a board that is opened

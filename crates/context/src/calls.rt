@@ -5,27 +5,27 @@ ghost use Prim.Native.Nat.{_+_, _*_, _≤_};
 ghost use lib.ListN.{length, take, drop, replicate};
 ghost use lib.Seq.{paste};
 ghost use Rattle.leaves.specs.Words.{words};
-ghost use Rattle.nodes.specs.Kind.{samplesFrom};
+ghost use Rattle.kinds.specs.Kind.{samplesFrom};
 ghost use Rattle.context.specs.Memory.{leftStart, rightStart, checkCells, runNodes};
 ghost use Rattle.context.specs.Calls.{andThen, checkNeeded, checkSize, checkSizes, checkSamples, asLeft, listed, freshOf, blockOf};
-ghost use Rattle.graph.specs.Read.{parsedOf};
+ghost use Rattle.boards.specs.Read.{parsedOf};
 ghost use Rattle.context.specs.Stages.{CellsIn, StartsFit, Starts, lending, LentOf, Lent, putNumbers};
 use crate::open::length_judged;
 use crate::open::opened;
-use graph::answer::Answer;
-use graph::board::Board;
+use boards::board::Board;
+use boards::judge::read_board;
 use graph::graph::Order;
 use graph::graph::visiting_list;
-use graph::judge::read_board;
+use kinds::cell::SAMPLES;
+use kinds::cell::cell_fits;
+use kinds::cell::number_of;
+use kinds::kind::NodeRecord;
 use leaves::bytes::wide;
 use leaves::bytes::word_at;
 use leaves::float::finite_bits;
 use leaves::float::store;
-use nodes::cell::SAMPLES;
-use nodes::cell::cell_fits;
-use nodes::cell::number_of;
-use nodes::kind::NodeRecord;
 use nodes::node::step;
+use records::answer::Answer;
 
 // ---- checks
 

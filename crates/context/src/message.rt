@@ -3,15 +3,15 @@ ghost use mathlib.Core.Path.{_≡_};
 ghost use Prim.Native.Nat.{_*_, _<_};
 ghost use lib.ListN.{length};
 ghost use Rattle.leaves.specs.Words.{words};
-ghost use Rattle.graph.specs.Read.{parsedOf, Sound};
+ghost use Rattle.boards.specs.Read.{parsedOf, Sound};
 ghost use Rattle.context.specs.Fine.{Fine};
 ghost use Rattle.context.specs.Calls.{checkNumber, putNumber, messageOf};
 use crate::open::judged;
-use graph::answer::Answer;
-use graph::board::Board;
+use boards::board::Board;
+use kinds::cell::takes_number;
+use kinds::cell::value_fits;
 use leaves::float::store;
-use nodes::cell::takes_number;
-use nodes::cell::value_fits;
+use records::answer::Answer;
 
 // Checks 11 and 12: the node is there and takes a number, and the value is in its range.
 fn number_judged(board: Board, k: usize, value: f32) -> Answer

@@ -6,11 +6,11 @@ ghost use Rattle.leaves.specs.Words.{words};
 ghost use Rattle.context.specs.Memory.{checkCells};
 ghost use Rattle.context.specs.Calls.{checkNeeded};
 ghost use Rattle.context.specs.Stages.{CellsIn, readOpen, readJudged, Opened};
-use graph::answer::Answer;
-use graph::board::Board;
-use graph::judge::read_board;
-use nodes::cell::cell_fits;
-use nodes::kind::NodeRecord;
+use boards::board::Board;
+use boards::judge::read_board;
+use kinds::cell::cell_fits;
+use kinds::kind::NodeRecord;
+use records::answer::Answer;
 
 // Check 7.
 pub fn length_judged(values: usize, lent: usize) -> Answer

@@ -10,15 +10,15 @@ use mathlib.Core.Path.{_≡_, refl, ap, _∙_}
 use mathlib.Core.List.{List}
 use native.Mathlib.Omega.{arith}
 use Rattle.leaves.specs.Words.{Bytes, unwords}
-use Rattle.nodes.specs.Rule.{Frame}
-use Rattle.nodes.specs.History.{Heard}
+use Rattle.kinds.specs.Rule.{Frame}
+use Rattle.kinds.specs.History.{Heard}
 use Rattle.reading.specs.Effect.{wiringIn}
 use Rattle.reading.specs.Time.{Timed}
 use Rattle.reading.specs.Calls.{afterCalls, replies}
-use Rattle.graph.specs.Board.{Parsed, Progress, going, refused, whole, memoryLength}
-use Rattle.graph.specs.Judge.{readBoard, answerBy, judgeOf}
-use Rattle.graph.specs.BoardParts.{wired as withWires}
-use Rattle.graph.proofs.Ending.{Ended, board-ends}
+use Rattle.boards.specs.Board.{Parsed, Progress, going, refused, whole, memoryLength}
+use Rattle.boards.specs.Judge.{readBoard, answerBy, judgeOf}
+use Rattle.boards.specs.BoardParts.{wired as withWires}
+use Rattle.boards.proofs.Ending.{Ended, board-ends}
 use Rattle.samples.specs.Claim.{freshMemory}
 use Rattle.context.specs.Calls.{listed}
 use Rattle.context.specs.Fine.{Fine}
@@ -31,7 +31,7 @@ use Rattle.samples.proofs.Demand as without
 use Rattle.demand.specs.Requests.{Lent, boardIn, wiresOn, Request, effectsOf, saidTo, requested, IsRewired, memoryThen}
 use Rattle.demand.specs.Instance.{Plays}
 use Rattle.demand.specs.Claim.{requestIn, AsRewired, Orders, RewiredClaim, RewiredDemand}
-use Rattle.demand.proofs.Sound.{plays, board-bytes, plays-fine, request-leaves, request-fits}
+use Rattle.demand.proofs.Lends.{plays, board-bytes, plays-fine, request-leaves, request-fits}
 use Rattle.demand.proofs.Promise.{show, promise, said}
 
 -- ---- the claim about a list of requests

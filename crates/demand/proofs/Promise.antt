@@ -7,15 +7,15 @@ use mathlib.Core.Path.{_≡_, refl, sym, ap, _∙_}
 use mathlib.Core.Bool.{Bool, true, false, cond}
 use mathlib.Core.List.{List, [], _∷_}
 use lib.Dec.{eqb}
-use Rattle.nodes.specs.Rule.{Frame}
+use Rattle.kinds.specs.Rule.{Frame}
 use Rattle.reading.specs.Effect.{Effect, blocks, wiringAfter}
 use Rattle.reading.specs.Time.{Timed, lastBlock}
 use Rattle.reading.specs.Solution.{outputsBy}
 use Rattle.reading.specs.Memory.{answers, Keeps-promise}
 use Rattle.reading.specs.Blocks.{runBlock, setState}
 use Rattle.reading.proofs.Calls.{acts-left}
-use Rattle.graph.specs.Board.{Parsed}
-use Rattle.graph.specs.BoardParts.{wired as withWires}
+use Rattle.boards.specs.Board.{Parsed}
+use Rattle.boards.specs.BoardParts.{wired as withWires}
 use Rattle.wiring.specs.Rewire.{addedBoard, pulledBoard, lentFor, addOf, pullOf}
 use Rattle.wiring.proofs.Answered.{lent-refused}
 use Rattle.wiring.specs.declared.rewire.Wiring.{Wiring}
@@ -28,7 +28,7 @@ use Rattle.samples.proofs.ShownCall.{doing, effects-wiring, call-shown}
 use Rattle.demand.specs.Requests.{Lent, boardIn, wiresOn, Request, call, add, pull, changeTo, changeBy, effectsOf, Said, replied, wired, saidTo, saidBy}
 use Rattle.demand.specs.Instance.{Plays}
 use Rattle.demand.specs.Claim.{lentBy, requestIn, Orders}
-use Rattle.demand.proofs.Sound.{board-bytes, plays-fine}
+use Rattle.demand.proofs.Lends.{board-bytes, plays-fine}
 
 -- ---- what is lent after a change
 

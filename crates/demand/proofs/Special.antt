@@ -11,19 +11,19 @@ use borrow.Author.Tests.{eqb-true, eq-eqb}
 use lib.Dec.{eqb}
 use lib.ListN.{length, getD}
 use Rattle.leaves.specs.Words.{Bytes, unwords}
-use Rattle.nodes.specs.Kind.{channelsOf}
-use Rattle.nodes.specs.Rule.{Frame}
-use Rattle.nodes.specs.Cell.{valuesOf}
-use Rattle.nodes.specs.History.{Heard, freshHeard, setNumber, sampleHeard, heardAfter, stateOf}
+use Rattle.kinds.specs.Kind.{channelsOf}
+use Rattle.kinds.specs.Rule.{Frame}
+use Rattle.kinds.specs.Cell.{valuesOf}
+use Rattle.kinds.specs.History.{Heard, freshHeard, setNumber, sampleHeard, heardAfter, stateOf}
 use Rattle.reading.specs.Table.{joined}
 use Rattle.reading.specs.Order.{Wire, Reorders}
 use Rattle.reading.specs.Visit.{start}
 use Rattle.reading.specs.Effect.{Effect, run, set, rewire, inputs, blocks, wiringAfter, wiringIn, told, heard}
 use Rattle.reading.specs.Time.{Timed, lastBlock}
 use Rattle.reading.specs.Calls.{replies, afterCalls}
-use Rattle.graph.specs.Board.{Parsed, Progress, whole}
-use Rattle.graph.specs.Judge.{readBoard}
-use Rattle.graph.specs.BoardParts.{wired as withWires}
+use Rattle.boards.specs.Board.{Parsed, Progress, whole}
+use Rattle.boards.specs.Judge.{readBoard}
+use Rattle.boards.specs.BoardParts.{wired as withWires}
 use Rattle.context.specs.Memory.{kindAt}
 use Rattle.context.specs.Calls.{Outcome, callBy, asLeft, checkBlock, ranBlock, blockIn, listed}
 use Rattle.samples.specs.Reading.{Call, block, message, accepts, done, effects, Fixed, mono, silence, reached, agoN, broughtTo, IsReading, IsReadingOn, samplesOf, Reply, replyTo, repliesTo}
@@ -36,7 +36,7 @@ use Rattle.samples.proofs.DemandReading as full
 use Rattle.samples.proofs.DemandAfter.{accepted-whole, memory-shown, replies-same}
 use Rattle.demand.specs.Requests.{Lent, boardIn, wiresRead, wiresOn, call, effectsOf, requested, boardAt, IsRewired, memoryThen, Said, replied, wired, saidBy}
 use Rattle.demand.specs.Claim.{requestIn, Orders, RewiredClaim, RewiredDemand}
-use Rattle.graph.proofs.RoundBytes.{bytes-front}
+use Rattle.records.proofs.RoundBytes.{bytes-front}
 use Rattle.demand.proofs.Claim.{own-order}
 
 -- ---- calls among the requests

@@ -13,15 +13,15 @@ use mathlib.Core.List.{List}
 use native.Mathlib.Omega.{arith}
 use borrow.Author.Tests.{eq-eqb}
 use lib.Arith.{digits-lt}
-use Rattle.nodes.specs.Rule.{Frame}
-use Rattle.nodes.specs.History.{Heard, sampleHeard}
+use Rattle.kinds.specs.Rule.{Frame}
+use Rattle.kinds.specs.History.{Heard, sampleHeard}
 use Rattle.reading.specs.Order.{late}
 use Rattle.reading.specs.Effect.{Effect, blocks, wiringIn}
 use Rattle.reading.specs.Time.{Timed}
 use Rattle.reading.specs.Solution.{IsSolution}
 use Rattle.reading.proofs.Still as theorem
-use Rattle.graph.specs.Board.{Parsed}
-use Rattle.graph.specs.BoardParts.{wired as withWires}
+use Rattle.boards.specs.Board.{Parsed}
+use Rattle.boards.specs.BoardParts.{wired as withWires}
 use Rattle.context.specs.Memory.{kindAt}
 use Rattle.context.specs.Calls.{listed}
 use Rattle.samples.specs.Reading.{mono, silence, reached, end, inputAt, toldAt, agoN, brings, broughtTo, heldAt}

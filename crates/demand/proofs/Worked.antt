@@ -12,21 +12,21 @@ use lib.ListN.{take, drop}
 use lib.Dec.{ltb}
 use lib.Ieee.{ofBits, toBits, add, mul, round}
 use Rattle.leaves.specs.Words.{Bytes, words, unwords}
-use Rattle.nodes.specs.Kind.{ruleOf}
-use Rattle.nodes.specs.Iter.{iter}
-use Rattle.nodes.specs.History.{Heard}
-use Rattle.nodes.specs.Rule.{Frame, total, leftOf, rightOf, keeps, carryAfter, get, xLine, yLine, placeAfter, lineAfter, sampleBy, stateBy}
-use Rattle.nodes.specs.Cell.{valuesOf, cellOf, numberOf, freshCell, numberFits, carryFits, placeFits, frameAt, putFrame, stepCell, runCell}
-use Rattle.nodes.specs.Node.{nodeRun}
+use Rattle.kinds.specs.Kind.{ruleOf}
+use Rattle.kinds.specs.Iter.{iter}
+use Rattle.kinds.specs.History.{Heard}
+use Rattle.kinds.specs.Rule.{Frame, total, leftOf, rightOf, keeps, carryAfter, get, xLine, yLine, placeAfter, lineAfter, sampleBy, stateBy}
+use Rattle.kinds.specs.Cell.{valuesOf, cellOf, numberOf, freshCell, numberFits, carryFits, placeFits, frameAt, putFrame, stepCell, runCell}
+use Rattle.kinds.specs.Node.{nodeRun}
 use Rattle.reading.specs.Time.{Timed}
 use Rattle.reading.specs.Calls.{replies, afterCalls}
-use Rattle.graph.specs.Record.{foundOf, foundAt}
-use Rattle.graph.specs.Sources.{distinct}
-use Rattle.graph.specs.Board.{whole, takeFound, stepOf, run, readRecords}
-use Rattle.graph.specs.Judge.{checkSources, readBoard}
-use Rattle.graph.specs.JudgeCases.{printed}
+use Rattle.records.specs.Record.{foundOf, foundAt}
+use Rattle.sources.specs.Sources.{distinct}
+use Rattle.boards.specs.Board.{whole, takeFound, stepOf, run, readRecords}
+use Rattle.boards.specs.Judge.{checkSources, readBoard}
+use Rattle.boards.specs.JudgeCases.{printed}
 use Rattle.graph.specs.Visit.{visitingList}
-use Rattle.graph.specs.Write.{kindOf}
+use Rattle.boards.specs.Obeys.{kindOf}
 use Rattle.wiring.specs.Rewire.{wiring, refusal, addedBoard, pulledBoard, addOf, pullOf}
 use Rattle.context.specs.Memory.{freshValues, checkCells, runNode, runNodes, putInput}
 use Rattle.context.specs.Calls.{checkSamples, blockIn, listed}

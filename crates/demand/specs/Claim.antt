@@ -9,16 +9,16 @@ use mathlib.Core.List.{List}
 use lib.Dec.{eqb}
 use lib.ListN.{length}
 use Rattle.leaves.specs.Words.{Bytes}
-use Rattle.nodes.specs.Rule.{Frame}
-use Rattle.nodes.specs.History.{Heard}
+use Rattle.kinds.specs.Rule.{Frame}
+use Rattle.kinds.specs.History.{Heard}
 use Rattle.reading.specs.Order.{Wire, Reorders}
 use Rattle.reading.specs.Effect.{wiringAfter}
 use Rattle.reading.specs.Time.{Timed}
 use Rattle.reading.specs.Calls as calls
-use Rattle.graph.specs.Answer.{answer}
-use Rattle.graph.specs.Board.{Parsed, whole, memoryLength}
-use Rattle.graph.specs.Judge.{readBoard}
-use Rattle.graph.specs.BoardParts.{wired as withWires}
+use Rattle.records.specs.Answer.{answer}
+use Rattle.boards.specs.Board.{Parsed, whole, memoryLength}
+use Rattle.boards.specs.Judge.{readBoard}
+use Rattle.boards.specs.BoardParts.{wired as withWires}
 use Rattle.graph.specs.Visit.{visitingList}
 use Rattle.wiring.specs.Rewire.{addOf, pullOf}
 use Rattle.wiring.specs.declared.rewire.Wiring.{Wiring}

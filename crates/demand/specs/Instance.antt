@@ -1,9 +1,9 @@
 -- What is known of what is lent while a board that reads as p plays. Scaffolding, of which the statements say nothing. Definitions only.
 use mathlib.Core.Path.{_≡_}
 use Rattle.leaves.specs.Words.{Bytes}
-use Rattle.graph.specs.Board.{Parsed, whole}
-use Rattle.graph.specs.Judge.{readBoard}
-use Rattle.graph.specs.BoardParts.{wired as withWires}
+use Rattle.boards.specs.Board.{Parsed, whole}
+use Rattle.boards.specs.Judge.{readBoard}
+use Rattle.boards.specs.BoardParts.{wired as withWires}
 use Rattle.demand.specs.Requests.{Lent, boardIn, wiresOn}
 
 -- its board is p's nodes with some wires

@@ -7,17 +7,17 @@ use mathlib.Core.List.{List, [], _∷_}
 use lib.ListN.{length, take}
 use lib.Dec.{eqb}
 use Rattle.leaves.specs.Words.{unwords}
-use Rattle.nodes.specs.Rule.{Frame}
-use Rattle.nodes.specs.Cell.{valuesOf}
-use Rattle.nodes.specs.History.{Heard}
+use Rattle.kinds.specs.Rule.{Frame}
+use Rattle.kinds.specs.Cell.{valuesOf}
+use Rattle.kinds.specs.History.{Heard}
 use Rattle.reading.specs.Table.{joined}
 use Rattle.reading.specs.Order.{Wire}
 use Rattle.reading.specs.Effect.{Effect, rewire, blocks, wiringAfter, wiringIn, heard}
 use Rattle.reading.specs.Time.{Timed, lastBlock}
-use Rattle.graph.specs.Board as graph
-use Rattle.graph.specs.Board.{Parsed}
-use Rattle.graph.specs.Judge.{readBoard}
-use Rattle.graph.specs.BoardParts.{wired as withWires}
+use Rattle.boards.specs.Board as graph
+use Rattle.boards.specs.Board.{Parsed}
+use Rattle.boards.specs.Judge.{readBoard}
+use Rattle.boards.specs.BoardParts.{wired as withWires}
 use Rattle.wiring.specs.Rewire.{addOf, pullOf}
 use Rattle.wiring.specs.declared.rewire.Wiring.{Wiring}
 use Rattle.samples.specs.Reading.{Call, effects, silence, IsReadingOn, reachedCell, Reply, replyTo}

@@ -8,25 +8,25 @@ use borrow.Author.Tests.{ltb-true, ltb-false, leb-true, ne-eqb}
 use lib.Dec.{ltb, leb}
 use lib.ListN.{length, getD, take}
 use lib.Seq.{length-take-le}
-use Rattle.nodes.specs.Kind.{cellSize, fewest, most}
-use Rattle.nodes.specs.declared.kind.NodeRecord.{NodeRecord}
+use Rattle.kinds.specs.Kind.{cellSize, fewest, most}
+use Rattle.kinds.specs.declared.kind.NodeRecord.{NodeRecord}
 use Rattle.reading.specs.Order.{Wire, Each, sources}
 use Rattle.reading.proofs.Order.{each-source}
-use Rattle.graph.specs.Board.{Parsed, blank, refused, whole, cellsOf}
-use Rattle.graph.specs.Sources.{distinct, distinctSources}
-use Rattle.graph.specs.Wires.{wiresOf}
-use Rattle.graph.specs.Judge.{readBoard}
-use Rattle.graph.specs.Read.{parsedOf, Read}
-use Rattle.graph.specs.Formed.{Formed, TableAt}
+use Rattle.boards.specs.Board.{Parsed, blank, refused, whole, cellsOf}
+use Rattle.sources.specs.Sources.{distinct, distinctSources}
+use Rattle.boards.specs.Wires.{wiresOf}
+use Rattle.boards.specs.Judge.{readBoard}
+use Rattle.boards.specs.Read.{parsedOf, Read}
+use Rattle.boards.specs.Formed.{Formed, TableAt}
 use Rattle.graph.specs.Listed.{SourcesBelow}
-use Rattle.graph.specs.Write.{WireObeys}
-use Rattle.graph.specs.declared.board.Board.{Board}
-use Rattle.graph.proofs.Choice.{both}
-use Rattle.graph.proofs.Answers.{or-accepts, or-refuses}
-use Rattle.graph.proofs.Six.{sources-few}
+use Rattle.boards.specs.Obeys.{WireObeys}
+use Rattle.boards.specs.declared.board.Board.{Board}
+use Rattle.reading.proofs.Choice.{both}
+use Rattle.boards.proofs.Answers.{or-accepts, or-refuses}
+use Rattle.boards.proofs.Six.{sources-few}
 use Rattle.graph.proofs.Listed.{mem-at}
-use Rattle.graph.proofs.RoundSources.{mem-distinct}
-use Rattle.graph.proofs.Formed.{whole-formed}
+use Rattle.boards.proofs.RoundSources.{mem-distinct}
+use Rattle.boards.proofs.Formed.{whole-formed}
 
 -- ---- cells stand one after the other
 

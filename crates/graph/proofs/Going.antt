@@ -14,11 +14,11 @@ use Rattle.reading.specs.Table.{mem}
 use Rattle.reading.specs.Order.{Wire, sources}
 use Rattle.reading.specs.Visit.{Walk, markNode, listNode, each, go}
 use Rattle.reading.proofs.Table.{mem-head, mem-other}
-use Rattle.graph.specs.Sources.{distinctSources}
-use Rattle.graph.specs.Wires.{Within}
+use Rattle.sources.specs.Sources.{distinctSources}
+use Rattle.boards.specs.Wires.{Within}
 use Rattle.graph.specs.Walking.{Gathered, Stands, unmarked, Visited}
-use Rattle.graph.proofs.Wiring.{within-more}
-use Rattle.graph.proofs.Repeats.{each-append, each-distinct, go-skips, go-new}
+use Rattle.boards.proofs.Wiring.{within-more}
+use Rattle.sources.proofs.Repeats.{each-append, each-distinct, go-skips, go-new}
 
 -- a node that was not marked is marked: there is one unmarked node less
 pub unmarked-set : (m : List ℕ) (v : ℕ) → v < length m → getD m v 0 ≡ 0 → unmarked m ≡ suc (unmarked (set m v 1))

@@ -11,13 +11,12 @@ use borrow.Author.Tests.{lt-ltb}
 use lib.Dec.{ltb, leb·suc-suc, leb·suc-zero}
 use lib.ListN.{length, getD}
 use Rattle.reading.specs.Table.{mem}
-use Rattle.reading.specs.Order.{Wire, before, earlier}
+use Rattle.reading.specs.Order.{Wire, before, earlier, wire}
 use Rattle.reading.proofs.Table.{mem-head, mem-other}
 use Rattle.reading.proofs.Order.{before-head, before-other}
-use Rattle.graph.specs.Board.{wire}
-use Rattle.graph.specs.Wires.{wiresOf}
+use Rattle.boards.specs.Wires.{wiresOf}
 use Rattle.graph.specs.Late.{isLate, lateWires, place, Placed}
-use Rattle.graph.proofs.Wiring.{wires-snoc}
+use Rattle.boards.proofs.Wiring.{wires-snoc}
 
 -- ---- places
 

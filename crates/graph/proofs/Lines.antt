@@ -9,16 +9,16 @@ use mathlib.Core.List.{List, [], _∷_, _++_}
 use lib.Dec.{eqb}
 use lib.ListN.{length, getD, take, drop}
 use lib.Seq.{take-suc, split-at, getD-take}
-use Rattle.nodes.specs.Kind.{lineOf}
-use Rattle.nodes.specs.declared.kind.NodeRecord.{NodeRecord}
+use Rattle.kinds.specs.Kind.{lineOf}
+use Rattle.kinds.specs.declared.kind.NodeRecord.{NodeRecord}
 use Rattle.reading.specs.Table.{mem}
 use Rattle.reading.specs.Order.{Wire}
 use Rattle.reading.proofs.Table.{mem-head, or-right}
-use Rattle.graph.specs.Board.{Parsed, blank, linesOf}
+use Rattle.boards.specs.Board.{Parsed, blank, linesOf}
 use Rattle.graph.specs.Visit.{visitingList}
 use Rattle.graph.specs.Listed.{SourcesBelow}
 use Rattle.graph.specs.Late.{lateWires}
-use Rattle.graph.specs.Tail.{delays, kindAt, onlyDelays, listedLines, endless, tailBy, tailOf, LinesFit}
+use Rattle.graph.specs.Tail.{delays, kindIn, onlyDelays, listedLines, endless, tailBy, tailOf, LinesFit}
 use Rattle.graph.proofs.Listed.{lists-reached}
 
 -- ---- one listed node more
@@ -26,12 +26,12 @@ use Rattle.graph.proofs.Listed.{lists-reached}
 only-append : (ns : List NodeRecord) (a b : List ℕ) → onlyDelays ns (a ++ b) ≡ (onlyDelays ns a && onlyDelays ns b)
 only-append ns [] b = refl
 only-append ns (k ∷ a) b =
-    ap (λ (t : Bool). delays (kindAt ns k) && t) (only-append ns a b) ∙ sym (and-assoc (delays (kindAt ns k)) (onlyDelays ns a) (onlyDelays ns b))
+    ap (λ (t : Bool). delays (kindIn ns k) && t) (only-append ns a b) ∙ sym (and-assoc (delays (kindIn ns k)) (onlyDelays ns a) (onlyDelays ns b))
 
 lines-append : (ns : List NodeRecord) (a b : List ℕ) → listedLines ns (a ++ b) ≡ listedLines ns a + listedLines ns b
 lines-append ns [] b = sym (zero-add (listedLines ns b))
 lines-append ns (k ∷ a) b =
-    ap (λ (n : ℕ). lineOf (kindAt ns k) + n) (lines-append ns a b) ∙ sym (add-assoc (lineOf (kindAt ns k)) (listedLines ns a) (listedLines ns b))
+    ap (λ (n : ℕ). lineOf (kindIn ns k) + n) (lines-append ns a b) ∙ sym (add-assoc (lineOf (kindIn ns k)) (listedLines ns a) (listedLines ns b))
 
 -- the first i of a list's nodes only delay, and their lines are n together
 pub record Summed (ns : List NodeRecord) (l : List ℕ) (n i : ℕ) : Type 0 where
@@ -42,16 +42,16 @@ module _ (ns : List NodeRecord) (l : List ℕ) (n i v : ℕ) (inside : i < lengt
   next : take (i + 1) l ≡ take i l ++ (v ∷ [])
   next = rw add-one (take-suc l i 0 inside ∙ ap (λ (x : ℕ). take i l ++ (x ∷ [])) (sym is))
 
-  pub summed-more : delays (kindAt ns v) ≡ true → Summed ns l (n + lineOf (kindAt ns v)) (i + 1)
+  pub summed-more : delays (kindIn ns v) ≡ true → Summed ns l (n + lineOf (kindIn ns v)) (i + 1)
   summed-more e = record {
     only = ap (onlyDelays ns) next ∙ only-append ns (take i l) (v ∷ []) ∙ ap₂ _&&_ (s .only) (ap (λ (b : Bool). b && true) e);
-    lines = sym (ap (listedLines ns) next ∙ lines-append ns (take i l) (v ∷ []) ∙ ap₂ _+_ (sym (s .lines)) (add-zero (lineOf (kindAt ns v))));
+    lines = sym (ap (listedLines ns) next ∙ lines-append ns (take i l) (v ∷ []) ∙ ap₂ _+_ (sym (s .lines)) (add-zero (lineOf (kindIn ns v))));
   }
 
-  pub summed-never : delays (kindAt ns v) ≡ false → onlyDelays ns l ≡ false
+  pub summed-never : delays (kindIn ns v) ≡ false → onlyDelays ns l ≡ false
   summed-never e =
       ap (onlyDelays ns) (split-at l i 0 inside) ∙ only-append ns (take i l) (getD l i 0 ∷ drop (suc i) l)
-      ∙ ap₂ _&&_ (s .only) (ap (λ (b : Bool). b && onlyDelays ns (drop (suc i) l)) (ap (λ (k : ℕ). delays (kindAt ns k)) (sym is) ∙ e))
+      ∙ ap₂ _&&_ (s .only) (ap (λ (b : Bool). b && onlyDelays ns (drop (suc i) l)) (ap (λ (k : ℕ). delays (kindIn ns k)) (sym is) ∙ e))
 
 -- ---- the two tests of a tail, one after the other
 
@@ -77,7 +77,7 @@ lines-front ns n (k ∷ l) h =
     ap₂ _+_ (ap (λ (r : NodeRecord). lineOf (r .kind)) (getD-take n ns k blank (h k (mem-head k l)))) (lines-front ns n l (λ j e. h j (or-right (eqb j k) e)))
 
 -- a node's line is no longer than all lines together
-line-within : (ns : List NodeRecord) (k : ℕ) → lineOf (kindAt ns k) ≤ linesOf ns
+line-within : (ns : List NodeRecord) (k : ℕ) → lineOf (kindIn ns k) ≤ linesOf ns
 line-within [] k = omega arith
 line-within (r ∷ ns) zero = omega arith
 line-within (r ∷ ns) (suc k) = let ih = line-within ns k in omega arith

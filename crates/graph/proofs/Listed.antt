@@ -15,7 +15,7 @@ use Rattle.reading.specs.Order.{Wire, sources}
 use Rattle.reading.specs.Visit.{markNode, each, go, Reached, start, along}
 use Rattle.reading.proofs.Table.{mem-head, or-right}
 use Rattle.reading.proofs.Visit.{visiting-once, visiting-input-first, visiting-closed, reached-listed, listed-reached}
-use Rattle.graph.specs.Wires.{Within}
+use Rattle.boards.specs.Wires.{Within}
 use Rattle.graph.specs.Visit.{visitingList, Lists}
 use Rattle.graph.specs.Listed.{SourcesBelow, ListsReached}
 

@@ -7,14 +7,14 @@ use lib.ListN.{getD}
 use mathlib.Core.List.{List}
 use Rattle.reading.specs.Order.{Wire, Each}
 use Rattle.reading.proofs.Order.{each-source}
-use Rattle.graph.specs.Judge.{readBoard}
-use Rattle.graph.specs.Wires.{Within, wiresFrom, wiresOf}
-use Rattle.graph.specs.Read.{parsedOf, Read}
+use Rattle.boards.specs.Judge.{readBoard}
+use Rattle.boards.specs.Wires.{Within, wiresFrom, wiresOf}
+use Rattle.boards.specs.Read.{parsedOf, Read}
 use Rattle.graph.specs.Visit.{visitingList, Lists}
 use Rattle.graph.specs.Walking.{Table, Gathered}
 use Rattle.graph.specs.Listed.{SourcesBelow}
 use Rattle.graph.specs.Tail.{tailBy, tailOf, LinesFit}
-use Rattle.graph.specs.declared.board.Board.{Board}
+use Rattle.boards.specs.declared.board.Board.{Board}
 use Rattle.graph.proofs.Accepted.{joins-below, accepted-formed, count-is, table-at}
 use Rattle.graph.proofs.Listed.{listed-within}
 use Rattle.graph.proofs.Lines.{tail-of, lines-fit}

@@ -5,7 +5,7 @@ use mathlib.Core.List.{List}
 use lib.ListN.{length, take}
 use Rattle.reading.specs.Order.{Wire}
 use Rattle.reading.specs.Visit.{visiting}
-use Rattle.graph.specs.Wires.{Within}
+use Rattle.boards.specs.Wires.{Within}
 
 -- From node 0: mark the node, go to each source not yet marked, oldest wire first, then list the node. No way through a board is longer
 -- than its nodes are many, and these are 64 at most.

@@ -1,9 +1,9 @@
 -- P: document 01's printed board, its list and its late wire; and three tails. By computation. Assumes nothing.
 use mathlib.Core.Path.{_≡_, refl}
 use lib.Ieee.{ofBits, binary32}
-use Rattle.nodes.specs.declared.kind.NodeKind.the-variants.{Pass, Sum, Destination, Mul, Add, Delay}
-use Rattle.graph.specs.Board.{Parsed, headed, withNode, withWire}
-use Rattle.graph.specs.Walks.{printedWires, printedList, printedLate}
+use Rattle.kinds.specs.declared.kind.NodeKind.the-variants.{Pass, Sum, Destination, Mul, Add, Delay}
+use Rattle.boards.specs.Board.{Parsed, headed, withNode, withWire}
+use Rattle.boards.specs.Walks.{printedWires, printedList, printedLate}
 use Rattle.graph.specs.Visit.{visitingList}
 use Rattle.graph.specs.Late.{isLate, lateWires}
 use Rattle.graph.specs.Tail.{endless, tailBy, tailOf}

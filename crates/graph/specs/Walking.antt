@@ -7,8 +7,8 @@ use lib.ListN.{length, getD, take}
 use Rattle.reading.specs.Table.{mem}
 use Rattle.reading.specs.Order.{Wire}
 use Rattle.reading.specs.Visit.{Walk, go}
-use Rattle.graph.specs.Sources.{distinctSources}
-use Rattle.graph.specs.Wires.{Within}
+use Rattle.sources.specs.Sources.{distinctSources}
+use Rattle.boards.specs.Wires.{Within}
 
 -- ---- the sources gathered in two arrays: node v's stand in `lists` from 8 v on, as many as `counts` says
 

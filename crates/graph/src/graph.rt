@@ -3,9 +3,8 @@ ghost use mathlib.Core.Path.{_≡_};
 ghost use mathlib.Core.List.{List};
 ghost use Prim.Native.Nat.{ℕ, _<_, _≤_};
 ghost use lib.ListN.{length, take};
-ghost use Rattle.reading.specs.Order.{Wire};
-ghost use Rattle.graph.specs.Board.{wire};
-ghost use Rattle.graph.specs.Wires.{Within, wiresOf};
+ghost use Rattle.reading.specs.Order.{Wire, wire};
+ghost use Rattle.boards.specs.Wires.{Within, wiresOf};
 ghost use Rattle.graph.specs.Visit.{visitingList, Lists};
 ghost use Rattle.graph.specs.Walking.{Table, Gathered, Ready, Visited};
 ghost use Rattle.graph.specs.Late.{isLate, lateWires, Placed};
@@ -48,7 +47,7 @@ pub struct Order {
 
 // The visiting list of the wires whose sources are gathered in the two arrays.
 // Ruled out, and tried by must-fail edits: a node listed before its sources (lists_before_sources), the
-// newest wire first (newest_wire_first).
+// newest wire first (sources, newest_wire_first).
 pub fn visiting_list<'a>(counts: &'a [u8; 64], lists: &'a [u8; 512]) -> Order
     requires { ⌜ Table (now counts) (now lists) ⌝ }
     ensures { λ r. ⌜ ((ws : List Wire) → Gathered ws (now (counts .entry)) (now (lists .entry)) → Lists (visitingList ws) (r .nodes) (r .count)) ⌝ }

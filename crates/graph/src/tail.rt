@@ -3,20 +3,20 @@ ghost use mathlib.Core.Path.{_≡_};
 ghost use mathlib.Core.Bool.{cond};
 ghost use Prim.Native.Nat.{_≤_};
 ghost use lib.ListN.{length, take};
-ghost use Rattle.graph.specs.Wires.{Within, wiresOf};
+ghost use Rattle.boards.specs.Wires.{Within, wiresOf};
 ghost use Rattle.graph.specs.Tail.{delays, onlyDelays, listedLines, endless, tailBy, tailAnswer, LinesFit};
-use crate::answer::Answer;
 use crate::graph::late_count;
 use crate::graph::places;
 use crate::graph::visiting_list;
-use crate::judge::read_board;
+use boards::judge::read_board;
+use kinds::kind::NodeKind;
+use kinds::kind::NodeRecord;
+use kinds::kind::line_of;
 use leaves::bytes::wide;
-use nodes::kind::NodeKind;
-use nodes::kind::NodeRecord;
-use nodes::kind::line_of;
+use records::answer::Answer;
 
 // The answer of a board whose output may never end.
-const ENDLESS: usize = 4294967295;
+pub const ENDLESS: usize = 4294967295;
 
 // Whether a node of this type is silent as soon as its sources and its line are.
 fn delays(k: NodeKind) -> bool

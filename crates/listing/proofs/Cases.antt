@@ -1,9 +1,9 @@
 -- P: the text that `order` writes of document 01's printed board, and of a refusal. By computation. Assumes nothing.
 use mathlib.Core.Path.{_≡_, refl}
 use mathlib.Core.List.{[], _∷_}
-use Rattle.graph.specs.Board.{refused}
+use Rattle.boards.specs.Board.{refused}
 use Rattle.graph.specs.Late.{lateWires, isLate}
-use Rattle.graph.specs.Walks.{printedWires as printed, printedList}
+use Rattle.boards.specs.Walks.{printedWires as printed, printedList}
 use Rattle.text.specs.Written.{number, spaced, pair}
 use Rattle.listing.specs.Text.{orderText, textOf, spacedAll, lateLines}
 

@@ -12,7 +12,7 @@ use Rattle.reading.specs.Order.{Wire}
 use Rattle.graph.specs.Visit.{visitingList}
 use Rattle.graph.specs.Listed.{SourcesBelow}
 use Rattle.graph.proofs.Listed.{lists-reached, mem-at}
-use Rattle.graph.proofs.RoundSources.{fewer}
+use Rattle.boards.proofs.RoundSources.{fewer}
 
 -- the numbers below n
 down : ℕ → List ℕ

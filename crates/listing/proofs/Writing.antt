@@ -5,9 +5,8 @@ use mathlib.Core.Bool.{Bool, true, false, cond}
 use Prim.Native.Nat.{ℕ, _+_, _<_, _≤_}
 use native.Mathlib.Omega.{arith}
 use lib.ListN.{length, getD, take}
-use Rattle.reading.specs.Order.{Wire}
-use Rattle.graph.specs.Board.{wire}
-use Rattle.graph.specs.Wires.{wiresOf}
+use Rattle.reading.specs.Order.{Wire, wire}
+use Rattle.boards.specs.Wires.{wiresOf}
 use Rattle.graph.specs.Late.{isLate, lateWires}
 use Rattle.graph.proofs.Late.{late-more}
 use Rattle.text.specs.Written.{spaced}

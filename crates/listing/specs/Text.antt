@@ -2,7 +2,7 @@
 use Prim.Native.Nat.{ℕ}
 use mathlib.Core.List.{List, [], _∷_, _++_}
 use Rattle.reading.specs.Order.{Wire}
-use Rattle.graph.specs.Board.{Progress, going, refused, whole}
+use Rattle.boards.specs.Board.{Progress, going, refused, whole}
 use Rattle.graph.specs.Visit.{visitingList}
 use Rattle.graph.specs.Late.{lateWires}
 use Rattle.text.specs.Written.{spaced, pair}

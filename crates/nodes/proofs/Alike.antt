@@ -15,15 +15,15 @@ use lib.Ieee.{Float, nan, binary32, ofBits, toBits, add, mul}
 use Rattle.leaves.specs.Floors.{floorOf}
 use Rattle.leaves.specs.Position.{positionOf, restOf}
 use Rattle.leaves.specs.OnePole.{onePoleOf, onePoleStep}
-use Rattle.nodes.specs.Row.{Terms, Writes, mono, product, plus, delayed, filteredBy, smoothed, wave, rowOf}
-use Rattle.nodes.specs.Kind.{channelsOf}
-use Rattle.nodes.specs.Rule.{Brought, State, first, two, allPass, between, tapBy, tap, keepsIn, keeps, leftIn, leftOf, leftBy, rightIn, rightOf, carryAfter, xLine, yLine, placeAfter, lineAfter, sampleBy, stateBy}
-use Rattle.nodes.specs.Cell.{Cell, valuesOf, cellOf, frameAt, putFrame, stepCell, runCell, runValues}
-use Rattle.nodes.specs.Block.{sample, alone, given, nothing}
-use Rattle.nodes.specs.Node.{sumsSources, GivesBy, Operands, Gives}
-use Rattle.nodes.specs.declared.kind.NodeKind.{NodeKind}
-use Rattle.nodes.specs.declared.kind.NodeKind.the-variants.{Mul, Add, Delay, AllPass, OnePole, Sine}
-use Rattle.nodes.proofs.Iterated.{iter-same}
+use Rattle.kinds.specs.Row.{Terms, Writes, mono, product, plus, delayed, filteredBy, smoothed, wave, rowOf}
+use Rattle.kinds.specs.Kind.{channelsOf}
+use Rattle.kinds.specs.Rule.{Brought, State, first, two, allPass, between, tapBy, tap, keepsIn, keeps, leftIn, leftOf, leftBy, rightIn, rightOf, carryAfter, xLine, yLine, placeAfter, lineAfter, sampleBy, stateBy}
+use Rattle.kinds.specs.Cell.{Cell, valuesOf, cellOf, frameAt, putFrame, stepCell, runCell, runValues}
+use Rattle.effects.specs.Block.{sample, alone, given, nothing}
+use Rattle.nodes.specs.Ready.{sumsSources, GivesBy, Operands, Gives}
+use Rattle.kinds.specs.declared.kind.NodeKind.{NodeKind}
+use Rattle.kinds.specs.declared.kind.NodeKind.the-variants.{Mul, Add, Delay, AllPass, OnePole, Sine}
+use Rattle.kinds.proofs.Iterated.{iter-same}
 
 pub record Alike (b d : Brought) : Type 0 where
   pub firsts : first b ≡ first d

@@ -11,11 +11,12 @@ use borrow.Author.Tests.{lt-ltb}
 use lib.Dec.{ltb}
 use lib.ListN.{length, getD, length-map}
 use lib.Ieee.{Float, nan}
-use Rattle.nodes.specs.Rule.{total}
-use Rattle.nodes.specs.Block.{sample, fill, fetchedIf, samplesAt, totalAt}
-use Rattle.nodes.specs.Node.{broughtAt, Operands, Gives, Supplies}
-use Rattle.nodes.specs.declared.kind.NodeKind.{NodeKind}
-use Rattle.nodes.proofs.Filled.{fill-at, fetch-at}
+use Rattle.kinds.specs.Rule.{total}
+use Rattle.effects.specs.Block.{sample, fill, fetchedIf}
+use Rattle.kinds.specs.Node.{samplesAt, broughtAt}
+use Rattle.nodes.specs.Ready.{totalAt, Operands, Gives, Supplies}
+use Rattle.kinds.specs.declared.kind.NodeKind.{NodeKind}
+use Rattle.effects.proofs.Filled.{fill-at, fetch-at}
 
 head-map : (f : ℕ → Float) (l : List ℕ) → 0 < length l → getD (map f l) 0 nan ≡ f (getD l 0 0)
 head-map f [] h = absurd (omega arith)

@@ -1,21 +1,7 @@
-pub mod Answers
-pub mod Arms
-pub mod Rows
-pub mod Iterated
-pub mod Filled
-pub mod Splits
-pub mod Cells
+-- Laws that the proofs of `nodes` cite.
 pub mod Totals
 pub mod Plain
 pub mod Alike
 pub mod Supplied
 pub mod Brought
-pub mod Kept
-pub mod Fresh
-pub mod Carried
 pub mod Phases
-pub mod Histories
-pub mod HistoryFrames
-pub mod HistoryRules
-pub mod Rings
-pub mod Unread

@@ -15,16 +15,16 @@ use lib.Seq.{set-comm, set-getD}
 use lib.Ieee.{Float, binary32, ofBits, toBits, add, mul}
 use Rattle.leaves.specs.Words.{words, length-words}
 use Rattle.leaves.specs.Floats.{floatAt}
-use Rattle.nodes.specs.Kind.{channelsOf, lineOf, cellSize, samplesFrom, numberIndex}
-use Rattle.nodes.specs.Iter.{iter}
-use Rattle.nodes.specs.Rule.{Brought, State, first, operand, keeps, leftOf, leftBy, rightOf, carryAfter, placeAfter, lineAfter, sampleBy, stateBy}
-use Rattle.nodes.specs.Cell.{Cell, withSamples, valuesOf, cellOf, frameAt, putFrame, stepCell, runCell, runValues}
-use Rattle.nodes.specs.Block.{stored, opNumber, opSources, given}
-use Rattle.nodes.specs.declared.kind.NodeKind.{NodeKind}
-use Rattle.nodes.specs.declared.kind.NodeKind.the-variants.{Mul, Add}
-use Rattle.nodes.proofs.Iterated.{iter-builds}
-use Rattle.nodes.proofs.Kept.{step-samples}
-use Rattle.nodes.proofs.Cells.{values-cell, samples-long, set-sample}
+use Rattle.kinds.specs.Kind.{channelsOf, lineOf, cellSize, samplesFrom, numberIndex}
+use Rattle.kinds.specs.Iter.{iter}
+use Rattle.kinds.specs.Rule.{Brought, State, first, operand, keeps, leftOf, leftBy, rightOf, carryAfter, placeAfter, lineAfter, sampleBy, stateBy}
+use Rattle.kinds.specs.Cell.{Cell, withSamples, valuesOf, cellOf, frameAt, putFrame, stepCell, runCell, runValues}
+use Rattle.effects.specs.Block.{stored, opNumber, opSources, given}
+use Rattle.kinds.specs.declared.kind.NodeKind.{NodeKind}
+use Rattle.kinds.specs.declared.kind.NodeKind.the-variants.{Mul, Add}
+use Rattle.kinds.proofs.Iterated.{iter-builds}
+use Rattle.kinds.proofs.Kept.{step-samples}
+use Rattle.kinds.proofs.Cells.{values-cell, samples-long, set-sample}
 
 -- ---- stores of blocks
 

@@ -12,16 +12,16 @@ use lib.Ieee.{Float}
 use Rattle.leaves.specs.Words.{words, length-words}
 use Rattle.leaves.specs.Floats.{floatAt}
 use Rattle.leaves.specs.Floors.{f1, f44100, within}
-use Rattle.nodes.specs.Kind.{fewest, most, cellSize, samplesFrom, numberIndex, carryIndex, placeIndex}
-use Rattle.nodes.specs.Rule.{Brought, keeps, leftOf, rightOf, carryAfter, placeAfter, lineAfter, stateBy}
-use Rattle.nodes.specs.Cell.{cellOf, numberFits, carryFits, placeFits, runValues}
-use Rattle.nodes.specs.Block.{sample, putBlock, alone, given, nothing}
-use Rattle.nodes.specs.Node.{Operands, Supplies, CellReady}
-use Rattle.nodes.specs.declared.kind.NodeKind.{NodeKind}
-use Rattle.nodes.specs.declared.kind.NodeKind.the-variants.{Pass, Sum, Destination, Balance, Delay, AllPass, Sine}
-use Rattle.nodes.proofs.Arms.{Among, arm}
+use Rattle.kinds.specs.Kind.{fewest, most, cellSize, samplesFrom, numberIndex, carryIndex, placeIndex}
+use Rattle.kinds.specs.Rule.{Brought, keeps, leftOf, rightOf, carryAfter, placeAfter, lineAfter, stateBy}
+use Rattle.kinds.specs.Cell.{cellOf, numberFits, carryFits, placeFits, runValues}
+use Rattle.effects.specs.Block.{sample, putBlock, alone, given, nothing}
+use Rattle.nodes.specs.Ready.{Operands, Supplies, CellReady}
+use Rattle.kinds.specs.declared.kind.NodeKind.{NodeKind}
+use Rattle.kinds.specs.declared.kind.NodeKind.the-variants.{Pass, Sum, Destination, Balance, Delay, AllPass, Sine}
+use Rattle.kinds.proofs.Arms.{Among, arm}
 use Rattle.nodes.proofs.Alike.{ReadsOperands, run-alike, alike-given, alike-alone, alike-nothing}
-use Rattle.nodes.proofs.Kept.{Judged, both, fits-judged}
+use Rattle.kinds.proofs.Kept.{Judged, both, fits-judged}
 use Rattle.nodes.proofs.Plain.{stored-mono, stored-stereo, block-kept}
 
 -- ---- what is ready

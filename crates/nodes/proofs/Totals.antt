@@ -8,9 +8,11 @@ use lib.ListN.{length, getD, take}
 use lib.Seq.{take-suc, take-length}
 use lib.Ieee.{Float, binary32, add}
 use Rattle.leaves.specs.Floats.{floatAt}
-use Rattle.nodes.specs.Rule.{addTo, total}
-use Rattle.nodes.specs.Block.{sample, fill, quiet, begun, added, samplesAt, totalAt}
-use Rattle.nodes.proofs.Filled.{length-fill, fill-at, fill-over, fill-same}
+use Rattle.kinds.specs.Rule.{addTo, total}
+use Rattle.effects.specs.Block.{sample, fill, quiet, begun, added}
+use Rattle.kinds.specs.Node.{samplesAt}
+use Rattle.nodes.specs.Ready.{totalAt}
+use Rattle.effects.proofs.Filled.{length-fill, fill-at, fill-over, fill-same}
 
 addTo-more : (t : Float) (xs : List Float) (x : Float) → addTo t (xs ++ (x ∷ [])) ≡ add binary32 (addTo t xs) x
 addTo-more t [] x = refl

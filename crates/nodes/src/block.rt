@@ -3,7 +3,7 @@ ghost use mathlib.Core.Path.{_≡_};
 ghost use Prim.Native.Nat.{_+_, _*_, _≤_};
 ghost use lib.ListN.{length};
 ghost use Rattle.leaves.specs.Words.{words};
-ghost use Rattle.nodes.specs.Block.{fetched, fill, putBlock};
+ghost use Rattle.effects.specs.Block.{fetched, fill, putBlock};
 use leaves::float::load;
 use leaves::float::store;
 

@@ -3,7 +3,8 @@ ghost use mathlib.Core.Path.{_≡_};
 ghost use Prim.Native.Nat.{_+_, _*_, _≤_};
 ghost use lib.ListN.{length};
 ghost use Rattle.leaves.specs.Words.{words};
-ghost use Rattle.nodes.specs.Block.{fill, quiet, begun, added, totalAt, InMemory};
+ghost use Rattle.effects.specs.Block.{fill, quiet, begun, added};
+ghost use Rattle.nodes.specs.Ready.{totalAt, InMemory};
 use leaves::bytes::wide;
 use leaves::float::load;
 

@@ -13,17 +13,17 @@ use lib.ListN.{length, getD, length-set}
 use lib.Seq.{getD-set-same, getD-set-other}
 use Rattle.leaves.specs.Floors.{f1, finiteF}
 use Rattle.leaves.specs.Words.{words, unwords, length-words, words-unwords, length-unwords, Bytes}
-use Rattle.nodes.specs.Cell.{takesNumber, valueFits}
-use Rattle.nodes.specs.declared.kind.NodeKind.{NodeKind}
-use Rattle.nodes.proofs.Rows.{row-laws}
-use Rattle.graph.specs.Answer.{answer}
-use Rattle.graph.specs.Board.{Parsed, Progress, going, refused, whole, memoryLength}
-use Rattle.graph.specs.Judge.{readBoard}
-use Rattle.graph.specs.declared.answer.Answer.{Answer}
+use Rattle.kinds.specs.Cell.{takesNumber, valueFits}
+use Rattle.kinds.specs.declared.kind.NodeKind.{NodeKind}
+use Rattle.kinds.proofs.Rows.{row-laws}
+use Rattle.records.specs.Answer.{answer}
+use Rattle.boards.specs.Board.{Parsed, Progress, going, refused, whole, memoryLength}
+use Rattle.boards.specs.Judge.{readBoard}
+use Rattle.records.specs.declared.answer.Answer.{Answer}
 use Rattle.context.specs.Memory.{passed, nodeAt, kindAt}
 use Rattle.context.specs.Calls.{andThen, checkMemory, changeBy, checkNumber, checkMessage, putNumber, messageOf}
 use Rattle.context.specs.Fine.{Fine}
-use Rattle.graph.proofs.Ending.{Ended, board-ends}
+use Rattle.boards.proofs.Ending.{Ended, board-ends}
 use Rattle.context.proofs.FineBoard.{fine-board}
 use Rattle.context.proofs.CallCells.{cell-in, cell-apart}
 use Rattle.context.proofs.CallBy.{change-passes}

@@ -11,15 +11,15 @@ use lib.Dec.{ltb}
 use lib.Ieee.{Float}
 use lib.ListN.{length}
 use Rattle.leaves.specs.Floors.{finiteF}
-use Rattle.nodes.specs.declared.kind.NodeRecord.{NodeRecord}
-use Rattle.graph.specs.Answer.{answer}
-use Rattle.graph.specs.Board.{Parsed}
+use Rattle.kinds.specs.declared.kind.NodeRecord.{NodeRecord}
+use Rattle.records.specs.Answer.{answer}
+use Rattle.boards.specs.Board.{Parsed}
 use Rattle.context.specs.Memory.{nodeIn, passed, kindAt}
 use Rattle.context.specs.Calls.{andThen}
-use Rattle.graph.specs.Read.{parsedOf, Sound}
-use Rattle.graph.specs.declared.board.Board.{Board}
+use Rattle.boards.specs.Read.{parsedOf, Sound}
+use Rattle.boards.specs.declared.board.Board.{Board}
 use Rattle.context.proofs.CallCells.{node-in, count-nodes}
-use Rattle.graph.proofs.Choice.{both}
+use Rattle.reading.proofs.Choice.{both}
 use Rattle.context.proofs.CallChecks.{passes, then-both}
 use Rattle.plate.specs.Mix.{isMul, checkMul, checkFinite, checkMix}
 

@@ -15,24 +15,25 @@ use Rattle.leaves.specs.Floors.{f1, finiteF, within, floorOf}
 use Rattle.leaves.specs.Lengths.{samplesOf, delayOf, allPassOf, placeOf}
 use Rattle.leaves.specs.declared.lengths.Length.the-variants.{Samples}
 use Rattle.leaves.proofs.Patterns.{pattern-lt}
-use Rattle.nodes.specs.Kind.{lineOf, ruleOf}
+use Rattle.kinds.specs.Kind.{lineOf, ruleOf}
 use Rattle.leaves.specs.Floats.{finiteBits}
-use Rattle.nodes.specs.declared.kind.Fields.{Fields}
-use Rattle.nodes.specs.declared.kind.Fields.the-variants.{Is, Broken}
-use Rattle.reading.specs.Order.{Wire}
-use Rattle.graph.specs.Answer.{answer}
-use Rattle.graph.specs.Board.{wire, whole, memoryLength, nodeFits, wireFits}
-use Rattle.graph.specs.Judge.{checkSources, checkSix, judgeOf}
+use Rattle.kinds.specs.declared.kind.Fields.{Fields}
+use Rattle.kinds.specs.declared.kind.Fields.the-variants.{Is, Broken}
+use Rattle.reading.specs.Order.{Wire, wire}
+use Rattle.records.specs.Answer.{answer}
+use Rattle.boards.specs.Board.{whole, memoryLength, nodeFits, wireFits}
+use Rattle.boards.specs.Judge.{checkSources, checkSix, judgeOf}
 use Rattle.graph.specs.Late.{isLate, lateWires}
-use Rattle.graph.specs.Sources.{distinct}
+use Rattle.sources.specs.Sources.{distinct}
 use Rattle.graph.specs.Tail.{endless, tailBy, tailOf}
 use Rattle.graph.specs.Visit.{visitingList}
-use Rattle.graph.specs.Write.{NodeCard, Card, kindOf, asRead as parsedOf, NodeObeys, WireObeys, SourcesObey, Obeys, noNode, noWire}
-use Rattle.graph.proofs.RoundObeys.{from-each, nodes-told, wires-told}
-use Rattle.graph.proofs.RoundRule.{kind-told}
-use Rattle.graph.proofs.RoundRun.{NodeFits, NodesFit, WireFits, WiresFit}
-use Rattle.graph.proofs.RoundSix.{Free, six-told}
-use Rattle.graph.proofs.Round.{judge-written}
+use Rattle.records.specs.Write.{NodeCard, Card}
+use Rattle.boards.specs.Obeys.{kindOf, asRead as parsedOf, NodeObeys, WireObeys, SourcesObey, Obeys, noNode, noWire}
+use Rattle.boards.proofs.RoundObeys.{from-each, nodes-told, wires-told}
+use Rattle.boards.proofs.RoundRule.{kind-told}
+use Rattle.boards.proofs.RoundRun.{NodeFits, NodesFit, WireFits, WiresFit}
+use Rattle.boards.proofs.RoundSix.{Free, six-told}
+use Rattle.boards.proofs.Round.{judge-written}
 use Rattle.plate.specs.Plate.{plateNodes, plateWires, plateCard, dryOf}
 use Rattle.plate.specs.Facts.{allPassLines, milliseconds, plateList, PlateFacts, WrittenPlate}
 use Rattle.plate.proofs.Written.{answer-of, bytes-of, plate-long, size-in, written}
@@ -40,13 +41,13 @@ use Rattle.plate.proofs.Dry.{dry-finite}
 
 -- ---- what a card must obey, as tests that antt computes
 
-abbrev kept : Fields → Bool
-kept (Is k) = true
-kept Broken = false
+abbrev isKind : Fields → Bool
+isKind (Is k) = true
+isKind Broken = false
 
 abbrev nodeTest : ℕ → ℕ → NodeCard → Bool
 nodeTest i lines d =
-    (ltb (d .type) 65536 && (ltb (d .n) 4294967296 && ltb (d .f) 4294967296)) && (kept (ruleOf (d .type) (d .n) (d .f)) && nodeFits i lines (kindOf d))
+    (ltb (d .type) 65536 && (ltb (d .n) 4294967296 && ltb (d .f) 4294967296)) && (isKind (ruleOf (d .type) (d .n) (d .f)) && nodeFits i lines (kindOf d))
 
 abbrev nodesTest : ℕ → ℕ → List NodeCard → Bool
 nodesTest i lines [] = true
@@ -62,10 +63,10 @@ wiresTest i j (w ∷ ws) = wireTest i j w && wiresTest i (j + 1) ws
 both : (a b : Bool) → (a && b) ≡ true → (a ≡ true) × (b ≡ true)
 both a b = and-eq-true-iff a b .0
 
-kept-kind : (d : NodeCard) → kept (ruleOf (d .type) (d .n) (d .f)) ≡ true → ruleOf (d .type) (d .n) (d .f) ≡ Is (kindOf d)
-kept-kind d = go (ruleOf (d .type) (d .n) (d .f)) refl
+is-kind : (d : NodeCard) → isKind (ruleOf (d .type) (d .n) (d .f)) ≡ true → ruleOf (d .type) (d .n) (d .f) ≡ Is (kindOf d)
+is-kind d = go (ruleOf (d .type) (d .n) (d .f)) refl
   where
-    go : (r : Fields) → ruleOf (d .type) (d .n) (d .f) ≡ r → kept r ≡ true → ruleOf (d .type) (d .n) (d .f) ≡ Is (kindOf d)
+    go : (r : Fields) → ruleOf (d .type) (d .n) (d .f) ≡ r → isKind r ≡ true → ruleOf (d .type) (d .n) (d .f) ≡ Is (kindOf d)
     go (Is k) e h = e ∙ ap Is (sym (kind-told d k e .3))
     go Broken e h = absurd (false≢true h)
 
@@ -74,12 +75,12 @@ node-passes i lines d h =
     let two = both (ltb (d .type) 65536 && (ltb (d .n) 4294967296 && ltb (d .f) 4294967296)) _ h in
     let small = both (ltb (d .type) 65536) _ (two .0) in
     let fields = both (ltb (d .n) 4294967296) _ (small .1) in
-    let rule = both (kept (ruleOf (d .type) (d .n) (d .f))) _ (two .1) in
+    let rule = both (isKind (ruleOf (d .type) (d .n) (d .f))) _ (two .1) in
     record {
       type-small = ltb-true _ _ (small .0);
       n-small = ltb-true _ _ (fields .0);
       f-small = ltb-true _ _ (fields .1);
-      rule = kept-kind d (rule .0);
+      rule = is-kind d (rule .0);
       fits = rule .1;
     }
 

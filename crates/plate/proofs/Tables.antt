@@ -4,9 +4,9 @@ use mathlib.Core.Path.{_≡_}
 use mathlib.Core.List.{List, map}
 use Prim.Native.Nat.{ℕ}
 use lib.ListN.{getD, List·getD-map}
-use Rattle.reading.specs.Order.{Wire}
-use Rattle.graph.specs.Board.{wire}
-use Rattle.graph.specs.Write.{NodeCard, noNode, noWire}
+use Rattle.reading.specs.Order.{Wire, wire}
+use Rattle.records.specs.Write.{NodeCard}
+use Rattle.boards.specs.Obeys.{noNode, noWire}
 use Rattle.plate.specs.Plate.{node}
 
 module _ (l : List NodeCard) where

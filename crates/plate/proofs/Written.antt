@@ -8,10 +8,10 @@ use lib.Dec.{leb, eqb}
 use lib.Ieee.{Float}
 use lib.ListN.{length}
 use Rattle.leaves.specs.Floors.{finiteF}
-use Rattle.graph.specs.Answer.{answer}
-use Rattle.graph.specs.Board.{sizeFits}
-use Rattle.graph.specs.Write.{nodesBytes, wiresBytes, writeBoard}
-use Rattle.graph.specs.declared.answer.Answer.{Answer}
+use Rattle.records.specs.Answer.{answer}
+use Rattle.boards.specs.Board.{sizeFits}
+use Rattle.records.specs.Write.{nodesBytes, wiresBytes, writeBoard}
+use Rattle.records.specs.declared.answer.Answer.{Answer}
 use Rattle.plate.specs.Plate.{plateNodes, plateWires, plateCard, plateBytes, checkWrite, writeOf}
 
 -- a call's answer, and the bytes that it leaves

@@ -9,14 +9,14 @@ use lib.Dec.{eqb}
 use lib.Ieee.{Float, binary32, ofBits, toBits}
 use Rattle.leaves.specs.Lengths.{delayOf, allPassOf, placeOf}
 use Rattle.leaves.specs.declared.lengths.Length.the-variants.{Samples}
-use Rattle.reading.specs.Order.{Wire}
-use Rattle.graph.specs.Answer.{answer}
-use Rattle.graph.specs.Board.{wire}
-use Rattle.graph.specs.Judge.{judgeOf}
+use Rattle.reading.specs.Order.{Wire, wire}
+use Rattle.records.specs.Answer.{answer}
+use Rattle.boards.specs.Judge.{judgeOf}
 use Rattle.graph.specs.Late.{lateWires}
 use Rattle.graph.specs.Tail.{endless, tailOf}
 use Rattle.graph.specs.Visit.{visitingList}
-use Rattle.graph.specs.Write.{NodeCard, writeBoard, asRead as parsedOf, Obeys}
+use Rattle.records.specs.Write.{NodeCard, writeBoard}
+use Rattle.boards.specs.Obeys.{asRead as parsedOf, Obeys}
 use Rattle.plate.specs.Plate.{plateNodes, plateWires, plateCard, dryOf, plateBytes, writeOf}
 
 -- the lines of the all-passes, in node order

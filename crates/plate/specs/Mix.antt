@@ -9,14 +9,14 @@ use lib.Dec.{ltb, eqb}
 use lib.Ieee.{Float, binary32, toBits}
 use Rattle.leaves.specs.Floors.{finiteF}
 use Rattle.leaves.specs.Words.{words}
-use Rattle.nodes.specs.Kind.{typeOf}
-use Rattle.nodes.specs.declared.kind.NodeKind.{NodeKind}
-use Rattle.graph.specs.Answer.{answer}
-use Rattle.graph.specs.Board.{Parsed}
-use Rattle.graph.specs.Judge.{readBoard}
+use Rattle.kinds.specs.Kind.{typeOf}
+use Rattle.kinds.specs.declared.kind.NodeKind.{NodeKind}
+use Rattle.records.specs.Answer.{answer}
+use Rattle.boards.specs.Board.{Parsed}
+use Rattle.boards.specs.Judge.{readBoard}
 use Rattle.context.specs.Memory.{passed, nodeAt, kindAt}
 use Rattle.context.specs.Calls.{andThen, checkMemory, changeBy, putNumber, messageOf}
-use Rattle.graph.specs.declared.answer.Answer.{Answer}
+use Rattle.records.specs.declared.answer.Answer.{Answer}
 use Rattle.plate.specs.Plate.{dryOf}
 
 -- ---- the checks

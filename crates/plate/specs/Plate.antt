@@ -8,11 +8,11 @@ use lib.Dec.{eqb}
 use lib.Ieee.{Float, binary32, toBits, sub}
 use Rattle.leaves.specs.Exponential.{bSevenFifths, bOneFifth}
 use Rattle.leaves.specs.Floors.{f1, finiteF}
-use Rattle.reading.specs.Order.{Wire}
-use Rattle.graph.specs.Answer.{answer}
-use Rattle.graph.specs.Board.{wire, sizeFits}
-use Rattle.graph.specs.Write.{NodeCard, Card, writeBoard}
-use Rattle.graph.specs.declared.answer.Answer.{Answer}
+use Rattle.reading.specs.Order.{Wire, wire}
+use Rattle.records.specs.Answer.{answer}
+use Rattle.boards.specs.Board.{sizeFits}
+use Rattle.records.specs.Write.{NodeCard, Card, writeBoard}
+use Rattle.records.specs.declared.answer.Answer.{Answer}
 
 -- ---- nodes, by type; a float by its bits
 

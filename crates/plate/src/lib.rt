@@ -2,28 +2,28 @@
 // its caller, and a refusal leaves every byte as found. include/plate.h declares them.
 ghost use mathlib.Core.Path.{_≡_};
 ghost use Rattle.leaves.specs.Lengths.{delayOf, allPassOf};
-ghost use Rattle.graph.specs.Judge.{judgeOf};
+ghost use Rattle.boards.specs.Judge.{judgeOf};
 ghost use Rattle.graph.specs.Tail.{tailAnswer};
 ghost use Rattle.wiring.specs.Rewire.{addOf, pullOf};
 ghost use Rattle.context.specs.Calls.{asLeft, freshOf, blockOf, messageOf};
 ghost use Rattle.plate.specs.Plate.{writeOf};
 ghost use Rattle.plate.specs.Mix.{mixOf};
 ghost use Rattle.plate.specs.Lengths.{lengthAnswer};
-use graph::answer::Answer;
 use leaves::lengths::Length;
+use records::answer::Answer;
 use wiring::rewire::Wiring;
 
 pub mod mix;
 pub mod plate;
 
 // The board judge: 0 and the memory's length.
-// Ruled out, and tried by must-fail edits: lines of 262,145 together (graph, lines_one_more), one that counts
-// a repeated wire twice (graph, repeat_counts).
+// Ruled out, and tried by must-fail edits: lines of 262,145 together (boards, lines_one_more), one that counts
+// a repeated wire twice (sources, repeat_counts).
 #[no_mangle]
 pub extern "C" fn plate_judge(board: &[u8]) -> Answer
     ensures { λ r. ⌜ r ≡ judgeOf (now (board .entry)) ⌝ }
 {
-    graph::judge::judge(board)
+    boards::judge::judge(board)
 }
 
 // 0 and the tail, 4,294,967,295 for an endless one.

@@ -3,15 +3,15 @@ ghost use mathlib.Core.Path.{_≡_};
 ghost use Prim.Native.Nat.{_*_, _<_};
 ghost use lib.ListN.{length};
 ghost use Rattle.leaves.specs.Words.{words};
-ghost use Rattle.graph.specs.Read.{parsedOf, Sound};
+ghost use Rattle.boards.specs.Read.{parsedOf, Sound};
 ghost use Rattle.context.specs.Fine.{Fine};
 ghost use Rattle.plate.specs.Mix.{isMul, checkMul, checkMix, setMix, mixOf};
+use boards::board::Board;
 use context::message::put_number;
 use context::open::judged;
-use graph::answer::Answer;
-use graph::board::Board;
+use kinds::kind::NodeKind;
 use leaves::float::finite;
-use nodes::kind::NodeKind;
+use records::answer::Answer;
 
 fn is_mul(kind: NodeKind) -> bool
     ensures { λ r. ⌜ r ≡ isMul kind ⌝ }

@@ -19,7 +19,7 @@ use borrow.Author.Tests.{le-leb, lt-leb, eq-eqb, ne-eqb}
 use Rattle.reading.specs.Table.{tab}
 use Rattle.reading.specs.Effect.{Effect, inputs, blocks, wiringAfter, wiringIn, told, heard}
 use Rattle.reading.specs.Calls.{afterCalls, replies}
-use Rattle.reading.specs.Board.{Rules, Board, Sound, Orders, silent, at, entered}
+use Rattle.reading.specs.Board.{Rules, Board, Proper, Orders, silent, at, entered}
 use Rattle.reading.specs.Blocks.{Cells, runCall, freshCells}
 use Rattle.reading.specs.Past.{Past, cellsRead, readCall, start}
 use Rattle.reading.specs.Time.{Timed, blockAgo, lastBlock}
@@ -167,7 +167,7 @@ module _ {C W In Out State Value : Type 0} (B : Board C W In Out Value) (R : W �
 -- ---- the theorem
 
 module _ {C W In Out State Value : Type 0} (B : Board C W In Out Value) (R : W → Rules Out State Value) (Ok : W → Type 0) (pos : zero < B .size)
-    (ok : Sound B Ok) (cs : List C) where
+    (ok : Proper B Ok) (cs : List C) where
   abbrev es : List (Effect W In Value)
   es = heard (B .effects) (B .first) cs
 

@@ -6,7 +6,7 @@ use lib.ListN.{length}
 use Rattle.leaves.specs.Words.{words, unwords, Bytes, unwords-words}
 use Rattle.context.specs.Calls.{Outcome, asLeft}
 use Rattle.context.specs.Calls as calls
-use Rattle.graph.specs.declared.answer.Answer.{Answer}
+use Rattle.records.specs.declared.answer.Answer.{Answer}
 use Rattle.wav.specs.Frames.{blockOf, interleaved}
 use Rattle.wav.specs.declared.format.Format.{Format}
 use Rattle.render.specs.Turn.{runOn, Turned}

@@ -5,7 +5,7 @@ use Prim.Native.Nat.{ℕ}
 use Rattle.leaves.specs.Words.{words, unwords}
 use Rattle.context.specs.Calls.{Outcome}
 use Rattle.context.specs.Calls as calls
-use Rattle.graph.specs.declared.answer.Answer.{Answer}
+use Rattle.records.specs.declared.answer.Answer.{Answer}
 use Rattle.wav.specs.Frames.{blockOf, interleaved}
 use Rattle.wav.specs.declared.format.Format.{Format}
 

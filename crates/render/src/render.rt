@@ -18,19 +18,18 @@ use crate::play::Went;
 use crate::play::no_levels;
 use crate::play::play;
 use crate::say;
-use crate::source::Sound;
+use crate::source::Surveyed;
 use crate::source::survey;
 use crate::words::Asked;
+use boards::judge::read_board;
 use check::same;
-use graph::judge::read_board;
+use graph::tail::ENDLESS;
 use graph::tail::tail_of;
 use libc::STDOUT_FILENO;
 use wav::header::MOST;
 use wav::header::header;
 
-// What the tail call answers for an endless tail, and the frames that are then given: four seconds.
-const ENDLESS: u32 = 4294967295;
-
+// The frames that are given where the tail is endless.
 const FOUR_SECONDS: usize = 176400;
 
 // The board's tail, or four seconds.
@@ -38,7 +37,7 @@ fn tail_frames(board: &[u8]) -> usize
     ensures { λ r. ⌜ r ≤ 4294967295 ⌝ }
 {
     let tail = tail_of(board);
-    if tail.place == ENDLESS {
+    if tail.place as usize == ENDLESS {
         FOUR_SECONDS
     } else {
         tail.place as usize
@@ -245,7 +244,7 @@ fn from_open(
     requires { ⌜ (1 ≤ needs .size) × (needs .size ≤ 128) × (needs .room ≤ 1114880) ⌝ }
 {
     let taken = asked.taken;
-    let Sound::Frames(format, frames, start) = survey(to, fd, input, taken) else {
+    let Surveyed::Frames(format, frames, start) = survey(to, fd, input, taken) else {
         return;
     };
     let total = frames + frames_after(asked, board);

@@ -31,7 +31,7 @@ pub enum Step {
 }
 
 // A sound: its format, its frames, and where in the file they start; or something is wrong.
-pub enum Sound {
+pub enum Surveyed {
     Frames(Format, usize, i64),
     Bad,
 }
@@ -196,19 +196,19 @@ fn data_fine(to: i32, fd: i32, file: &[u8], format: Format, length: u32) -> bool
 }
 
 // The data of a file that is open at its data chunk's body.
-fn sound_at(to: i32, fd: i32, file: &[u8], format: Format, length: u32) -> Sound
+fn sound_at(to: i32, fd: i32, file: &[u8], format: Format, length: u32) -> Surveyed
     ensures { λ r. ⌜ Short r ⌝ }
 {
     let start = libc::lseek(fd, 0, libc::SEEK_CUR);
     if start < 0 {
         say::failed(to, file, b"cannot be read twice");
-        return Sound::Bad;
+        return Surveyed::Bad;
     }
     if data_fine(to, fd, file, format, length) {
         let frames = length as usize / frame_size(format);
-        Sound::Frames(format, frames, start)
+        Surveyed::Frames(format, frames, start)
     } else {
-        Sound::Bad
+        Surveyed::Bad
     }
 }
 
@@ -222,12 +222,12 @@ fn alone(taken: Taken) -> bool {
 }
 
 // The data of a format, of which a channel or the mean of both is taken.
-fn sound_of(to: i32, fd: i32, file: &[u8], format: Format, length: u32, taken: Taken) -> Sound
+fn sound_of(to: i32, fd: i32, file: &[u8], format: Format, length: u32, taken: Taken) -> Surveyed
     ensures { λ r. ⌜ Short r ⌝ }
 {
     if alone(taken) && !format.stereo {
         say::problem(to, file, b"mono: it has neither left nor right");
-        return Sound::Bad;
+        return Surveyed::Bad;
     }
     let coding = format.coding;
     let stereo = format.stereo;
@@ -245,16 +245,16 @@ fn sound_of(to: i32, fd: i32, file: &[u8], format: Format, length: u32, taken: T
 }
 
 // The sound of an open file.
-pub fn survey(to: i32, fd: i32, file: &[u8], taken: Taken) -> Sound
+pub fn survey(to: i32, fd: i32, file: &[u8], taken: Taken) -> Surveyed
     ensures { λ r. ⌜ Short r ⌝ }
 {
     if !begins(fd) {
         say::problem(to, file, b"not a WAV file");
-        return Sound::Bad;
+        return Surveyed::Bad;
     }
     match find_data(to, fd, file) {
         Step::Data(format, length) => sound_of(to, fd, file, format, length, taken),
-        Step::On(_) => Sound::Bad,
-        Step::Bad => Sound::Bad,
+        Step::On(_) => Surveyed::Bad,
+        Step::Bad => Surveyed::Bad,
     }
 }

@@ -4,7 +4,7 @@ ghost use Prim.Native.Nat.{_*_};
 ghost use lib.ListN.{length};
 ghost use Rattle.render.specs.Turn.{runOn, Turned};
 use context::calls::block;
-use graph::answer::Answer;
+use records::answer::Answer;
 use wav::block::fill;
 use wav::block::interleave;
 use wav::format::Format;

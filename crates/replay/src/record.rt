@@ -4,15 +4,15 @@ ghost use mathlib.Core.Path.{_≡_};
 ghost use lib.ListN.{length};
 use crate::hash::START;
 use crate::hash::carried;
-use graph::answer::Answer;
-use graph::judge::judge;
-use graph::judge::read_board;
+use boards::judge::judge;
+use boards::judge::read_board;
 use graph::tail::tail_of;
+use kinds::kind::NodeRecord;
 use leaves::bytes::u16_at;
 use leaves::bytes::u32_at;
 use leaves::bytes::wide;
 use leaves::float::of_bits;
-use nodes::kind::NodeRecord;
+use records::answer::Answer;
 
 // An answer and its check.
 pub struct Found {

@@ -8,12 +8,12 @@ use borrow.Author.Tests.{eqb-true, eqb-false}
 use lib.Dec.{eqb}
 use lib.ListN.{length, getD, replicate, length-append, length-replicate, List·getD-append}
 use lib.Seq.{take-at}
-use Rattle.graph.specs.Board.{Progress}
-use Rattle.graph.specs.Judge.{readBoard}
-use Rattle.graph.specs.Read.{parsedOf, Read}
+use Rattle.boards.specs.Board.{Progress}
+use Rattle.boards.specs.Judge.{readBoard}
+use Rattle.boards.specs.Read.{parsedOf, Read}
 use Rattle.graph.specs.Visit.{visitingList, Lists}
 use Rattle.graph.specs.Listed.{SourcesBelow}
-use Rattle.graph.specs.declared.board.Board.{Board}
+use Rattle.boards.specs.declared.board.Board.{Board}
 use Rattle.graph.proofs.Accepted.{refused-board, accepted-board}
 use Rattle.graph.proofs.Wired.{arrays-below, sources-within}
 use Rattle.wiring.specs.Rewire.{wiring, wiringBy}

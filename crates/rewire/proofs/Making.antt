@@ -10,10 +10,10 @@ use lib.ListN.{length, take}
 use lib.Seq.{length-take-le}
 use Rattle.leaves.specs.Words.{Bytes}
 use Rattle.reading.specs.Order.{Wire}
-use Rattle.graph.specs.Board.{Parsed, Progress, going, refused, whole, memoryLength}
-use Rattle.graph.specs.Judge.{readBoard, answerBy, judgeOf}
-use Rattle.graph.proofs.Ending.{Ended, board-ends}
-use Rattle.graph.proofs.RoundBytes.{bytes-front}
+use Rattle.boards.specs.Board.{Parsed, Progress, going, refused, whole, memoryLength}
+use Rattle.boards.specs.Judge.{readBoard, answerBy, judgeOf}
+use Rattle.boards.proofs.Ending.{Ended, board-ends}
+use Rattle.records.proofs.RoundBytes.{bytes-front}
 use Rattle.wiring.specs.Rewire.{wiringBy, addedBoard, pulledBoard, addOf, pullOf, Leaves}
 use Rattle.wiring.specs.declared.rewire.Wiring.{Wiring}
 use Rattle.wiring.proofs.Answered.{lent-refused}

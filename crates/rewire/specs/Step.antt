@@ -5,8 +5,8 @@ use mathlib.Core.Bool.{cond}
 use mathlib.Core.List.{List}
 use lib.Dec.{eqb}
 use lib.ListN.{length, take}
-use Rattle.graph.specs.Board.{Parsed, whole}
-use Rattle.graph.specs.Judge.{readBoard}
+use Rattle.boards.specs.Board.{Parsed, whole}
+use Rattle.boards.specs.Judge.{readBoard}
 use Rattle.wiring.specs.Rewire.{addOf, pullOf}
 use Rattle.wiring.specs.declared.rewire.Wiring.{Wiring}
 use Rattle.listing.specs.Text.{line, refusedWord, textOf}

@@ -10,13 +10,13 @@ mod step;
 
 ghost use mathlib.Core.Path.{_≡_};
 ghost use mathlib.Core.Bool.{true};
-ghost use Rattle.graph.specs.Judge.{judgeOf};
+ghost use Rattle.boards.specs.Judge.{judgeOf};
 ghost use Rattle.rewire.specs.Step.{madeOf, lengthAfter, Plays};
+use boards::judge::judge;
 use change::Change;
 use change::Line;
 use change::change_of;
 use change::change_text;
-use graph::judge::judge;
 use libc::STDIN_FILENO;
 use libc::STDOUT_FILENO;
 use listing::lines::board_text;

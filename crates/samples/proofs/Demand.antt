@@ -15,8 +15,8 @@ use lib.ListN.{length}
 use lib.Ieee.{Float, binary32, fits, toBits}
 use lib.Ieee.Bits.{ofBits-toBits}
 use Rattle.leaves.specs.Words.{Bytes, unwords}
-use Rattle.nodes.specs.Rule.{Frame}
-use Rattle.nodes.specs.History.{Heard}
+use Rattle.kinds.specs.Rule.{Frame}
+use Rattle.kinds.specs.History.{Heard}
 use Rattle.reading.specs.Order.{Reorders}
 use Rattle.reading.specs.Visit.{start}
 use Rattle.reading.specs.Calls.{replies, afterCalls}
@@ -24,17 +24,17 @@ use Rattle.reading.specs.Effect.{Effect}
 use Rattle.reading.specs.Time.{Timed}
 use Rattle.reading.specs.Memory.{Keeps-promise}
 use Rattle.reading.proofs.Order.{reorders-self}
-use Rattle.graph.specs.Answer.{answer}
-use Rattle.graph.specs.Board.{Parsed, Progress, going, refused, whole, memoryLength}
-use Rattle.graph.specs.Judge.{readBoard, answerBy, judgeOf}
+use Rattle.records.specs.Answer.{answer}
+use Rattle.boards.specs.Board.{Parsed, Progress, going, refused, whole, memoryLength}
+use Rattle.boards.specs.Judge.{readBoard, answerBy, judgeOf}
 use Rattle.context.specs.Memory.{kindAt, passed, freshValues}
 use Rattle.context.specs.Calls.{checkLength, changeBy, freshOf, messageOf, listed}
 use Rattle.samples.specs.Reading.{Call, message, valueOf, Fixed, effects, accepted, IsReading, replyTo}
 use Rattle.samples.specs.Claim.{callIn, freshMemory, AsRead, Claim, Demand}
 use Rattle.samples.specs.Instance.{memoryWith, Held, freshCells, memoryOf}
 use Rattle.context.specs.Fine.{Fine}
-use Rattle.graph.specs.declared.answer.Answer.{Answer}
-use Rattle.graph.proofs.Ending.{Ended, board-ends}
+use Rattle.records.specs.declared.answer.Answer.{Answer}
+use Rattle.boards.proofs.Ending.{Ended, board-ends}
 use Rattle.context.proofs.FineBoard.{fine-board, lists}
 use Rattle.samples.proofs.Lawful.{net-orderly, Setting, boardOf}
 use Rattle.samples.proofs.ShownBlock.{reordered}

@@ -16,18 +16,18 @@ use lib.ListN.{length, getD, replicate, length-replicate}
 use lib.Ieee.{binary32, toBits}
 use lib.Seq.{ext-getD}
 use Rattle.leaves.specs.Words.{unwords}
-use Rattle.nodes.specs.Kind.{channelsOf}
-use Rattle.nodes.specs.Rule.{Frame, State, withNumber}
-use Rattle.nodes.specs.Cell.{Cell, valuesOf, numberOf, freshCell}
-use Rattle.nodes.specs.History.{Heard, freshHeard, setNumber, stateOf}
-use Rattle.nodes.proofs.HistoryFrames.{map-tab}
+use Rattle.kinds.specs.Kind.{channelsOf}
+use Rattle.kinds.specs.Rule.{Frame, State, withNumber}
+use Rattle.kinds.specs.Cell.{Cell, valuesOf, numberOf, freshCell}
+use Rattle.kinds.specs.History.{Heard, freshHeard, setNumber, stateOf}
+use Rattle.kinds.proofs.HistoryFrames.{map-tab}
 use Rattle.reading.specs.Table.{tab, joined, All}
 use Rattle.reading.specs.Effect.{Effect, run, set, rewire, inputs, blocks, wiringAfter, toldBy, heard}
 use Rattle.reading.specs.Time.{Timed, lastBlock}
 use Rattle.reading.specs.Solution.{outputsBy}
 use Rattle.reading.specs.Memory.{answers}
 use Rattle.reading.proofs.Table.{joined-agree, tab-agree, tab-constant, length-tab, getD-tab}
-use Rattle.graph.specs.Board.{Parsed}
+use Rattle.boards.specs.Board.{Parsed}
 use Rattle.context.specs.Memory.{kindAt}
 use Rattle.samples.specs.Reading.{mono, Call, silence, reached, Fixed, effects, accepted, end, inputAt, agoN, IsReading, samplesOf, lastOf, lastNumber, reachedCell, otherCell, cellAfter, memoryAfter, Reply, replyTo, repliesTo}
 use Rattle.samples.specs.Instance.{boardWith, memoryRules, readingRules}

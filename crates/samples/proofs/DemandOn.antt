@@ -14,11 +14,11 @@ use borrow.Author.Tests.{ltb-true, eq-eqb}
 use lib.Dec.{eqb, ltb}
 use lib.ListN.{length, length-map}
 use lib.Ieee.{Float, nan, binary32, ofBits, toBits}
-use Rattle.nodes.specs.Kind.{sourcesFit}
-use Rattle.nodes.specs.declared.kind.NodeKind.{NodeKind}
-use Rattle.nodes.specs.Rule.{Frame, State, rightOf, keeps}
-use Rattle.nodes.specs.History.{Heard, setNumber, leftHeard, sampleHeard, heardAfter, stateOf}
-use Rattle.nodes.proofs.Unread.{unread, heard-sample-unread, heard-unread}
+use Rattle.kinds.specs.Kind.{sourcesFit}
+use Rattle.kinds.specs.declared.kind.NodeKind.{NodeKind}
+use Rattle.kinds.specs.Rule.{Frame, State, rightOf, keeps}
+use Rattle.kinds.specs.History.{Heard, setNumber, leftHeard, sampleHeard, heardAfter, stateOf}
+use Rattle.kinds.proofs.Unread.{unread, heard-sample-unread, heard-unread}
 use Rattle.reading.specs.Table.{mem}
 use Rattle.reading.specs.Order.{Wire, sources, Reorders}
 use Rattle.reading.specs.Effect.{Effect, wiringAfter, wiringIn, told, heard}
@@ -33,15 +33,15 @@ use Rattle.reading.proofs.Table.{map-agree}
 use Rattle.reading.proofs.Calls.{wiring-ok}
 use Rattle.reading.proofs.Solution as theorem
 use Rattle.reading.proofs.Memory.{memory-claim}
-use Rattle.graph.specs.Sources.{distinct, distinctSources, secondSource}
-use Rattle.graph.specs.Board.{blank, Parsed}
-use Rattle.graph.specs.BoardParts.{wired as withWires}
+use Rattle.sources.specs.Sources.{distinct, distinctSources, secondSource}
+use Rattle.boards.specs.Board.{blank, Parsed}
+use Rattle.boards.specs.BoardParts.{wired as withWires}
 use Rattle.graph.specs.Visit.{visitingList}
 use Rattle.context.specs.Memory.{kindAt}
 use Rattle.samples.specs.Reading.{reached, rightSample, broughtOf, end, toldAt, brings, broughtTo, heldAt, IsReadingOn}
 use Rattle.samples.specs.Instance.{Cells, boardWith, frameOf, broughtFrom, memoryRules, memoryWith, readingRules, readingWith, Held, freshCells}
 use Rattle.context.specs.Fine.{Fine}
-use Rattle.graph.proofs.RoundSources.{mem-distinct}
+use Rattle.boards.proofs.RoundSources.{mem-distinct}
 use Rattle.context.proofs.FineBoard.{listed-there}
 use Rattle.samples.proofs.Lawful.{Setting, boardOf, board-sound, rules-encode, rules-lawful}
 use Rattle.samples.proofs.ShownRun.{frame-of, second-source}

@@ -14,8 +14,8 @@ use native.Mathlib.Nat.{zero-div}
 use native.Mathlib.Omega.{arith}
 use borrow.Author.Tests.{eq-eqb, ne-eqb}
 use lib.Dec.{eqb, leb}
-use Rattle.nodes.specs.Rule.{Frame}
-use Rattle.nodes.specs.History.{Heard, freshHeard, setNumber, sampleHeard, heardAfter}
+use Rattle.kinds.specs.Rule.{Frame}
+use Rattle.kinds.specs.History.{Heard, freshHeard, setNumber, sampleHeard, heardAfter}
 use Rattle.reading.specs.Table.{mem}
 use Rattle.reading.specs.Order.{sources, late}
 use Rattle.reading.specs.Effect.{Effect, toldBy}
@@ -23,7 +23,7 @@ use Rattle.reading.specs.Time.{Timed}
 use Rattle.reading.proofs.Table.{map-agree}
 use Rattle.reading.proofs.Times.{next-time}
 use Rattle.reading.proofs.Effect.{told-first, told-next}
-use Rattle.graph.specs.Board.{Parsed}
+use Rattle.boards.specs.Board.{Parsed}
 use Rattle.context.specs.Memory.{kindAt}
 use Rattle.context.specs.Calls.{listed}
 use Rattle.samples.specs.Reading.{mono, silence, reached, end, inputAt, toldIn, toldAt, agoN, brings, broughtTo, heldAt, IsReading, IsReadingOn}

@@ -6,27 +6,28 @@ use mathlib.Core.List.{List, [], _∷_}
 use lib.ListN.{replicate}
 use lib.Ieee.{ofBits, toBits, add, mul, round}
 use Rattle.leaves.specs.Words.{words, unwords}
-use Rattle.nodes.specs.Kind.{ruleOf}
-use Rattle.nodes.specs.Iter.{iter}
-use Rattle.nodes.specs.History.{Heard}
-use Rattle.nodes.specs.Rule.{Frame, total, leftOf, rightOf, keeps, carryAfter, get, xLine, yLine, placeAfter, lineAfter, sampleBy, stateBy}
-use Rattle.nodes.specs.Cell.{valuesOf, cellOf, numberOf, freshCell, numberFits, carryFits, placeFits, frameAt, putFrame, stepCell, runCell}
-use Rattle.nodes.specs.Node.{nodeRun}
+use Rattle.kinds.specs.Kind.{ruleOf}
+use Rattle.kinds.specs.Iter.{iter}
+use Rattle.kinds.specs.History.{Heard}
+use Rattle.kinds.specs.Rule.{Frame, total, leftOf, rightOf, keeps, carryAfter, get, xLine, yLine, placeAfter, lineAfter, sampleBy, stateBy}
+use Rattle.kinds.specs.Cell.{valuesOf, cellOf, numberOf, freshCell, numberFits, carryFits, placeFits, frameAt, putFrame, stepCell, runCell}
+use Rattle.kinds.specs.Node.{nodeRun}
 use Rattle.reading.specs.Time.{Timed}
 use Rattle.reading.specs.Calls.{replies}
-use Rattle.graph.specs.Answer.{answer}
-use Rattle.graph.specs.Record.{foundOf, foundAt}
-use Rattle.graph.specs.Sources.{distinct}
-use Rattle.graph.specs.Board.{Parsed, whole, takeFound, stepOf, run, readRecords}
-use Rattle.graph.specs.Judge.{checkSources, readBoard}
+use Rattle.records.specs.Answer.{answer}
+use Rattle.records.specs.Record.{foundOf, foundAt}
+use Rattle.sources.specs.Sources.{distinct}
+use Rattle.boards.specs.Board.{Parsed, whole, takeFound, stepOf, run, readRecords}
+use Rattle.boards.specs.Judge.{checkSources, readBoard}
 use Rattle.graph.specs.Visit.{visitingList}
 use Rattle.context.specs.Memory.{freshValues, checkCells, runNode, runNodes, putInput}
 use Rattle.context.specs.Calls.{freshOf, checkSamples, blockIn, listed}
 use Rattle.samples.specs.Reading.{Call, block, Reply, IsReading, accepted, repliesTo}
 use Rattle.samples.specs.Claim.{callIn}
-use Rattle.graph.specs.Write.{kindOf, asRead, writeBoard}
-use Rattle.graph.proofs.RoundBytes.{board-bytes}
-use Rattle.graph.proofs.RoundWorked.{feedback}
+use Rattle.boards.specs.Obeys.{kindOf, asRead}
+use Rattle.records.specs.Write.{writeBoard}
+use Rattle.records.proofs.RoundBytes.{board-bytes}
+use Rattle.boards.proofs.RoundWorked.{feedback}
 use Rattle.samples.proofs.Demand.{board-claim, own-order}
 
 -- two samples as bytes: (1, 0), (0, 1), (0.5, 0) and (0, 0)

@@ -13,25 +13,25 @@ use native.Mathlib.Decide.{decLt}
 use borrow.Author.Tests.{not-false}
 use lib.ListN.{length, List·getD-eq-default, length-replicate}
 use lib.Ieee.{toBits}
-use Rattle.nodes.specs.Kind.{lineOf}
-use Rattle.nodes.specs.Iter.{iter}
-use Rattle.nodes.specs.Rule.{Brought, Frame, State, stateBy}
-use Rattle.nodes.specs.Cell.{valuesOf, cellOf, numberOf, freshCell, numberFits, stepCell}
-use Rattle.nodes.specs.History.{stateOf}
-use Rattle.nodes.specs.declared.kind.NodeKind.the-variants.{Pass}
-use Rattle.nodes.specs.declared.kind.NodeRecord.{NodeRecord}
-use Rattle.nodes.proofs.Kept.{Judged, fits-judged, fits-kept}
-use Rattle.nodes.proofs.Fresh as fresh
-use Rattle.nodes.proofs.HistoryRules as histories
-use Rattle.nodes.proofs.Unread.{line-after-long}
+use Rattle.kinds.specs.Kind.{lineOf}
+use Rattle.kinds.specs.Iter.{iter}
+use Rattle.kinds.specs.Rule.{Brought, Frame, State, stateBy}
+use Rattle.kinds.specs.Cell.{valuesOf, cellOf, numberOf, freshCell, numberFits, stepCell}
+use Rattle.kinds.specs.History.{stateOf}
+use Rattle.kinds.specs.declared.kind.NodeKind.the-variants.{Pass}
+use Rattle.kinds.specs.declared.kind.NodeRecord.{NodeRecord}
+use Rattle.kinds.proofs.Kept.{Judged, fits-judged, fits-kept}
+use Rattle.kinds.proofs.Fresh as fresh
+use Rattle.kinds.proofs.HistoryRules as histories
+use Rattle.kinds.proofs.Unread.{line-after-long}
 use Rattle.reading.specs.Table.{All}
 use Rattle.reading.specs.Order.{Wire}
 use Rattle.reading.specs.Effect.{Effect, run, set, rewire}
-use Rattle.reading.specs.Board.{Orderly, Board, Leaves, Sound}
+use Rattle.reading.specs.Board.{Orderly, Board, Leaves, Proper}
 use Rattle.reading.specs.Encode.{Encodes}
 use Rattle.reading.specs.Keeps.{MaySet, Lawful}
-use Rattle.graph.specs.Board.{blank, Parsed}
-use Rattle.graph.specs.BoardParts.{wired as withWires}
+use Rattle.boards.specs.Board.{blank, Parsed}
+use Rattle.boards.specs.BoardParts.{wired as withWires}
 use Rattle.context.specs.Memory.{kindAt}
 use Rattle.samples.specs.Instance.{netOf, boardWith, broughtFrom, memoryRules, memoryWith, readingRules, readingWith, Held}
 use Rattle.context.specs.Fine.{Fine}
@@ -53,15 +53,15 @@ module _ (p : Parsed) (fine : Fine p) where
   beyond k h = ap (λ (r : NodeRecord). r .kind) (List·getD-eq-default (p .nodes) blank (omega arith))
 
   -- every kind's line and first number are as they must be
-  kind-sound : (k : ℕ) → fresh.Sound (kindAt p k)
+  kind-sound : (k : ℕ) → fresh.FreshFits (kindAt p k)
   kind-sound k = go (decLt k (length (p .nodes)))
     where
-      pass-sound : fresh.Sound Pass
+      pass-sound : fresh.FreshFits Pass
       pass-sound = unfold numberFits numberOf toBits in record { line = tt; number = refl }
 
-      go : Dec (k < length (p .nodes)) → fresh.Sound (kindAt p k)
+      go : Dec (k < length (p .nodes)) → fresh.FreshFits (kindAt p k)
       go (yes h) = record { line = fine .nodes k h .line; number = fine .nodes k h .number }
-      go (no h) = subst fresh.Sound (sym (beyond k h)) pass-sound
+      go (no h) = subst fresh.FreshFits (sym (beyond k h)) pass-sound
 
   pub encodes : Encodes (memoryRules p) (readingRules p) (λ k. stateOf (kindAt p k))
   unfolding memoryRules readingRules
@@ -106,7 +106,7 @@ module _ {C W : Type 0} (p : Parsed) (S : Setting C W p) where
   abbrev pub boardOf : Board C W ℕ Frame ℕ
   boardOf = boardWith p (S .first) (S .wires) (S .does)
 
-  pub board-sound : Sound (boardWith p (S .first) (S .wires) (S .does)) (S .Ok)
+  pub board-sound : Proper (boardWith p (S .first) (S .wires) (S .does)) (S .Ok)
   board-sound = record {
     first = S .start;
     kept = S .leaves;

@@ -17,15 +17,15 @@ use lib.Ieee.{Float, binary32, toBits}
 use lib.ListN.{length, getD, set, length-append, length-map}
 use lib.Seq.{paste, set-at}
 use Rattle.leaves.specs.Parts.{part}
-use Rattle.nodes.specs.Kind.{channelsOf}
-use Rattle.nodes.specs.Rule.{Frame, State}
-use Rattle.nodes.specs.Cell.{valuesOf}
-use Rattle.nodes.specs.declared.kind.NodeKind.{NodeKind}
+use Rattle.kinds.specs.Kind.{channelsOf}
+use Rattle.kinds.specs.Rule.{Frame, State}
+use Rattle.kinds.specs.Cell.{valuesOf}
+use Rattle.kinds.specs.declared.kind.NodeKind.{NodeKind}
 use Rattle.reading.specs.Table.{put, tab, mem}
 use Rattle.reading.specs.Order.{Reorders}
 use Rattle.reading.specs.Blocks as blocks
 use Rattle.reading.proofs.Table.{put-same, put-other, length-tab, mem-head, or-right}
-use Rattle.graph.specs.Board.{Parsed}
+use Rattle.boards.specs.Board.{Parsed}
 use Rattle.context.specs.Memory.{nodeAt, kindAt, runNodes, putInput}
 use Rattle.context.specs.Calls.{listed, putNumber}
 use Rattle.samples.specs.Reading.{mono, samplesOf}

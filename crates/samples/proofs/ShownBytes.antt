@@ -4,13 +4,13 @@
 use Prim.Native.Nat.{ℕ, _*_}
 use mathlib.Core.Path.{_≡_, ap, subst⁻¹, _∙_}
 use Rattle.leaves.specs.Words.{words-unwords, length-unwords}
-use Rattle.nodes.specs.Cell.{cellFits}
-use Rattle.nodes.proofs.Kept.{judged-fits}
-use Rattle.graph.specs.Board.{Parsed}
+use Rattle.kinds.specs.Cell.{cellFits}
+use Rattle.kinds.proofs.Kept.{judged-fits}
+use Rattle.boards.specs.Board.{Parsed}
 use Rattle.context.specs.Fine.{Fine}
 use Rattle.context.specs.Memory.{kindAt}
 use Rattle.context.specs.Calls.{checkMemory}
-use Rattle.graph.specs.declared.answer.Answer.{Answer}
+use Rattle.records.specs.declared.answer.Answer.{Answer}
 use Rattle.samples.specs.Instance.{Held, Cells, cellIn, shown, memoryOf}
 use Rattle.context.proofs.CallLaws.{Judged, memory-passed}
 use Rattle.samples.proofs.ShownCells.{Long, shown-long, shown-part}

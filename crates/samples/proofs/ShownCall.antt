@@ -19,26 +19,25 @@ use lib.Ieee.Bits.{ofBits-fits}
 use lib.ListN.{length, getD}
 use Rattle.leaves.specs.Parts.{part}
 use Rattle.leaves.specs.Words.{words, unwords, length-words, words-unwords}
-use Rattle.nodes.specs.Rule.{Frame}
-use Rattle.nodes.specs.Cell.{valueFits, numberFits}
-use Rattle.nodes.proofs.Kept.{value-number}
+use Rattle.kinds.specs.Rule.{Frame}
+use Rattle.kinds.specs.Cell.{valueFits, numberFits}
+use Rattle.kinds.proofs.Kept.{value-number}
 use Rattle.reading.specs.Table.{All}
 use Rattle.reading.specs.Order.{Wire}
 use Rattle.reading.specs.Effect.{Effect, run, set, rewire, wiringAfter, blocks as blocksOf}
 use Rattle.reading.specs.Board.{Leaves}
 use Rattle.reading.specs.Blocks as blocks
 use Rattle.reading.specs.Blocks.{acts, runBlock, setState}
-use Rattle.graph.specs.Board.{Parsed, Progress, whole}
-use Rattle.graph.specs.Judge.{readBoard}
-use Rattle.graph.specs.BoardParts.{wired as withWires}
+use Rattle.boards.specs.Board.{Parsed, Progress, whole}
+use Rattle.boards.specs.Judge.{readBoard}
+use Rattle.boards.specs.BoardParts.{wired as withWires}
 use Rattle.context.specs.Memory.{kindAt, passed, runNodes, runBlock as runBlockOf}
 use Rattle.context.specs.Calls.{Outcome, andThen, checkMemory, checkBlocks, checkSamples, callBy, changeBy, asLeft, checkBlock, ranBlock, blockIn, checkMessage, putNumber, messageOf}
 use Rattle.samples.specs.Reading.{mono, Call, block, message, valueOf, answerTo, accepts, done, effects, Fixed, Reply, outputs, replyTo}
 use Rattle.samples.specs.Claim.{replied, callIn}
-use Rattle.samples.specs.Instance.{Cells, netOf, boardWith, memoryRules, memoryWith, shown, memoryOf}
+use Rattle.samples.specs.Instance.{Cells, netOf, boardWith, memoryRules, memoryWith, shown, memoryOf, Held}
 use Rattle.context.specs.Fine.{Fine}
-use Rattle.samples.specs.Instance.{Held}
-use Rattle.graph.specs.declared.answer.Answer.{Answer}
+use Rattle.records.specs.declared.answer.Answer.{Answer}
 use Rattle.samples.proofs.ShownCells.{Long}
 use Rattle.samples.proofs.ShownBlock.{OfBoard, order-long, order-shown, message-shown, input-long, input-shown, left-out, right-out}
 use Rattle.context.proofs.CallChecks.{then-both, sizes-accepted, sizes-passed, samples-passed}

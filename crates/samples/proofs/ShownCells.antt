@@ -18,17 +18,17 @@ use lib.Dec.{eqb}
 use lib.ListN.{length, getD, take, drop, length-append, length-map, List·getD-append, List·getD-map}
 use lib.Seq.{paste, getD-append-add, take-at, drop-at, drop-drop, take-all, take-length}
 use Rattle.leaves.specs.Parts.{part}
-use Rattle.nodes.specs.Row.{Writes, mono, keeping, stereo, rowOf}
-use Rattle.nodes.specs.Kind.{channelsBy, channelsOf, lineOf, cellSize}
-use Rattle.nodes.specs.Rule.{Frame, State}
-use Rattle.nodes.specs.Cell.{Cell, valuesOf}
-use Rattle.nodes.specs.declared.kind.NodeKind.{NodeKind}
-use Rattle.nodes.specs.declared.kind.NodeRecord.{NodeRecord}
-use Rattle.nodes.proofs.Cells.{length-values, get-sample}
+use Rattle.kinds.specs.Row.{Writes, mono, keeping, stereo, rowOf}
+use Rattle.kinds.specs.Kind.{channelsBy, channelsOf, lineOf, cellSize}
+use Rattle.kinds.specs.Rule.{Frame, State}
+use Rattle.kinds.specs.Cell.{Cell, valuesOf}
+use Rattle.kinds.specs.declared.kind.NodeKind.{NodeKind}
+use Rattle.kinds.specs.declared.kind.NodeRecord.{NodeRecord}
+use Rattle.kinds.proofs.Cells.{length-values, get-sample}
 use Rattle.reading.specs.Table.{put}
 use Rattle.reading.specs.Blocks as blocks
 use Rattle.reading.proofs.Table.{put-same, put-other, joined-agree}
-use Rattle.graph.specs.Board.{blank, Parsed, cellsOf}
+use Rattle.boards.specs.Board.{blank, Parsed, cellsOf}
 use Rattle.context.specs.Memory.{nodeAt, kindAt, leftStart, rightStart}
 use Rattle.samples.specs.Reading.{silence, rightSample, samplesOf}
 use Rattle.samples.specs.Instance.{Cells, cellIn, shownTo, shown}

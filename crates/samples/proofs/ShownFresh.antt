@@ -8,12 +8,12 @@ use native.Mathlib.Omega.{arith}
 use lib.Dec.{eqb}
 use lib.ListN.{length, getD, take, replicate, replicate-append-replicate}
 use lib.Seq.{take-suc, take-length}
-use Rattle.nodes.specs.Kind.{channelsOf}
-use Rattle.nodes.specs.Rule.{Frame}
-use Rattle.nodes.specs.Cell.{valuesOf, freshCell}
-use Rattle.nodes.specs.declared.kind.NodeKind.{NodeKind}
-use Rattle.nodes.specs.declared.kind.NodeRecord.{NodeRecord}
-use Rattle.graph.specs.Board.{blank, Parsed}
+use Rattle.kinds.specs.Kind.{channelsOf}
+use Rattle.kinds.specs.Rule.{Frame}
+use Rattle.kinds.specs.Cell.{valuesOf, freshCell}
+use Rattle.kinds.specs.declared.kind.NodeKind.{NodeKind}
+use Rattle.kinds.specs.declared.kind.NodeRecord.{NodeRecord}
+use Rattle.boards.specs.Board.{blank, Parsed}
 use Rattle.context.specs.Memory.{kindAt, freshFrom, freshValues}
 use Rattle.samples.specs.Reading.{silence, samplesOf}
 use Rattle.samples.specs.Instance.{memoryRules, freshCells, cellIn, shownTo, shown}

@@ -17,26 +17,26 @@ use lib.ListN.{length, getD, set, drop, length-append, length-map, length-set}
 use lib.Seq.{paste, take-at, drop-at, set-append-left}
 use Rattle.leaves.specs.Floats.{floatAt}
 use Rattle.leaves.specs.Parts.{part}
-use Rattle.nodes.specs.Kind.{channelsOf, cellSize, sourcesFit}
-use Rattle.nodes.specs.Iter.{iter}
-use Rattle.nodes.specs.Rule.{Brought, Frame, State, keeps, leftBy, rightOf, sampleBy, stateBy}
-use Rattle.nodes.specs.Cell.{Cell, valuesOf, cellOf, frameAt, putFrame, stepCell, runCell}
-use Rattle.nodes.specs.Node.{nodeRun}
-use Rattle.nodes.specs.declared.kind.NodeKind.{NodeKind}
-use Rattle.nodes.proofs.Cells.{set-append-right}
-use Rattle.nodes.proofs.Unread.{unread, sample-unread, state-unread, line-after-long}
+use Rattle.kinds.specs.Kind.{channelsOf, cellSize, sourcesFit}
+use Rattle.kinds.specs.Iter.{iter}
+use Rattle.kinds.specs.Rule.{Brought, Frame, State, keeps, leftBy, rightOf, sampleBy, stateBy}
+use Rattle.kinds.specs.Cell.{Cell, valuesOf, cellOf, frameAt, putFrame, stepCell, runCell}
+use Rattle.kinds.specs.Node.{nodeRun}
+use Rattle.kinds.specs.declared.kind.NodeKind.{NodeKind}
+use Rattle.kinds.proofs.Cells.{set-append-right}
+use Rattle.kinds.proofs.Unread.{unread, sample-unread, state-unread, line-after-long}
 use Rattle.reading.specs.Table.{put, mem}
 use Rattle.reading.specs.Order.{Wire, sources}
 use Rattle.reading.specs.Board as theory
 use Rattle.reading.specs.Blocks as blocks
 use Rattle.reading.proofs.Table.{put-same, put-other, map-agree, mem-at}
-use Rattle.graph.specs.Sources.{addAll, distinct, distinctSources, secondSource}
-use Rattle.graph.specs.Board.{blank, Parsed}
+use Rattle.sources.specs.Sources.{addAll, distinct, distinctSources, secondSource}
+use Rattle.boards.specs.Board.{blank, Parsed}
 use Rattle.context.specs.Memory.{nodeAt, kindAt, leftStart, rightStart, lefts, rights, broughtBy, runNode}
 use Rattle.samples.specs.Reading.{silence, rightSample, samplesOf}
 use Rattle.samples.specs.Instance.{Cells, netOf, memoryRules, frameOf, broughtFrom, cellIn, shown}
 use Rattle.context.specs.Fine.{Fine}
-use Rattle.graph.proofs.RoundSources.{mem-distinct}
+use Rattle.boards.proofs.RoundSources.{mem-distinct}
 use Rattle.context.proofs.FineBoard.{source-there}
 use Rattle.context.proofs.CallStarts.{mapped-at}
 use Rattle.samples.proofs.ShownCells.{leftsOf, rightsOf, samples-length, samples-left, samples-right, cellHeld, LongCell, Long, shown-agree, shown-part, shown-left, shown-right, paste-shown}

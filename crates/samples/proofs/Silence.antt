@@ -15,12 +15,12 @@ use borrow.Author.Tests.{eqb-true}
 use lib.Dec.{eqb}
 use lib.ListN.{length, getD}
 use Rattle.leaves.specs.Words.{words, unwords, words-unwords, Bytes}
-use Rattle.nodes.specs.Kind.{lineOf}
-use Rattle.nodes.specs.Rule.{Frame}
-use Rattle.nodes.specs.History.{Heard}
-use Rattle.nodes.specs.declared.kind.NodeRecord.{NodeRecord}
-use Rattle.nodes.proofs.Kept.{both}
-use Rattle.nodes.proofs.HistoryFrames.{map-tab}
+use Rattle.kinds.specs.Kind.{lineOf}
+use Rattle.kinds.specs.Rule.{Frame}
+use Rattle.kinds.specs.History.{Heard}
+use Rattle.kinds.specs.declared.kind.NodeRecord.{NodeRecord}
+use Rattle.kinds.proofs.Kept.{both}
+use Rattle.kinds.proofs.HistoryFrames.{map-tab}
 use Rattle.reading.specs.Table.{mem, tab, All}
 use Rattle.reading.specs.Order.{Wire, Each, late}
 use Rattle.reading.specs.Visit.{start}
@@ -32,9 +32,9 @@ use Rattle.reading.proofs.Order.{each-source}
 use Rattle.reading.proofs.Effect.{blocks-append}
 use Rattle.reading.proofs.Solution.{earlier-block}
 use Rattle.reading.proofs.Tail.{tail}
-use Rattle.graph.specs.Answer.{answer}
-use Rattle.graph.specs.Board.{Parsed, Progress, blank, going, refused, whole}
-use Rattle.graph.specs.Judge.{readBoard, answerBy}
+use Rattle.records.specs.Answer.{answer}
+use Rattle.boards.specs.Board.{Parsed, Progress, blank, going, refused, whole}
+use Rattle.boards.specs.Judge.{readBoard, answerBy}
 use Rattle.graph.specs.Late.{isLate, lateWires}
 use Rattle.context.specs.Memory.{kindAt}
 use Rattle.context.specs.Calls.{listed}
@@ -44,8 +44,8 @@ use Rattle.samples.specs.Instance.{netOf}
 use Rattle.context.specs.Fine.{Fine}
 use Rattle.graph.specs.Tail.{delays, onlyDelays, listedLines, endless, tailOf, tailAnswer}
 use Rattle.samples.specs.Silence.{QuietInput, played, outputAt, Silent, Tailed}
-use Rattle.graph.specs.declared.answer.Answer.{Answer}
-use Rattle.graph.proofs.Ending.{Ended, board-ends}
+use Rattle.records.specs.declared.answer.Answer.{Answer}
+use Rattle.boards.proofs.Ending.{Ended, board-ends}
 use Rattle.graph.proofs.Lines.{tail-late, tail-on-time}
 use Rattle.context.proofs.FineBoard.{fine-board, lists}
 use Rattle.samples.proofs.Lawful.{net-orderly}

@@ -17,7 +17,7 @@ use lib.Ieee.Fits.{down-pos}
 use lib.Ieee.Scale.{round-same}
 use Rattle.reading.specs.Table.{All}
 use Rattle.leaves.specs.Floors.{zeroF, finiteF}
-use Rattle.nodes.specs.Rule.{addTo, total}
+use Rattle.kinds.specs.Rule.{addTo, total}
 use Rattle.samples.specs.Silence.{Zero}
 
 -- a zero of either sign

@@ -16,20 +16,20 @@ use borrow.Author.Tests.{ltb-true, eqb-true, eqb-false, ne-eqb}
 use lib.Dec.{eqb, ltb, leb}
 use lib.ListN.{length, getD, length-map}
 use lib.Ieee.{binary32, toBits}
-use Rattle.nodes.specs.Kind.{channelsOf, lineOf, sourcesFit}
-use Rattle.nodes.specs.Rule.{Brought, Frame, first, two, keeps}
-use Rattle.nodes.specs.Cell.{numberFits}
-use Rattle.nodes.specs.History.{Heard, xs, freshHeard, agoBy, lengthOf, sampleHeard, heardAfter}
-use Rattle.nodes.specs.declared.kind.NodeKind.{NodeKind}
-use Rattle.nodes.specs.declared.kind.NodeKind.the-variants.{Pass, Sum, Destination, Balance, Mul, Add, Delay, AllPass, OnePole, Sine}
+use Rattle.kinds.specs.Kind.{channelsOf, lineOf, sourcesFit}
+use Rattle.kinds.specs.Rule.{Brought, Frame, first, two, keeps}
+use Rattle.kinds.specs.Cell.{numberFits}
+use Rattle.kinds.specs.History.{Heard, xs, freshHeard, agoBy, lengthOf, sampleHeard, heardAfter}
+use Rattle.kinds.specs.declared.kind.NodeKind.{NodeKind}
+use Rattle.kinds.specs.declared.kind.NodeKind.the-variants.{Pass, Sum, Destination, Balance, Mul, Add, Delay, AllPass, OnePole, Sine}
 use Rattle.reading.specs.Table.{mem, All}
 use Rattle.reading.specs.Order.{sources, late}
 use Rattle.reading.specs.Effect.{Effect}
 use Rattle.reading.specs.Time.{Timed}
 use Rattle.reading.specs.Tail.{Lags}
 use Rattle.reading.proofs.Tail.{all-map, keeps-silent}
-use Rattle.graph.specs.Sources.{distinctSources, secondSource}
-use Rattle.graph.specs.Board.{blank, Parsed}
+use Rattle.sources.specs.Sources.{distinctSources, secondSource}
+use Rattle.boards.specs.Board.{blank, Parsed}
 use Rattle.context.specs.Memory.{kindAt}
 use Rattle.context.specs.Calls.{listed}
 use Rattle.samples.specs.Reading.{mono, Fixed, silence, reached, rightSample, end, inputAt, agoN, brings, broughtTo, heldAt, IsReading}
@@ -37,7 +37,7 @@ use Rattle.samples.specs.Instance.{netOf}
 use Rattle.context.specs.Fine.{Fine}
 use Rattle.graph.specs.Tail.{delays}
 use Rattle.samples.specs.Silence.{Zero, QuietInput}
-use Rattle.graph.proofs.RoundSources.{mem-distinct}
+use Rattle.boards.proofs.RoundSources.{mem-distinct}
 use Rattle.context.proofs.FineBoard.{listed-there}
 use Rattle.samples.proofs.ShownRun.{second-source}
 use Rattle.samples.proofs.ShownCall.{NumberFits}

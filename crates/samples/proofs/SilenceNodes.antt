@@ -14,15 +14,15 @@ use lib.ListN.{length, getD}
 use lib.Ieee.{Float, nan, binary32, ofBits, toBits}
 use Rattle.reading.specs.Table.{All}
 use Rattle.leaves.specs.Floors.{finiteF}
-use Rattle.nodes.specs.Kind.{lineOf, fewest, most, sourcesFit}
-use Rattle.nodes.specs.Node.{LineFits}
-use Rattle.nodes.specs.Rule.{Brought, Frame, first, two, operand, leftOf, rightOf, keeps}
-use Rattle.nodes.specs.Cell.{numberFits}
-use Rattle.nodes.specs.History.{Heard, xs, agoBy, lengthOf, leftHeard, sampleHeard}
-use Rattle.nodes.specs.declared.kind.NodeKind.{NodeKind}
-use Rattle.nodes.specs.declared.kind.NodeKind.the-variants.{Pass, Sum, Destination, Balance, Mul, Add, Delay, AllPass, OnePole, Sine}
-use Rattle.nodes.proofs.Kept.{both}
-use Rattle.nodes.proofs.Rows.{row-laws}
+use Rattle.kinds.specs.Kind.{lineOf, fewest, most, sourcesFit}
+use Rattle.kinds.specs.Node.{LineFits}
+use Rattle.kinds.specs.Rule.{Brought, Frame, first, two, operand, leftOf, rightOf, keeps}
+use Rattle.kinds.specs.Cell.{numberFits}
+use Rattle.kinds.specs.History.{Heard, xs, agoBy, lengthOf, leftHeard, sampleHeard}
+use Rattle.kinds.specs.declared.kind.NodeKind.{NodeKind}
+use Rattle.kinds.specs.declared.kind.NodeKind.the-variants.{Pass, Sum, Destination, Balance, Mul, Add, Delay, AllPass, OnePole, Sine}
+use Rattle.kinds.proofs.Kept.{both}
+use Rattle.kinds.proofs.Rows.{row-laws}
 use Rattle.graph.specs.Tail.{delays}
 use Rattle.samples.specs.Reading.{silence}
 use Rattle.samples.specs.Silence.{Zero}

@@ -8,11 +8,11 @@ use mathlib.Core.Bool.{Bool, true, false, cond}
 use mathlib.Core.List.{List, [], _∷_}
 use borrow.Author.Tests.{eqb-true}
 use lib.Dec.{eqb}
-use Rattle.nodes.specs.Cell.{numberFits}
-use Rattle.nodes.specs.History.{Heard, xs, setNumber}
+use Rattle.kinds.specs.Cell.{numberFits}
+use Rattle.kinds.specs.History.{Heard, xs, setNumber}
 use Rattle.reading.specs.Table.{All}
 use Rattle.reading.specs.Effect.{Effect, run, set, rewire, told}
-use Rattle.graph.specs.Board.{Parsed}
+use Rattle.boards.specs.Board.{Parsed}
 use Rattle.context.specs.Memory.{kindAt}
 use Rattle.samples.specs.Reading.{toldIn, toldAt}
 use Rattle.samples.proofs.ShownCall.{NumberFits}

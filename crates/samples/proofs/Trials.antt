@@ -6,20 +6,22 @@ use Prim.Native.Nat.{ℕ}
 use lib.Ieee.{ofBits}
 use lib.ListN.{set, replicate}
 use Rattle.leaves.specs.Worked.{Worked, worked}
-use Rattle.nodes.specs.Kind.{ruleOf}
+use Rattle.kinds.specs.Kind.{ruleOf}
 use Rattle.reading.specs.Calls.{replies}
-use Rattle.graph.specs.Answer.{answer}
-use Rattle.graph.specs.Record.{foundOf, foundAt}
-use Rattle.graph.specs.Sources.{distinct}
-use Rattle.graph.specs.Board.{Parsed, wire, whole, takeFound, stepOf, run, readRecords}
-use Rattle.graph.specs.Judge.{checkSources, readBoard, judgeOf}
-use Rattle.graph.specs.JudgeCases.{printed, printed-judged, printed-129, printed-self}
+use Rattle.records.specs.Answer.{answer}
+use Rattle.records.specs.Record.{foundOf, foundAt}
+use Rattle.sources.specs.Sources.{distinct}
+use Rattle.boards.specs.Board.{Parsed, whole, takeFound, stepOf, run, readRecords}
+use Rattle.reading.specs.Order.{wire}
+use Rattle.boards.specs.Judge.{checkSources, readBoard, judgeOf}
+use Rattle.boards.specs.JudgeCases.{printed, printed-judged, printed-129, printed-self}
 use Rattle.graph.specs.Late.{lateWires}
 use Rattle.graph.specs.VisitCases.{printed-list, printed-late}
-use Rattle.graph.specs.Walks.{feedback}
-use Rattle.graph.specs.Write.{asRead, writeBoard}
-use Rattle.graph.specs.declared.answer.Answer.{Answer}
-use Rattle.graph.proofs.RoundWorked.{feedback-written}
+use Rattle.boards.specs.Walks.{feedback}
+use Rattle.boards.specs.Obeys.{asRead}
+use Rattle.records.specs.Write.{writeBoard}
+use Rattle.records.specs.declared.answer.Answer.{Answer}
+use Rattle.boards.proofs.RoundWorked.{feedback-written}
 use Rattle.context.specs.Calls.{freshOf, listed}
 use Rattle.samples.specs.Claim.{callIn}
 use Rattle.samples.proofs.DemandWorked.{three, ahead, quiet, half, said, reads, feedback-fresh, feedback-blocks}

@@ -6,14 +6,14 @@ use mathlib.Core.Path.{_≡_}
 use mathlib.Core.List.{List, []}
 use lib.ListN.{length}
 use Rattle.leaves.specs.Words.{unwords}
-use Rattle.nodes.specs.Rule.{Frame}
-use Rattle.nodes.specs.History.{Heard}
+use Rattle.kinds.specs.Rule.{Frame}
+use Rattle.kinds.specs.History.{Heard}
 use Rattle.reading.specs.Order.{Reorders}
 use Rattle.reading.specs.Time.{Timed}
 use Rattle.reading.specs.Calls as calls
-use Rattle.graph.specs.Answer.{answer}
-use Rattle.graph.specs.Board.{Parsed, whole, memoryLength}
-use Rattle.graph.specs.Judge.{readBoard}
+use Rattle.records.specs.Answer.{answer}
+use Rattle.boards.specs.Board.{Parsed, whole, memoryLength}
+use Rattle.boards.specs.Judge.{readBoard}
 use Rattle.context.specs.Memory.{freshValues}
 use Rattle.context.specs.Calls.{Outcome, freshOf, blockIn, messageOf, listed}
 use Rattle.samples.specs.Reading.{Call, block, message, valueOf, Reply, IsReading, accepted, repliesTo, memoryAfter}

@@ -8,19 +8,19 @@ use lib.ListN.{length, replicate}
 use lib.Dec.{eqb, ltb}
 use lib.Ieee.{nan, binary32, ofBits}
 use Rattle.leaves.specs.Words.{unwords}
-use Rattle.nodes.specs.Kind.{channelsOf, lineOf}
-use Rattle.nodes.specs.declared.kind.NodeKind.{NodeKind}
-use Rattle.nodes.specs.Rule.{Brought, Frame, State, withNumber, sampleBy, stateBy}
-use Rattle.nodes.specs.Cell.{Cell, valuesOf, freshCell, numberFits, carryFits, placeFits}
-use Rattle.nodes.specs.History.{Heard, freshHeard, setNumber, sampleHeard, heardAfter}
+use Rattle.kinds.specs.Kind.{channelsOf, lineOf}
+use Rattle.kinds.specs.declared.kind.NodeKind.{NodeKind}
+use Rattle.kinds.specs.Rule.{Brought, Frame, State, withNumber, sampleBy, stateBy}
+use Rattle.kinds.specs.Cell.{Cell, valuesOf, freshCell, numberFits, carryFits, placeFits}
+use Rattle.kinds.specs.History.{Heard, freshHeard, setNumber, sampleHeard, heardAfter}
 use Rattle.reading.specs.Table.{joined}
 use Rattle.reading.specs.Order.{Wire, sources}
 use Rattle.reading.specs.Effect.{Effect}
 use Rattle.reading.specs.Board as theory
 use Rattle.reading.specs.Blocks as blocks
-use Rattle.graph.specs.Sources.{distinctSources, secondSource}
-use Rattle.graph.specs.Board.{Parsed}
-use Rattle.graph.specs.BoardParts.{wired as withWires}
+use Rattle.sources.specs.Sources.{distinctSources, secondSource}
+use Rattle.boards.specs.Board.{Parsed}
+use Rattle.boards.specs.BoardParts.{wired as withWires}
 use Rattle.graph.specs.Visit.{visitingList}
 use Rattle.context.specs.Memory.{kindAt}
 use Rattle.context.specs.Calls.{listed}

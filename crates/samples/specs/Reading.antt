@@ -1,5 +1,5 @@
 -- The reading by samples (document 01). Block b, from 0, has the times b × N to b × N + N − 1; at each time every reached node applies its row
--- of the table (`sampleHeard`, `heardAfter` of the crate nodes) to what its wires bring. A call has its answer, what it does where it is accepted,
+-- of the table (`sampleHeard`, `heardAfter` of the crate kinds) to what its wires bring. A call has its answer, what it does where it is accepted,
 -- and its reply (`answerTo`, `done`, `replyTo`); all else speaks of what calls do (`Effect` of the crate reading). Part of what the statements
 -- say. Definitions only.
 use Prim.Native.Nat.{ℕ, suc, _+_, _*_, _/_, _%_, _<_}
@@ -10,19 +10,19 @@ use lib.ListN.{length, getD, replicate}
 use lib.Dec.{eqb}
 use lib.Ieee.{Float, binary32, ofBits, toBits}
 use Rattle.leaves.specs.Words.{words, unwords}
-use Rattle.nodes.specs.Kind.{channelsOf}
-use Rattle.nodes.specs.Rule.{Brought, Frame, State, withNumber}
-use Rattle.nodes.specs.Cell.{Cell, valuesOf, numberOf, freshCell}
-use Rattle.nodes.specs.History.{Heard, freshHeard, setNumber, sampleHeard, heardAfter, stateOf}
+use Rattle.kinds.specs.Kind.{channelsOf}
+use Rattle.kinds.specs.Rule.{Brought, Frame, State, withNumber}
+use Rattle.kinds.specs.Cell.{Cell, valuesOf, numberOf, freshCell}
+use Rattle.kinds.specs.History.{Heard, freshHeard, setNumber, sampleHeard, heardAfter, stateOf}
 use Rattle.reading.specs.Table.{mem, joined}
 use Rattle.reading.specs.Order.{late}
 use Rattle.reading.specs.Effect.{Effect, run, set, inputs, blocks, told, toldBy, heard}
 use Rattle.reading.specs.Time.{Timed, blockAgo, lastBlock}
-use Rattle.graph.specs.Sources.{distinctSources, secondSource}
-use Rattle.graph.specs.Board.{Parsed}
+use Rattle.sources.specs.Sources.{distinctSources, secondSource}
+use Rattle.boards.specs.Board.{Parsed}
 use Rattle.context.specs.Memory.{kindAt}
 use Rattle.context.specs.Calls.{listed, andThen, checkBlocks, checkSamples, checkNumber}
-use Rattle.graph.specs.declared.answer.Answer.{Answer}
+use Rattle.records.specs.declared.answer.Answer.{Answer}
 
 -- ---- calls: a line for each in what it answers, what it does and what it replies
 

@@ -11,14 +11,14 @@ use mathlib.Core.List.{List, [], _∷_, map}
 use lib.ListN.{getD}
 use lib.Dec.{eqb}
 use Rattle.leaves.specs.Words.{words}
-use Rattle.nodes.specs.Rule.{Frame}
-use Rattle.nodes.specs.History.{Heard}
+use Rattle.kinds.specs.Rule.{Frame}
+use Rattle.kinds.specs.History.{Heard}
 use Rattle.reading.specs.Order.{Reorders}
 use Rattle.reading.specs.Effect.{Effect, blocks}
 use Rattle.reading.specs.Time.{Timed}
 use Rattle.reading.specs.Calls.{replies}
-use Rattle.graph.specs.Board.{Parsed, whole}
-use Rattle.graph.specs.Judge.{readBoard}
+use Rattle.boards.specs.Board.{Parsed, whole}
+use Rattle.boards.specs.Judge.{readBoard}
 use Rattle.context.specs.Calls.{listed}
 use Rattle.samples.specs.Reading.{Call, Reply, silence, IsReading, effects, Fixed, accepted, end, inputAt}
 use Rattle.samples.specs.Claim.{callIn, freshMemory}

@@ -11,13 +11,13 @@ use mathlib.Core.List.{List}
 use native.Mathlib.Decide.{ℕ-discrete}
 use native.Mathlib.Omega.{arith}
 use lib.ListN.{getD}
-use Rattle.nodes.specs.declared.kind.NodeKind.{NodeKind}
-use Rattle.nodes.specs.declared.kind.NodeKind.the-variants.{Pass, Delay}
-use Rattle.nodes.proofs.Kept.{both}
+use Rattle.kinds.specs.declared.kind.NodeKind.{NodeKind}
+use Rattle.kinds.specs.declared.kind.NodeKind.the-variants.{Pass, Delay}
+use Rattle.kinds.proofs.Kept.{both}
 use Rattle.reading.specs.Table.{mem, All}
-use Rattle.reading.specs.Order.{Wire, late}
+use Rattle.reading.specs.Order.{Wire, late, wire}
 use Rattle.reading.proofs.Order.{each-source}
-use Rattle.graph.specs.Board.{Parsed, wire}
+use Rattle.boards.specs.Board.{Parsed}
 use Rattle.graph.specs.Late.{isLate, lateWires}
 use Rattle.context.specs.Calls.{listed}
 use Rattle.context.specs.Fine.{Fine}

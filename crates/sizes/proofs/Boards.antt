@@ -15,19 +15,19 @@ use lib.Dec.{eqb, leb}
 use lib.ListN.{length, getD, set, length-map, List·getD-map}
 use lib.Seq.{set-set, set-getD, getD-set-same, getD-set-other}
 use borrow.Author.Tests.{leb-true, eqb-true, eq-eqb, ne-eqb}
-use Rattle.nodes.specs.Kind.{sourcesFit}
-use Rattle.nodes.specs.Node.{LineFits}
-use Rattle.nodes.specs.declared.kind.NodeKind.{NodeKind}
-use Rattle.nodes.specs.declared.kind.NodeKind.the-variants.{Pass, Delay}
-use Rattle.nodes.specs.declared.kind.NodeRecord.{NodeRecord}
+use Rattle.kinds.specs.Kind.{sourcesFit}
+use Rattle.kinds.specs.Node.{LineFits}
+use Rattle.kinds.specs.declared.kind.NodeKind.{NodeKind}
+use Rattle.kinds.specs.declared.kind.NodeKind.the-variants.{Pass, Delay}
+use Rattle.kinds.specs.declared.kind.NodeRecord.{NodeRecord}
 use Rattle.reading.specs.Table.{mem, All}
-use Rattle.reading.specs.Order.{Wire, Each, sources}
+use Rattle.reading.specs.Order.{Wire, Each, sources, wire}
 use Rattle.reading.proofs.Table.{or-false}
-use Rattle.graph.specs.Board.{Parsed, blank, wire}
+use Rattle.boards.specs.Board.{Parsed, blank}
 use Rattle.graph.specs.Late.{isLate, lateWires}
-use Rattle.graph.specs.Sources.{distinctSources}
-use Rattle.graph.specs.Write.{EachAt, noWire}
-use Rattle.graph.proofs.RoundSources.{distinct-leads}
+use Rattle.sources.specs.Sources.{distinctSources}
+use Rattle.boards.specs.Obeys.{EachAt, noWire}
+use Rattle.boards.proofs.RoundSources.{distinct-leads}
 use Rattle.context.specs.Memory.{kindAt}
 use Rattle.context.specs.Calls.{listed}
 use Rattle.context.specs.Fine.{Fine}

@@ -13,22 +13,22 @@ use lib.ListN.{length, getD, length-map}
 use lib.Ieee.{Float, nan, binary32, ofBits, toBits}
 use borrow.Author.Tests.{leb-true, ltb-true}
 use Rattle.leaves.specs.Floors.{zeroF}
-use Rattle.nodes.specs.Kind.{sourcesFit, channelsOf}
-use Rattle.nodes.specs.Rule.{Brought, Frame, keeps}
-use Rattle.nodes.specs.History.{Heard, xs, freshHeard, sampleHeard, heardAfter}
-use Rattle.nodes.specs.declared.kind.NodeKind.{NodeKind}
-use Rattle.nodes.specs.declared.kind.NodeKind.the-variants.{Delay}
-use Rattle.nodes.specs.declared.kind.NodeRecord.{NodeRecord}
-use Rattle.nodes.proofs.Arms.{kinds}
-use Rattle.nodes.proofs.Unread.{unread, heard-sample-unread, heard-unread}
+use Rattle.kinds.specs.Kind.{sourcesFit, channelsOf}
+use Rattle.kinds.specs.Rule.{Brought, Frame, keeps}
+use Rattle.kinds.specs.History.{Heard, xs, freshHeard, sampleHeard, heardAfter}
+use Rattle.kinds.specs.declared.kind.NodeKind.{NodeKind}
+use Rattle.kinds.specs.declared.kind.NodeKind.the-variants.{Delay}
+use Rattle.kinds.specs.declared.kind.NodeRecord.{NodeRecord}
+use Rattle.kinds.proofs.Arms.{kinds}
+use Rattle.kinds.proofs.Unread.{unread, heard-sample-unread, heard-unread}
 use Rattle.reading.specs.Table.{mem}
 use Rattle.reading.specs.Order.{sources, late}
 use Rattle.reading.specs.Effect.{Effect, inputs}
 use Rattle.reading.specs.Time.{Timed}
 use Rattle.reading.proofs.Table.{map-agree}
-use Rattle.graph.specs.Board.{Parsed, blank}
-use Rattle.graph.specs.Sources.{distinctSources, secondSource}
-use Rattle.graph.proofs.RoundSources.{mem-distinct}
+use Rattle.boards.specs.Board.{Parsed, blank}
+use Rattle.sources.specs.Sources.{distinctSources, secondSource}
+use Rattle.boards.proofs.RoundSources.{mem-distinct}
 use Rattle.context.specs.Memory.{kindAt}
 use Rattle.context.specs.Calls.{listed}
 use Rattle.context.specs.Fine.{Fine}

@@ -16,14 +16,15 @@ use lib.ListN.{length, getD, set, length-set, List·getD-map}
 use lib.Seq.{sets, map-set-same, set-set, set-getD, getD-set-same}
 use borrow.Author.Tests.{eqb-true}
 use Rattle.leaves.specs.Bytes.{u16Bytes, u32Bytes}
-use Rattle.nodes.specs.Kind.{lineOf, channelsOf, cellSize}
-use Rattle.nodes.specs.declared.kind.NodeKind.{NodeKind}
-use Rattle.nodes.specs.declared.kind.NodeKind.the-variants.{Pass, Delay}
-use Rattle.nodes.specs.declared.kind.NodeRecord.{NodeRecord}
-use Rattle.graph.specs.Board.{Parsed, whole, linesOf}
-use Rattle.graph.specs.Judge.{readBoard}
-use Rattle.graph.specs.Write.{NodeCard, Card, headBytes, nodeBytes, wiresBytes, endBytes, nodesBytes, writeBoard, kindOf, recordsFrom, asRead, noNode, noWire, EachAt, FieldsObey, NodeObeys, WireObeys, SourcesObey, linesOfCards, Obeys}
-use Rattle.graph.proofs.Round.{Accepted, write-read}
+use Rattle.kinds.specs.Kind.{lineOf, channelsOf, cellSize}
+use Rattle.kinds.specs.declared.kind.NodeKind.{NodeKind}
+use Rattle.kinds.specs.declared.kind.NodeKind.the-variants.{Pass, Delay}
+use Rattle.kinds.specs.declared.kind.NodeRecord.{NodeRecord}
+use Rattle.boards.specs.Board.{Parsed, whole, linesOf}
+use Rattle.boards.specs.Judge.{readBoard}
+use Rattle.records.specs.Write.{NodeCard, Card, headBytes, nodeBytes, wiresBytes, endBytes, nodesBytes, writeBoard}
+use Rattle.boards.specs.Obeys.{kindOf, recordsFrom, asRead, noNode, noWire, EachAt, FieldsObey, NodeObeys, WireObeys, SourcesObey, linesOfCards, Obeys}
+use Rattle.boards.proofs.Round.{Accepted, write-read}
 use Rattle.context.specs.Memory.{kindAt}
 use Rattle.sizes.specs.Sizes.{kinds}
 use Rattle.sizes.specs.Resize.{delayOf}

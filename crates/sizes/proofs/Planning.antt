@@ -19,23 +19,24 @@ use lib.ListN.{length, getD, take, length-append}
 use lib.Seq.{take-suc}
 use borrow.Author.Tests.{ltb-true, ltb-false, leb-true, leb-false, le-leb, lt-leb, eqb-true, eqb-false, eq-eqb, ne-eqb}
 use Rattle.leaves.specs.Words.{Bytes}
-use Rattle.nodes.specs.Kind.{lineOf}
-use Rattle.nodes.specs.declared.kind.NodeKind.{NodeKind}
-use Rattle.nodes.specs.declared.kind.NodeKind.the-variants.{Delay}
-use Rattle.nodes.specs.declared.kind.NodeRecord.{NodeRecord}
-use Rattle.nodes.proofs.Arms.{kinds as each}
+use Rattle.kinds.specs.Kind.{lineOf}
+use Rattle.kinds.specs.declared.kind.NodeKind.{NodeKind}
+use Rattle.kinds.specs.declared.kind.NodeKind.the-variants.{Delay}
+use Rattle.kinds.specs.declared.kind.NodeRecord.{NodeRecord}
+use Rattle.kinds.proofs.Arms.{kinds as each}
 use Rattle.reading.specs.Table.{All}
-use Rattle.reading.specs.Order.{Wire, Each}
-use Rattle.graph.specs.Board.{Parsed, whole, blank, wire, linesOf, sizeFits}
-use Rattle.graph.specs.Judge.{readBoard}
-use Rattle.graph.specs.Wires.{wiresOf}
+use Rattle.reading.specs.Order.{Wire, Each, wire}
+use Rattle.boards.specs.Board.{Parsed, whole, blank, linesOf, sizeFits}
+use Rattle.boards.specs.Judge.{readBoard}
+use Rattle.boards.specs.Wires.{wiresOf}
 use Rattle.graph.specs.Late.{isLate, lateWires}
-use Rattle.graph.specs.Write.{NodeCard, Card, nodesBytes, writeBoard, WireObeys}
-use Rattle.graph.proofs.Choice.{pick, both, neither}
+use Rattle.records.specs.Write.{NodeCard, Card, nodesBytes, writeBoard}
+use Rattle.boards.specs.Obeys.{WireObeys}
+use Rattle.reading.proofs.Choice.{pick, both, neither}
 use Rattle.graph.proofs.Late.{late-more}
-use Rattle.graph.proofs.Round.{read-write}
-use Rattle.graph.proofs.RoundSix.{records-length}
-use Rattle.graph.proofs.Sums.{lines-snoc}
+use Rattle.boards.proofs.Round.{read-write}
+use Rattle.boards.proofs.RoundSix.{records-length}
+use Rattle.boards.proofs.Sums.{lines-snoc}
 use Rattle.context.specs.Calls.{listed}
 use Rattle.context.specs.Memory.{kindAt}
 use Rattle.sizes.specs.declared.resize.Reason.{Reason}

@@ -13,13 +13,14 @@ use lib.Ieee.Fits.{sub-fits}
 use Rattle.leaves.specs.Floors.{f1, finiteF}
 use Rattle.leaves.proofs.Patterns.{pattern-lt}
 use Rattle.leaves.specs.Floats.{finiteBits}
-use Rattle.nodes.specs.declared.kind.NodeKind.the-variants.{Delay}
-use Rattle.graph.specs.Answer.{answer}
-use Rattle.graph.specs.Board.{Parsed, whole, linesOf, memoryLength}
-use Rattle.graph.specs.Judge.{readBoard, answerBy, judgeOf}
-use Rattle.graph.specs.Write.{kindOf, writeBoard, asRead}
-use Rattle.graph.proofs.Round.{write-read, read-write}
-use Rattle.graph.proofs.RoundBytes.{board-bytes}
+use Rattle.kinds.specs.declared.kind.NodeKind.the-variants.{Delay}
+use Rattle.records.specs.Answer.{answer}
+use Rattle.boards.specs.Board.{Parsed, whole, linesOf, memoryLength}
+use Rattle.boards.specs.Judge.{readBoard, answerBy, judgeOf}
+use Rattle.boards.specs.Obeys.{kindOf, asRead}
+use Rattle.records.specs.Write.{writeBoard}
+use Rattle.boards.proofs.Round.{write-read, read-write}
+use Rattle.records.proofs.RoundBytes.{board-bytes}
 use Rattle.plate.specs.Plate.{plateNodes, plateWires, plateCard, dryOf}
 use Rattle.plate.specs.Facts.{PlateFacts}
 use Rattle.plate.proofs.PlateFacts.{plate-facts}

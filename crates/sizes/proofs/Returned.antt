@@ -5,10 +5,10 @@ use mathlib.Core.List.{List, []}
 use native.Mathlib.Omega.{arith}
 use lib.ListN.{set}
 use Rattle.leaves.specs.Words.{Bytes}
-use Rattle.nodes.specs.declared.kind.NodeKind.the-variants.{Delay}
-use Rattle.graph.specs.Board.{Parsed, whole}
-use Rattle.graph.specs.Judge.{readBoard}
-use Rattle.graph.proofs.Round.{Accepted, read-write}
+use Rattle.kinds.specs.declared.kind.NodeKind.the-variants.{Delay}
+use Rattle.boards.specs.Board.{Parsed, whole}
+use Rattle.boards.specs.Judge.{readBoard}
+use Rattle.boards.proofs.Round.{Accepted, read-write}
 use Rattle.context.specs.Fine.{Fine}
 use Rattle.context.proofs.FineBoard.{fine-board}
 use Rattle.sizes.specs.declared.resize.Resized.{Resized}

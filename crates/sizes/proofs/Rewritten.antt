@@ -12,14 +12,14 @@ use lib.Dec.{eqb, ltb}
 use lib.ListN.{set}
 use borrow.Author.Tests.{eqb-true, eqb-false, ltb-true, ltb-false}
 use Rattle.leaves.specs.Words.{Bytes}
-use Rattle.nodes.specs.declared.kind.NodeKind.{NodeKind}
-use Rattle.nodes.specs.declared.kind.NodeKind.the-variants.{Delay}
-use Rattle.reading.specs.Order.{Wire, sources}
-use Rattle.graph.specs.Board.{Parsed, whole, wire}
-use Rattle.graph.specs.Judge.{readBoard}
+use Rattle.kinds.specs.declared.kind.NodeKind.{NodeKind}
+use Rattle.kinds.specs.declared.kind.NodeKind.the-variants.{Delay}
+use Rattle.reading.specs.Order.{Wire, sources, wire}
+use Rattle.boards.specs.Board.{Parsed, whole}
+use Rattle.boards.specs.Judge.{readBoard}
 use Rattle.graph.specs.Late.{lateWires}
 use Rattle.graph.specs.Visit.{visitingList}
-use Rattle.graph.proofs.Round.{read-write}
+use Rattle.boards.proofs.Round.{read-write}
 use Rattle.context.specs.Memory.{kindAt}
 use Rattle.context.specs.Calls.{listed}
 use Rattle.context.specs.Fine.{Fine}

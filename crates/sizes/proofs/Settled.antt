@@ -8,8 +8,8 @@ use lib.Seq.{sets}
 use Rattle.reading.specs.Table.{All}
 use Rattle.leaves.specs.Bytes.{u16Bytes, u32Bytes}
 use Rattle.leaves.specs.Words.{Bytes}
-use Rattle.graph.specs.Board.{Parsed, Progress, going, refused, whole}
-use Rattle.graph.specs.Judge.{readBoard}
+use Rattle.boards.specs.Board.{Parsed, Progress, going, refused, whole}
+use Rattle.boards.specs.Judge.{readBoard}
 use Rattle.sizes.specs.declared.resize.Resized.{Resized}
 use Rattle.sizes.specs.declared.resize.Resized.the-variants.{Same, Size, Line, Kept}
 use Rattle.sizes.specs.Sizes.{SoundsAs}

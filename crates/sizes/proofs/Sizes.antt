@@ -11,15 +11,15 @@ use mathlib.Core.List.{List, map}
 use native.Mathlib.Omega.{arith}
 use lib.ListN.{length, replicate}
 use Rattle.leaves.specs.Words.{Bytes, unwords}
-use Rattle.nodes.specs.Rule.{Frame}
+use Rattle.kinds.specs.Rule.{Frame}
 use Rattle.reading.specs.Table.{tab, All}
 use Rattle.reading.proofs.Table.{tab-agree}
 use Rattle.reading.specs.Time.{Timed}
 use Rattle.reading.specs.Calls.{replies}
-use Rattle.graph.specs.Answer.{answer}
-use Rattle.graph.specs.Board.{Parsed, whole, memoryLength}
-use Rattle.graph.specs.Judge.{readBoard, answerBy, judgeOf}
-use Rattle.graph.specs.declared.answer.Answer.{Answer}
+use Rattle.records.specs.Answer.{answer}
+use Rattle.boards.specs.Board.{Parsed, whole, memoryLength}
+use Rattle.boards.specs.Judge.{readBoard, answerBy, judgeOf}
+use Rattle.records.specs.declared.answer.Answer.{Answer}
 use Rattle.context.specs.Memory.{passed}
 use Rattle.context.specs.Calls.{listed, freshOf}
 use Rattle.context.specs.Fine.{Fine}

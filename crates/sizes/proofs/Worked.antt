@@ -7,18 +7,20 @@ use mathlib.Core.List.{List, [], _∷_}
 use lib.ListN.{replicate}
 use lib.Ieee.{ofBits, toBits, add, mul, round}
 use Rattle.leaves.specs.Words.{words, unwords}
-use Rattle.nodes.specs.Kind.{ruleOf}
-use Rattle.nodes.specs.Iter.{iter}
-use Rattle.nodes.specs.Rule.{total, leftOf, rightOf, keeps, carryAfter, get, xLine, yLine, placeAfter, lineAfter, sampleBy, stateBy}
-use Rattle.nodes.specs.Cell.{valuesOf, cellOf, numberOf, freshCell, numberFits, carryFits, placeFits, frameAt, putFrame, stepCell, runCell}
-use Rattle.nodes.specs.Node.{nodeRun}
-use Rattle.graph.specs.Board.{wire, takeFound, stepOf, run, readRecords}
-use Rattle.graph.specs.Record.{foundOf, foundAt}
-use Rattle.graph.specs.Sources.{distinct}
-use Rattle.graph.specs.Judge.{checkSources, readBoard}
+use Rattle.kinds.specs.Kind.{ruleOf}
+use Rattle.kinds.specs.Iter.{iter}
+use Rattle.kinds.specs.Rule.{total, leftOf, rightOf, keeps, carryAfter, get, xLine, yLine, placeAfter, lineAfter, sampleBy, stateBy}
+use Rattle.kinds.specs.Cell.{valuesOf, cellOf, numberOf, freshCell, numberFits, carryFits, placeFits, frameAt, putFrame, stepCell, runCell}
+use Rattle.kinds.specs.Node.{nodeRun}
+use Rattle.reading.specs.Order.{wire}
+use Rattle.boards.specs.Board.{takeFound, stepOf, run, readRecords}
+use Rattle.records.specs.Record.{foundOf, foundAt}
+use Rattle.sources.specs.Sources.{distinct}
+use Rattle.boards.specs.Judge.{checkSources, readBoard}
 use Rattle.graph.specs.Late.{isLate, lateWires}
 use Rattle.graph.specs.Visit.{visitingList}
-use Rattle.graph.specs.Write.{NodeCard, Card, kindOf, writeBoard}
+use Rattle.records.specs.Write.{NodeCard, Card, writeBoard}
+use Rattle.boards.specs.Obeys.{kindOf}
 use Rattle.context.specs.Memory.{freshValues, checkCells, runNode, runNodes, putInput}
 use Rattle.context.specs.Calls.{checkSamples, freshOf, blockIn}
 use Rattle.sizes.specs.declared.resize.Resized.the-variants.{Line}

@@ -4,9 +4,9 @@
 use Prim.Native.Nat.{ℕ, _+_, _-_, _*_}
 use mathlib.Core.Path.{_≡_}
 use lib.ListN.{set}
-use Rattle.graph.specs.Answer.{answer}
-use Rattle.graph.specs.Judge.{judgeOf}
-use Rattle.graph.specs.Write.{Card, writeBoard}
+use Rattle.records.specs.Answer.{answer}
+use Rattle.boards.specs.Judge.{judgeOf}
+use Rattle.records.specs.Write.{Card, writeBoard}
 use Rattle.plate.specs.Plate.{plateNodes, plateWires, plateCard, delayN}
 use Rattle.sizes.specs.declared.resize.Resized.the-variants.{Line}
 use Rattle.sizes.specs.Resize.{resizedOf, bytesAfter, Carried}

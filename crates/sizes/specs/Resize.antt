@@ -10,12 +10,12 @@ use lib.Seq.{sets}
 use lib.Dec.{eqb, leb}
 use Rattle.leaves.specs.Bytes.{u16Bytes, u32Bytes}
 use Rattle.leaves.specs.Words.{Bytes}
-use Rattle.nodes.specs.Kind.{typeOf}
-use Rattle.nodes.specs.History.{lengthOf}
-use Rattle.nodes.specs.declared.kind.NodeKind.{NodeKind}
+use Rattle.kinds.specs.Kind.{typeOf}
+use Rattle.kinds.specs.History.{lengthOf}
+use Rattle.kinds.specs.declared.kind.NodeKind.{NodeKind}
 use Rattle.reading.specs.Order.{Wire}
-use Rattle.graph.specs.Board.{Parsed, Progress, going, refused, whole, linesOf, sizeFits}
-use Rattle.graph.specs.Judge.{readBoard}
+use Rattle.boards.specs.Board.{Parsed, Progress, going, refused, whole, linesOf, sizeFits}
+use Rattle.boards.specs.Judge.{readBoard}
 use Rattle.graph.specs.Late.{lateWires}
 use Rattle.context.specs.Memory.{kindAt}
 use Rattle.context.specs.Calls.{listed}

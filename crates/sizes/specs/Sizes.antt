@@ -8,15 +8,15 @@ use mathlib.Core.List.{List, [], _∷_, _++_, map}
 use lib.ListN.{length, getD, set, take, drop, replicate}
 use Rattle.leaves.specs.Words.{words, unwords}
 use Rattle.leaves.specs.Floats.{finiteBits}
-use Rattle.nodes.specs.declared.kind.NodeKind.{NodeKind}
-use Rattle.nodes.specs.declared.kind.NodeKind.the-variants.{Delay}
-use Rattle.reading.specs.Order.{sources}
+use Rattle.kinds.specs.declared.kind.NodeKind.{NodeKind}
+use Rattle.kinds.specs.declared.kind.NodeKind.the-variants.{Delay}
+use Rattle.reading.specs.Order.{sources, wire}
 use Rattle.reading.specs.Effect.{Effect, run, rewire, inputs}
 use Rattle.reading.specs.Effect as effect
 use Rattle.reading.specs.Calls.{replies}
-use Rattle.graph.specs.Answer.{answer}
-use Rattle.graph.specs.Board.{Parsed, wire}
-use Rattle.graph.specs.Judge.{judgeOf}
+use Rattle.records.specs.Answer.{answer}
+use Rattle.boards.specs.Board.{Parsed}
+use Rattle.boards.specs.Judge.{judgeOf}
 use Rattle.graph.specs.Late.{lateWires}
 use Rattle.context.specs.Memory.{kindAt, passed}
 use Rattle.context.specs.Calls.{listed, freshOf}

@@ -3,25 +3,25 @@ ghost use mathlib.Core.Path.{_≡_};
 ghost use mathlib.Core.List.{List};
 ghost use Prim.Native.Nat.{ℕ, _≤_, _<_};
 ghost use lib.ListN.{length};
-ghost use Rattle.graph.specs.Board.{linesOf};
+ghost use Rattle.boards.specs.Board.{linesOf};
 ghost use Rattle.graph.specs.Late.{lateWires, Placed};
-ghost use Rattle.graph.specs.Read.{parsedOf, Sound};
-ghost use Rattle.graph.specs.Wires.{Within, wiresOf};
+ghost use Rattle.boards.specs.Read.{parsedOf, Sound};
+ghost use Rattle.boards.specs.Wires.{Within, wiresOf};
 ghost use Rattle.context.specs.Memory.{kindAt};
 ghost use Rattle.context.specs.Fine.{Fine};
 ghost use Rattle.context.specs.Calls.{listed};
 ghost use Rattle.sizes.specs.Resize.{delayOf, lineBy, planOf, resizedOf, bytesAfter};
 ghost use Rattle.sizes.specs.Planning.{Lates, Whole};
-use graph::board::Board;
+use boards::board::Board;
+use boards::judge::read_board;
 use graph::graph::is_late;
 use graph::graph::places;
 use graph::graph::visiting_list;
-use graph::judge::read_board;
+use kinds::kind::NodeKind;
+use kinds::kind::line_of;
 use leaves::bytes::put_u16;
 use leaves::bytes::put_u32;
 use leaves::bytes::wide;
-use nodes::kind::NodeKind;
-use nodes::kind::line_of;
 
 // Why a board is not carried to another block size.
 pub enum Reason {

@@ -8,11 +8,11 @@ use borrow.Author.Tests.{eq-eqb, ne-eqb}
 use lib.Dec.{eqb, ltb}
 use lib.ListN.{length}
 use Rattle.leaves.specs.Words.{Bytes}
-use Rattle.graph.specs.Board.{Parsed, Progress, going, refused, whole, wireFits}
-use Rattle.graph.specs.Judge.{readBoard, checkSix}
-use Rattle.graph.specs.BoardParts.{wired as withWires}
-use Rattle.graph.proofs.Ending.{Ended, board-ends}
-use Rattle.graph.proofs.Six.{six-whole, six-refused}
+use Rattle.boards.specs.Board.{Parsed, Progress, going, refused, whole, wireFits}
+use Rattle.boards.specs.Judge.{readBoard, checkSix}
+use Rattle.boards.specs.BoardParts.{wired as withWires}
+use Rattle.boards.proofs.Ending.{Ended, board-ends}
+use Rattle.boards.proofs.Six.{six-whole, six-refused}
 use Rattle.wiring.specs.Carried.{added, wired, pulled}
 use Rattle.wiring.specs.Rewire.{refusal, wiringBy, addedTo, pulledFrom, onBoard, judgedAnew, addedBoard, pulledBoard, inFront, lentFor}
 use Rattle.wiring.specs.declared.rewire.Wiring.{Wiring}

@@ -10,27 +10,27 @@ use lib.Dec.{eqb, leb}
 use lib.ListN.{length, getD, take, length-append}
 use lib.Seq.{getD-take}
 use Rattle.leaves.specs.Words.{Bytes}
-use Rattle.nodes.specs.Kind.{sourcesFit, fewest, most}
-use Rattle.nodes.specs.declared.kind.NodeRecord.{NodeRecord}
+use Rattle.kinds.specs.Kind.{sourcesFit, fewest, most}
+use Rattle.kinds.specs.declared.kind.NodeRecord.{NodeRecord}
 use Rattle.reading.specs.Table.{mem}
-use Rattle.reading.specs.Order.{Wire, Each, Once, sources}
-use Rattle.graph.specs.Board.{whole, wire, wireFits, blank}
-use Rattle.graph.specs.Formed.{Formed}
-use Rattle.graph.specs.Judge.{passAt, inputFits, readBoard, checkSix}
+use Rattle.reading.specs.Order.{Wire, Each, Once, sources, wire}
+use Rattle.boards.specs.Board.{whole, wireFits, blank}
+use Rattle.boards.specs.Formed.{Formed}
+use Rattle.boards.specs.Judge.{passAt, inputFits, readBoard, checkSix}
 use Rattle.graph.specs.Listed.{SourcesBelow}
-use Rattle.graph.specs.BoardParts.{wired as withWires}
-use Rattle.graph.specs.Read.{Read, parsedOf}
-use Rattle.graph.specs.Sources.{distinctSources}
+use Rattle.boards.specs.BoardParts.{wired as withWires}
+use Rattle.boards.specs.Read.{Read, parsedOf}
+use Rattle.sources.specs.Sources.{distinctSources}
 use Rattle.graph.specs.Visit.{visitingList, Lists}
-use Rattle.graph.specs.Write.{WireObeys}
-use Rattle.graph.specs.declared.board.Board.{Board}
+use Rattle.boards.specs.Obeys.{WireObeys}
+use Rattle.boards.specs.declared.board.Board.{Board}
 use Rattle.graph.proofs.Accepted.{accepted-board, accepted-formed, count-is}
-use Rattle.graph.proofs.Choice.{both}
-use Rattle.graph.proofs.Fits.{wire-fits}
+use Rattle.reading.proofs.Choice.{both}
+use Rattle.boards.proofs.Fits.{wire-fits}
 use Rattle.graph.proofs.Listed.{lists-reached}
-use Rattle.graph.proofs.Six.{sources-few}
+use Rattle.boards.proofs.Six.{sources-few}
 use Rattle.graph.proofs.Wired as graph
-use Rattle.graph.proofs.Wiring.{wires-length}
+use Rattle.boards.proofs.Wiring.{wires-length}
 use Rattle.wiring.specs.Carried.{added, wired, older, newer, pulled}
 use Rattle.wiring.specs.Rewire.{wiring, refusal, wiringBy, closedUp, pulledFrom, judgedAnew, addedBoard, pulledBoard}
 use Rattle.wiring.specs.Rewiring.{Pulls}

@@ -6,7 +6,7 @@ use mathlib.Core.Bool.{Bool, true, false}
 use mathlib.Core.List.{List}
 use lib.ListN.{take, replicate, getD-replicate}
 use Rattle.reading.specs.Order.{Wire}
-use Rattle.graph.specs.Sources.{distinctSources}
+use Rattle.sources.specs.Sources.{distinctSources}
 use Rattle.graph.specs.Walking.{Gathered, unmarked}
 use Rattle.graph.specs.Visit.{visitingList, Lists}
 use Rattle.wiring.specs.Carried.{fresh, added, pulled}

@@ -15,15 +15,15 @@ use lib.ListN.{length, getD, take, drop, length-append}
 use lib.Seq.{take-at, drop-at, length-take-le}
 use Rattle.leaves.specs.Bytes.{u16Bytes}
 use Rattle.leaves.specs.Words.{Bytes}
-use Rattle.reading.specs.Order.{Wire}
-use Rattle.graph.specs.Board.{Parsed, Progress, going, refused, whole, wire, wireFits}
-use Rattle.graph.specs.Judge.{readBoard, checkSix}
-use Rattle.graph.specs.BoardParts.{wired as withWires}
+use Rattle.reading.specs.Order.{Wire, wire}
+use Rattle.boards.specs.Board.{Parsed, Progress, going, refused, whole, wireFits}
+use Rattle.boards.specs.Judge.{readBoard, checkSix}
+use Rattle.boards.specs.BoardParts.{wired as withWires}
 use Rattle.graph.specs.Visit.{visitingList}
-use Rattle.graph.specs.Write.{wireBytes, endBytes}
-use Rattle.graph.proofs.Ending.{Ended, board-ends}
-use Rattle.graph.proofs.Formed.{six-same}
-use Rattle.graph.proofs.RoundBytes.{bytes-on, bytes-front}
+use Rattle.records.specs.Write.{wireBytes, endBytes}
+use Rattle.boards.proofs.Ending.{Ended, board-ends}
+use Rattle.boards.proofs.Formed.{six-same}
+use Rattle.records.proofs.RoundBytes.{bytes-on, bytes-front}
 use Rattle.wiring.specs.Carried.{added, joins, wired, older, newer, pulled}
 use Rattle.wiring.specs.Rewire.{wiring, refusal, wiringBy, addedTo, wireAt, closedUp, pulledFrom, onBoard, judgedAnew, addedBoard, pulledBoard, inFront, lentFor, addOf, pullOf, Leaves}
 use Rattle.wiring.specs.declared.rewire.Wiring.{Wiring}

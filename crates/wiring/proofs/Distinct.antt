@@ -8,7 +8,7 @@ use borrow.Author.Tests.{eq-eqb, ne-eqb, eqb-true, eqb-false}
 use Rattle.reading.specs.Table.{mem}
 use Rattle.reading.specs.Visit.{choose}
 use Rattle.reading.proofs.Table.{or-right, or-left}
-use Rattle.graph.specs.Sources.{addNew, addAll, distinct}
+use Rattle.sources.specs.Sources.{addNew, addAll, distinct}
 use Rattle.wiring.specs.Carried.{Way, mark, enter, through, walk}
 use Rattle.wiring.proofs.Lists.{or-none, or-one, mem-append, mem-neither, through-append}
 use Rattle.wiring.proofs.Parts.{walk-seen, through-keeps}

@@ -9,7 +9,7 @@ use lib.ListN.{length, getD, set, length-append, List·getD-append}
 use lib.Seq.{getD-append-seam, getD-set-same, getD-set-other}
 use Rattle.reading.specs.Table.{mem}
 use Rattle.reading.specs.Order.{Wire, sources}
-use Rattle.graph.specs.Sources.{distinct, distinctSources}
+use Rattle.sources.specs.Sources.{distinct, distinctSources}
 use Rattle.graph.specs.Walking.{Table, Gathered}
 use Rattle.wiring.specs.Carried.{added}
 use Rattle.wiring.proofs.Tables.{added-other, added-last}

@@ -12,7 +12,7 @@ use lib.ListN.{length, getD, set, take, drop, length-set, length-take, drop-of-l
 use lib.Seq.{getD-set-same, getD-set-other, take-suc, take-suc-set, drop-append-le, length-take-le}
 use Rattle.reading.specs.Visit.{choose}
 use Rattle.reading.proofs.Table.{or-left}
-use Rattle.graph.proofs.Wiring.{within-more}
+use Rattle.boards.proofs.Wiring.{within-more}
 use Rattle.graph.proofs.Going.{unmarked-set}
 use Rattle.wiring.specs.Carried.{Way, mark, enter, layOne, lay}
 use Rattle.wiring.specs.Skimming.{Shows, Grown, LaidPart}

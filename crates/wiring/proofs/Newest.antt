@@ -6,11 +6,10 @@ use mathlib.Core.List.{List, [], _∷_}
 use native.Mathlib.Omega.{arith}
 use lib.ListN.{length, getD, take, drop, length-append}
 use lib.Seq.{take-at}
-use Rattle.reading.specs.Order.{Wire}
-use Rattle.graph.specs.Board.{wire}
-use Rattle.graph.specs.Wires.{wiresFrom, wiresOf}
-use Rattle.graph.specs.Write.{noWire}
-use Rattle.graph.proofs.Wiring.{wires-length}
+use Rattle.reading.specs.Order.{Wire, wire}
+use Rattle.boards.specs.Wires.{wiresFrom, wiresOf}
+use Rattle.boards.specs.Obeys.{noWire}
+use Rattle.boards.proofs.Wiring.{wires-length}
 use Rattle.wiring.specs.Carried.{joins, wired, older, newer}
 use Rattle.wiring.specs.Rewiring.{newestPlace}
 use Rattle.wiring.proofs.Wires.{newest}

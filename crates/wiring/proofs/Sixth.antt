@@ -9,17 +9,17 @@ use native.Mathlib.Omega.{arith}
 use borrow.Author.Tests.{ne-eqb}
 use lib.Dec.{eqb}
 use lib.ListN.{length, getD}
-use Rattle.nodes.specs.Kind.{sourcesFit}
-use Rattle.nodes.specs.declared.kind.NodeRecord.{NodeRecord}
+use Rattle.kinds.specs.Kind.{sourcesFit}
+use Rattle.kinds.specs.declared.kind.NodeRecord.{NodeRecord}
 use Rattle.reading.specs.Order.{Wire, sources}
-use Rattle.graph.specs.Board.{Parsed, Progress, going, refused, whole, blank, readRecords}
-use Rattle.graph.specs.Formed.{Formed}
-use Rattle.graph.specs.Judge.{passAt, inputFits, checkSources, checkSix, thenSix, readBoard}
-use Rattle.graph.specs.BoardParts.{wired as withWires}
-use Rattle.graph.specs.Sources.{distinctSources}
-use Rattle.graph.proofs.Formed.{six-same}
-use Rattle.graph.proofs.Run.{refused-is-not-whole, going-is-not-whole}
-use Rattle.graph.proofs.Six.{six-walked, six-input}
+use Rattle.boards.specs.Board.{Parsed, Progress, going, refused, whole, blank, readRecords}
+use Rattle.boards.specs.Formed.{Formed}
+use Rattle.boards.specs.Judge.{passAt, inputFits, checkSources, checkSix, thenSix, readBoard}
+use Rattle.boards.specs.BoardParts.{wired as withWires}
+use Rattle.sources.specs.Sources.{distinctSources}
+use Rattle.boards.proofs.Formed.{six-same}
+use Rattle.boards.proofs.Run.{refused-is-not-whole, going-is-not-whole}
+use Rattle.boards.proofs.Six.{six-walked, six-input}
 
 -- ---- an accepted board's input node
 

@@ -8,10 +8,9 @@ use lib.Dec.{eqb, lit<}
 use lib.ListN.{length, length-append}
 use borrow.Author.Tests.{eq-eqb, ne-eqb, eqb-true, eqb-false}
 use Rattle.reading.specs.Table.{mem}
-use Rattle.reading.specs.Order.{Wire, sources}
+use Rattle.reading.specs.Order.{Wire, sources, wire}
 use Rattle.reading.specs.Visit.{choose}
-use Rattle.graph.specs.Board.{wire}
-use Rattle.graph.specs.Sources.{distinct, distinctSources}
+use Rattle.sources.specs.Sources.{distinct, distinctSources}
 use Rattle.graph.specs.Visit.{visitingList}
 use Rattle.graph.specs.Listed.{SourcesBelow}
 use Rattle.wiring.specs.Carried.{Way, Carried, Change, mark, enter, through, walk, onWay, copies, copy, turn, look, skim, fresh, carry, added, wired, older, newer, pulled}

@@ -8,9 +8,8 @@ use mathlib.Core.List.{List, [], _∷_, _++_, append-nil}
 use lib.Dec.{eqb}
 use borrow.Author.Tests.{eq-eqb, ne-eqb, eqb-true}
 use Rattle.reading.specs.Table.{mem}
-use Rattle.reading.specs.Order.{Wire, sources}
+use Rattle.reading.specs.Order.{Wire, sources, wire}
 use Rattle.reading.specs.Visit.{Walk, markNode, listNode, choose, each, go, visiting}
-use Rattle.graph.specs.Board.{wire}
 use Rattle.graph.specs.Visit.{visitingList}
 use Rattle.wiring.specs.Carried.{Way, Changes, mark, enter, through, walk, fresh, added, joins, wired, older, newer, pulled, adds, pulls, carryAdded, carryPulled}
 use Rattle.wiring.proofs.Lists.{or-one}

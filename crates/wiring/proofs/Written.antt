@@ -11,18 +11,19 @@ use native.Mathlib.Omega.{arith}
 use lib.ListN.{length, take, drop, length-append, take-append-drop}
 use lib.Seq.{take-at, drop-at, take-take, length-take-le, sets, sets-eq}
 use Rattle.leaves.specs.Words.{Bytes}
-use Rattle.reading.specs.Order.{Wire, Each}
-use Rattle.graph.specs.Board.{Parsed, whole, refused, wire, wireFits, readRecords}
-use Rattle.graph.specs.Judge.{readBoard}
-use Rattle.graph.specs.BoardParts.{wired as withWires}
-use Rattle.graph.specs.Write.{NodeCard, Card, nodeBytes, wireBytes, wiresBytes, endBytes, headBytes, nodesBytes, writeBoard, asRead, WireObeys, noWire, Obeys}
-use Rattle.graph.proofs.Fits.{wire-fits}
-use Rattle.graph.proofs.Round.{read-write, fits}
-use Rattle.graph.proofs.RoundBytes.{board-bytes}
-use Rattle.graph.proofs.RoundObeys.{EachFrom, each-from, wires-fit}
-use Rattle.graph.proofs.RoundRun.{WiresFit, Fits, front, place, records-read, wire-refused}
-use Rattle.graph.proofs.RoundSix.{records-length}
-use Rattle.graph.proofs.Stores.{enc-length}
+use Rattle.reading.specs.Order.{Wire, Each, wire}
+use Rattle.boards.specs.Board.{Parsed, whole, refused, wireFits, readRecords}
+use Rattle.boards.specs.Judge.{readBoard}
+use Rattle.boards.specs.BoardParts.{wired as withWires}
+use Rattle.records.specs.Write.{NodeCard, Card, nodeBytes, wireBytes, wiresBytes, endBytes, headBytes, nodesBytes, writeBoard}
+use Rattle.boards.specs.Obeys.{asRead, WireObeys, noWire, Obeys}
+use Rattle.boards.proofs.Fits.{wire-fits}
+use Rattle.boards.proofs.Round.{read-write, fits}
+use Rattle.records.proofs.RoundBytes.{board-bytes}
+use Rattle.boards.proofs.RoundObeys.{EachFrom, each-from, wires-fit}
+use Rattle.boards.proofs.RoundRun.{WiresFit, Fits, front, place, records-read, wire-refused}
+use Rattle.boards.proofs.RoundSix.{records-length}
+use Rattle.records.proofs.Stores.{enc-length}
 use Rattle.wiring.specs.Carried.{added, wired, older, newer, pulled}
 use Rattle.wiring.specs.Rewire.{addedTo, wireAt, closedUp, pulledFrom, inFront}
 use Rattle.wiring.proofs.Wires.{newest}

@@ -7,12 +7,12 @@ use mathlib.Core.List.{List, [], _++_}
 use lib.Dec.{eqb, ltb}
 use lib.ListN.{length, take, drop, replicate}
 use Rattle.leaves.specs.Words.{Bytes}
-use Rattle.reading.specs.Order.{Wire}
-use Rattle.graph.specs.Board.{Parsed, Progress, going, refused, whole, wire}
-use Rattle.graph.specs.Judge.{readBoard}
-use Rattle.graph.specs.BoardParts.{wired as withWires}
+use Rattle.reading.specs.Order.{Wire, wire}
+use Rattle.boards.specs.Board.{Parsed, Progress, going, refused, whole}
+use Rattle.boards.specs.Judge.{readBoard}
+use Rattle.boards.specs.BoardParts.{wired as withWires}
 use Rattle.graph.specs.Visit.{visitingList}
-use Rattle.graph.specs.Write.{wireBytes}
+use Rattle.records.specs.Write.{wireBytes}
 use Rattle.wiring.specs.Carried.{wired, older}
 use Rattle.wiring.specs.declared.rewire.Wiring.{Wiring}
 

@@ -9,7 +9,7 @@ use lib.ListN.{length, getD, take, drop}
 use Rattle.reading.specs.Table.{mem}
 use Rattle.reading.specs.Order.{Wire, sources, Once}
 use Rattle.reading.specs.Visit.{choose}
-use Rattle.graph.specs.Wires.{Within}
+use Rattle.boards.specs.Wires.{Within}
 use Rattle.graph.specs.Walking.{Table, Gathered, unmarked}
 use Rattle.graph.specs.Visit.{visitingList, Lists}
 use Rattle.graph.specs.Listed.{SourcesBelow}

@@ -1,7 +1,7 @@
 // The visiting list of a board with a wire more, or a wire less, carried over from the old board's.
 ghost use mathlib.Core.Path.{_≡_};
 ghost use Prim.Native.Nat.{ℕ, _<_, _≤_};
-ghost use Rattle.graph.specs.Wires.{Within};
+ghost use Rattle.boards.specs.Wires.{Within};
 ghost use lib.ListN.{length, take};
 ghost use Rattle.reading.specs.Order.{Once};
 ghost use Rattle.graph.specs.Walking.{Table};

@@ -6,20 +6,20 @@ ghost use Prim.Native.Nat.{_+_, _≤_, min};
 ghost use lib.Dec.{ltb};
 ghost use lib.ListN.{length, take};
 ghost use lib.Seq.{sets};
-ghost use Rattle.graph.specs.Board.{wire};
-ghost use Rattle.graph.specs.Wires.{wiresOf};
-ghost use Rattle.graph.specs.Write.{wireBytes, endBytes};
+ghost use Rattle.reading.specs.Order.{wire};
+ghost use Rattle.boards.specs.Wires.{wiresOf};
+ghost use Rattle.records.specs.Write.{wireBytes, endBytes};
 ghost use Rattle.wiring.specs.Rewire.{wiring, refusal, closedUp, inFront, addedBoard, addOf, pullOf};
 ghost use Rattle.wiring.specs.Rewiring.{newestPlace, Pulls};
 use crate::carried::carried_list;
-use graph::board::wire_fits;
+use boards::board::wire_fits;
+use boards::judge::read_board;
 use graph::graph::Order;
 use graph::graph::visiting_list;
-use graph::judge::read_board;
-use graph::writer::put_end;
-use graph::writer::put_wire;
+use kinds::kind::sources_fit;
 use leaves::bytes::wide;
-use nodes::kind::sources_fit;
+use records::writer::put_end;
+use records::writer::put_wire;
 
 // What a change of wires gives back: number and place as every call, and the new board's visiting list,
 // the first `count` bytes of `listed`, with zeros behind them. A refusal's list is empty.

@@ -5,12 +5,12 @@ ghost use lib.ListN.{length};
 ghost use lib.Ieee as ieee;
 ghost use lib.Ieee.{Float, binary32};
 ghost use Rattle.leaves.specs.Words.{words};
-ghost use Rattle.nodes.specs.Kind.{samplesFrom};
-ghost use Rattle.nodes.specs.Block.{stored, opNumber, opSources, given};
-ghost use Rattle.nodes.specs.Cell.{runValues};
-use crate::cell::NUMBER;
-use crate::cell::SAMPLES;
-use crate::kind::NodeKind;
+ghost use Rattle.kinds.specs.Kind.{samplesFrom};
+ghost use Rattle.effects.specs.Block.{stored, opNumber, opSources, given};
+ghost use Rattle.kinds.specs.Cell.{runValues};
+use kinds::cell::NUMBER;
+use kinds::cell::SAMPLES;
+use kinds::kind::NodeKind;
 use leaves::float::load;
 use leaves::float::store;
 

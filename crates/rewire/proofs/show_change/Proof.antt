@@ -6,7 +6,7 @@ use native.Mathlib.Omega.{arith}
 use lib.ListN.{length, take}
 use lib.Seq.{length-take-le}
 use Rattle.leaves.specs.Words.{Bytes}
-use Rattle.graph.specs.Judge.{readBoard}
+use Rattle.boards.specs.Judge.{readBoard}
 use Rattle.wiring.specs.Rewire.{wiringBy}
 use Rattle.wiring.specs.declared.rewire.Wiring.{Wiring}
 use Rattle.rewire.specs.Step.{madeOf, lengthAfter, Plays}

@@ -4,7 +4,7 @@ use native.Mathlib.Omega.{arith}
 use Prim.Native.Nat.{ℕ}
 use lib.Seq.{sets}
 use borrow.Author.Tests.{eq-eqb, ne-eqb}
-use Rattle.graph.specs.Write.{headBytes}
+use Rattle.records.specs.Write.{headBytes}
 use borrow.Author.Needs.{needs}
 use Rattle.cards.proofs.board.add_head.Statement.{statement}
 use Rattle.cards.proofs.board.add_head.Tie as tie

@@ -5,7 +5,7 @@ use mathlib.Core.List.{List}
 use Prim.Native.Nat.{ℕ, _+_}
 use lib.ListN.{take}
 use lib.Seq.{length-take-le}
-use Rattle.graph.specs.Judge.{judgeOf}
+use Rattle.boards.specs.Judge.{judgeOf}
 use Rattle.cards.proofs.Making.{board-made, board-refused}
 use borrow.Author.Needs.{needs}
 use Rattle.cards.proofs.board.judged.Statement.{statement}

@@ -11,10 +11,10 @@ use Rattle.context.specs.Memory.{runNodes, runBlock}
 use Rattle.context.specs.Calls.{Outcome, andThen, checkMemory, checkBlocks, checkSamples, checkNeeded, checkValues, asLeft, ranBlock, blockIn, listed}
 use Rattle.context.specs.Fine.{Fine}
 use Rattle.context.specs.Stages.{readJudged, LentOf}
-use Rattle.graph.specs.Board.{Parsed}
-use Rattle.graph.specs.Read.{parsedOf, Read}
-use Rattle.graph.specs.declared.answer.Answer.{Answer}
-use Rattle.graph.specs.declared.board.Board.{Board}
+use Rattle.boards.specs.Board.{Parsed}
+use Rattle.boards.specs.Read.{parsedOf, Read}
+use Rattle.records.specs.declared.answer.Answer.{Answer}
+use Rattle.boards.specs.declared.board.Board.{Board}
 use Rattle.graph.specs.declared.graph.Order.{Order}
 use Rattle.graph.proofs.Accepted.{table-at}
 use Rattle.context.proofs.FineBoard.{accepted-fine}

@@ -3,7 +3,7 @@ use mathlib.Core.Path.{_≡_, sym, ap, _∙_}
 use lib.ListN.{length}
 use Rattle.leaves.specs.Words.{words}
 use Rattle.context.specs.Calls.{checkSizes, checkSamples}
-use Rattle.graph.specs.declared.answer.Answer.{Answer}
+use Rattle.records.specs.declared.answer.Answer.{Answer}
 use Rattle.context.proofs.CallChecks.{sizes-accepted, then-passed, then-refused}
 use borrow.Author.Needs.{needs}
 use Rattle.context.proofs.calls.blocks_judged.Statement.{statement}

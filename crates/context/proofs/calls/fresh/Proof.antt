@@ -5,9 +5,9 @@ use native.Mathlib.Omega.{arith}
 use lib.ListN.{length, replicate}
 use borrow.Author.Needs.{needs}
 use Rattle.leaves.specs.Words.{words, unwords}
-use Rattle.graph.specs.Board.{cellsOf}
-use Rattle.graph.specs.Judge.{readBoard}
-use Rattle.graph.specs.Read.{parsedOf}
+use Rattle.boards.specs.Board.{cellsOf}
+use Rattle.boards.specs.Judge.{readBoard}
+use Rattle.boards.specs.Read.{parsedOf}
 use Rattle.context.specs.Memory.{freshValues, passed}
 use Rattle.context.specs.Calls.{checkLength, changeBy, freshOf}
 use Rattle.context.specs.Stages.{readOpen, putNumbers}

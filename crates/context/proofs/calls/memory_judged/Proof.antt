@@ -5,7 +5,7 @@ use native.Mathlib.Omega.{arith}
 use borrow.Author.Needs.{needs}
 use lib.ListN.{length, take}
 use Rattle.leaves.specs.Words.{words}
-use Rattle.graph.specs.declared.answer.Answer.{Answer}
+use Rattle.records.specs.declared.answer.Answer.{Answer}
 use Rattle.context.specs.Memory.{checkCells}
 use Rattle.context.specs.Calls.{checkNeeded}
 use Rattle.context.proofs.CallChecks.{needed-long, then-passed, then-refused}

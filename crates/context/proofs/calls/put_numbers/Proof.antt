@@ -6,7 +6,7 @@ use lib.ListN.{length, take, drop}
 use Rattle.context.specs.Memory.{nodeIn}
 use Rattle.leaves.specs.Words.{words}
 use Rattle.leaves.specs.Floats.{setFloat}
-use Rattle.nodes.specs.Cell.{numberOf}
+use Rattle.kinds.specs.Cell.{numberOf}
 use Rattle.context.specs.Stages.{putNumbers}
 use Rattle.context.proofs.CallFresh.{numbers-next, numbers-end}
 use Rattle.context.proofs.calls.put_numbers.Statement.{statement}

@@ -6,11 +6,12 @@ use mathlib.Core.List.{List}
 use native.Mathlib.Omega.{arith}
 use lib.ListN.{length, getD, take, drop}
 use Rattle.leaves.specs.Words.{words}
-use Rattle.nodes.specs.Node.{broughtAt, nodeRun, Ready}
+use Rattle.kinds.specs.Node.{broughtAt, nodeRun}
+use Rattle.nodes.specs.Ready.{Ready}
 use Rattle.context.specs.Memory.{nodeIn, runNode}
 use Rattle.context.specs.Stages.{lending, LentOf}
-use Rattle.graph.specs.Read.{parsedOf}
-use Rattle.graph.specs.declared.board.Board.{Board}
+use Rattle.boards.specs.Read.{parsedOf}
+use Rattle.boards.specs.declared.board.Board.{Board}
 use Rattle.context.proofs.CallRun.{turn-run, turn-ready, Running, running-none, running-end, running-more, node-listed}
 use Rattle.context.proofs.calls.run.Statement.{statement}
 use Rattle.context.proofs.calls.run.Tie as tie

@@ -4,7 +4,7 @@ use mathlib.Core.Path.{_≡_, refl, sym, ap, _∙_}
 use native.Mathlib.Omega.{arith}
 use lib.ListN.{take, drop}
 use Rattle.leaves.specs.Words.{words}
-use Rattle.graph.specs.declared.answer.Answer.{Answer}
+use Rattle.records.specs.declared.answer.Answer.{Answer}
 use Rattle.context.specs.Memory.{leftStart, rightStart, nodeIn, checkCells}
 use Rattle.context.specs.Stages.{StartFits, Starts}
 use Rattle.context.proofs.CallChecks.{cells-next, cells-wrong, cells-end}

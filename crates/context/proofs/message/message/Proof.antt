@@ -6,9 +6,9 @@ use native.Mathlib.Omega.{arith}
 use borrow.Author.Needs.{needs}
 use lib.ListN.{length}
 use Rattle.leaves.specs.Words.{words}
-use Rattle.graph.specs.Board.{Parsed}
-use Rattle.graph.specs.Read.{parsedOf}
-use Rattle.graph.specs.declared.answer.Answer.{Answer}
+use Rattle.boards.specs.Board.{Parsed}
+use Rattle.boards.specs.Read.{parsedOf}
+use Rattle.records.specs.declared.answer.Answer.{Answer}
 use Rattle.context.specs.Calls.{checkNumber, putNumber, messageOf}
 use Rattle.context.specs.Stages.{readJudged}
 use Rattle.context.proofs.CallCells.{count-nodes}

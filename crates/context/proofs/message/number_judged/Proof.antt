@@ -2,8 +2,8 @@
 use mathlib.Core.Path.{_≡_, refl, sym, _∙_}
 use borrow.Author.Tests.{not-true, not-false}
 use mathlib.Core.Bool.{Bool, cond}
-use Rattle.graph.specs.Answer.{answer}
-use Rattle.graph.specs.Read.{parsedOf}
+use Rattle.records.specs.Answer.{answer}
+use Rattle.boards.specs.Read.{parsedOf}
 use Rattle.context.specs.Memory.{passed}
 use Rattle.context.specs.Calls.{checkNumber}
 use Rattle.context.proofs.CallMessage.{number-missing, number-there}

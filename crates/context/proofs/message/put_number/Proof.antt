@@ -3,7 +3,7 @@ use mathlib.Core.Path.{sym, ap, _∙_}
 use native.Mathlib.Omega.{arith}
 use Rattle.leaves.specs.Words.{words}
 use Rattle.leaves.specs.Floats.{setFloat}
-use Rattle.nodes.specs.declared.kind.NodeRecord.{NodeRecord}
+use Rattle.kinds.specs.declared.kind.NodeRecord.{NodeRecord}
 use Rattle.context.proofs.CallCells.{node-in, cells-in}
 use borrow.Author.Needs.{needs}
 use Rattle.context.proofs.message.put_number.Statement.{statement}

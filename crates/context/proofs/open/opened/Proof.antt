@@ -3,8 +3,8 @@ use Prim.Native.Nat.{ℕ, _*_, _<_}
 use mathlib.Core.Path.{_≡_, sym, ap, _∙_}
 use native.Mathlib.Omega.{arith}
 use borrow.Author.Needs.{needs}
-use Rattle.graph.specs.Formed.{TableAt}
-use Rattle.graph.specs.declared.answer.Answer.{Answer}
+use Rattle.boards.specs.Formed.{TableAt}
+use Rattle.records.specs.declared.answer.Answer.{Answer}
 use Rattle.graph.proofs.Accepted.{table-at}
 use Rattle.context.specs.Calls.{checkNeeded}
 use Rattle.context.proofs.FineBoard.{accepted-fine}

@@ -7,8 +7,8 @@ use Prim.Native.Nat.{ℕ, _+_, _-_, _<_, _≤_}
 use native.Mathlib.Nat.{add-zero}
 use native.Mathlib.Omega.{arith}
 use lib.ListN.{length, length-append}
-use Rattle.graph.specs.Board.{wire}
-use Rattle.graph.specs.Wires.{wiresOf}
+use Rattle.reading.specs.Order.{wire}
+use Rattle.boards.specs.Wires.{wiresOf}
 use Rattle.graph.specs.Late.{lateWires, Placed}
 use Rattle.graph.proofs.Late.{late-more}
 use Rattle.graph.proofs.graph.late_count.Statement.{statement}

@@ -3,7 +3,7 @@ use mathlib.Core.Path.{_≡_}
 use mathlib.Core.Bool.{true, false}
 use mathlib.Core.List.{[], _∷_}
 use borrow.Author.Needs.{needs}
-use Rattle.nodes.proofs.Arms.{arm}
+use Rattle.kinds.proofs.Arms.{arm}
 use Rattle.graph.specs.Tail.{delays}
 use Rattle.graph.proofs.tail.delays.Statement.{statement}
 use Rattle.graph.proofs.tail.delays.Tie as tie

@@ -6,8 +6,8 @@ use Prim.Native.Nat.{ℕ, _+_, _*_, _-_, _<_, _≤_}
 use native.Mathlib.Omega.{arith}
 use lib.ListN.{length, getD, take}
 use lib.Seq.{length-take-le, getD-take, take-all}
-use Rattle.nodes.specs.Kind.{lineOf}
-use Rattle.graph.specs.Tail.{kindAt, onlyDelays, listedLines, endless}
+use Rattle.kinds.specs.Kind.{lineOf}
+use Rattle.graph.specs.Tail.{kindIn, onlyDelays, listedLines, endless}
 use Rattle.graph.proofs.Lines.{Summed, summed-more, summed-never}
 use Rattle.graph.proofs.tail.listed_lines.Statement.{statement}
 use Rattle.graph.proofs.tail.listed_lines.Tie as tie
@@ -62,8 +62,8 @@ line-few c =
     let here = c .before .before .before .before in
     let turn = here .before .before in
     let a = turn .before .before .args in
-    let line : c .line-of .result ≡ lineOf (kindAt (a .t1) (getD (a .list .now) (turn .before .loop .i) 0)) =
-    c .line-of .ensures .0 ∙ ap (λ (v : ℕ). lineOf (kindAt (a .t1) v)) (here .wide .ensures) in
+    let line : c .line-of .result ≡ lineOf (kindIn (a .t1) (getD (a .list .now) (turn .before .loop .i) 0)) =
+    c .line-of .ensures .0 ∙ ap (λ (v : ℕ). lineOf (kindIn (a .t1) v)) (here .wide .ensures) in
     subst⁻¹ (λ (n : ℕ). n ≤ 262144) line (turn .before .before .pre .3 (turn .before .loop .i) (turn .loop-test .taken))
 
 add-sum : tie.Need-add-sum Inv-loop μ-loop

@@ -2,9 +2,9 @@
 -- Assumes nothing.
 use mathlib.Core.Path.{sym, ap, _∙_}
 use borrow.Author.Needs.{needs}
-use Rattle.graph.specs.Answer.{answer}
-use Rattle.graph.specs.Judge.{answerBy}
-use Rattle.graph.specs.Read.{parsedOf}
+use Rattle.records.specs.Answer.{answer}
+use Rattle.boards.specs.Judge.{answerBy}
+use Rattle.boards.specs.Read.{parsedOf}
 use Rattle.graph.specs.Visit.{visitingList, Lists}
 use Rattle.graph.specs.Tail.{tailBy, tailOf, tailAnswer}
 use Rattle.graph.proofs.Accepted.{refused-board, accepted-board}

@@ -3,7 +3,7 @@ use mathlib.Core.Path.{_≡_}
 use native.Mathlib.Omega.{arith}
 use lib.ListN.{length, take}
 use lib.Seq.{length-take-le}
-use Rattle.graph.specs.Wires.{wiresOf}
+use Rattle.boards.specs.Wires.{wiresOf}
 use Rattle.graph.specs.Late.{lateWires}
 use Rattle.text.proofs.Writing.{wrote-both}
 use Rattle.listing.specs.Text.{lateLines, orderText}

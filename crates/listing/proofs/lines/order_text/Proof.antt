@@ -2,7 +2,7 @@
 use mathlib.Core.Path.{subst}
 use mathlib.Core.List.{List}
 use Prim.Native.Nat.{ℕ}
-use Rattle.graph.specs.Wires.{wiresOf}
+use Rattle.boards.specs.Wires.{wiresOf}
 use Rattle.graph.specs.Visit.{visitingList, Lists}
 use Rattle.text.specs.Written.{Wrote}
 use Rattle.listing.specs.Text.{orderText}

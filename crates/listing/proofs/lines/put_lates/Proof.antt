@@ -6,7 +6,7 @@ use Prim.Native.Nat.{ℕ, _≤_, _<_, _+_, _-_, _*_}
 use native.Mathlib.Omega.{arith}
 use borrow.Author.Needs.{needs}
 use lib.ListN.{take}
-use Rattle.graph.specs.Wires.{wiresOf}
+use Rattle.boards.specs.Wires.{wiresOf}
 use Rattle.graph.specs.Late.{lateWires}
 use Rattle.text.specs.Written.{WroteUpto}
 use Rattle.text.proofs.Writing.{wrote-none, wrote-both}

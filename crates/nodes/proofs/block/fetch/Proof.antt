@@ -2,9 +2,9 @@
 use Prim.Native.Nat.{_-_}
 use native.Mathlib.Omega.{arith}
 use Rattle.leaves.specs.Words.{words}
-use Rattle.nodes.specs.Block.{fetched}
-use Rattle.nodes.proofs.Answers.{next6}
-use Rattle.nodes.proofs.Filled.{Filling, filling-none, filling-then, filling-end}
+use Rattle.effects.specs.Block.{fetched}
+use Rattle.kinds.proofs.Several.{next6}
+use Rattle.effects.proofs.Filled.{Filling, filling-none, filling-then, filling-end}
 use Rattle.nodes.proofs.block.fetch.Statement.{statement}
 use Rattle.nodes.proofs.block.fetch.Tie as tie
 

@@ -1,9 +1,9 @@
 -- `nodes::block::put` meets its contract: after i turns the first i samples are stored. Assumes nothing.
 use Prim.Native.Nat.{_-_}
 use native.Mathlib.Omega.{arith}
-use Rattle.nodes.specs.Block.{sample}
-use Rattle.nodes.proofs.Answers.{next6}
-use Rattle.nodes.proofs.Filled.{Storing, storing-none, storing-then, storing-end}
+use Rattle.effects.specs.Block.{sample}
+use Rattle.kinds.proofs.Several.{next6}
+use Rattle.effects.proofs.Filled.{Storing, storing-none, storing-then, storing-end}
 use Rattle.nodes.proofs.block.put.Statement.{statement}
 use Rattle.nodes.proofs.block.put.Tie as tie
 

@@ -8,14 +8,15 @@ use lib.Dec.{ltb}
 use lib.ListN.{length, getD}
 use lib.Ieee.{Float}
 use Rattle.leaves.specs.Words.{words}
-use Rattle.nodes.specs.Rule.{Brought, total}
-use Rattle.nodes.specs.Block.{sample, fill, fetchedIf, samplesAt, totalAt}
-use Rattle.nodes.specs.Node.{broughtAt, Gives, Operands, Supplies}
-use Rattle.nodes.specs.declared.kind.NodeKind.{NodeKind}
-use Rattle.nodes.proofs.Filled.{length-fill, fetch-long}
+use Rattle.kinds.specs.Rule.{Brought, total}
+use Rattle.effects.specs.Block.{sample, fill, fetchedIf}
+use Rattle.kinds.specs.Node.{samplesAt, broughtAt}
+use Rattle.nodes.specs.Ready.{totalAt, Gives, Operands, Supplies}
+use Rattle.kinds.specs.declared.kind.NodeKind.{NodeKind}
+use Rattle.effects.proofs.Filled.{length-fill, fetch-long}
 use Rattle.nodes.proofs.Brought.{total-brought, operands-brought, supplies}
 use borrow.Author.Needs.{needs}
-use Rattle.nodes.proofs.Arms.{Among, arm}
+use Rattle.kinds.proofs.Arms.{Among, arm}
 use Rattle.nodes.proofs.node.bring.Statement.{statement}
 use Rattle.nodes.proofs.node.bring.Tie as tie
 

@@ -8,9 +8,9 @@ use borrow.Author.Tests.{lt-ltb, le-ltb}
 use lib.Dec.{ltb}
 use lib.ListN.{length, getD}
 use Rattle.leaves.specs.Words.{words}
-use Rattle.nodes.specs.Block.{fetched, fetchedIf, fill}
-use Rattle.nodes.proofs.Filled.{fetch-asked, fetch-not}
-use Rattle.nodes.proofs.Answers.{next2, next3}
+use Rattle.effects.specs.Block.{fetched, fetchedIf, fill}
+use Rattle.effects.proofs.Filled.{fetch-asked, fetch-not}
+use Rattle.kinds.proofs.Several.{next2, next3}
 use Rattle.nodes.proofs.node.operands.Statement.{statement}
 use Rattle.nodes.proofs.node.operands.Tie as tie
 

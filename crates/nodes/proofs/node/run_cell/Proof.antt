@@ -6,8 +6,8 @@ use Prim.Native.Nat.{ℕ}
 use native.Mathlib.Omega.{arith}
 use denote.Ref.{now}
 use lib.ListN.{length}
-use Rattle.nodes.specs.Node.{CellReady}
-use Rattle.nodes.specs.declared.kind.NodeKind.{NodeKind}
+use Rattle.nodes.specs.Ready.{CellReady}
+use Rattle.kinds.specs.declared.kind.NodeKind.{NodeKind}
 use Rattle.nodes.proofs.Alike.{mul-reads, add-reads, delay-reads, all-pass-reads, one-pole-reads, sine-reads}
 use Rattle.nodes.proofs.Supplied.{Runs, stereo-whole, delay-place, all-pass-place, sine-ranges, sum-runs, stereo-runs, pass-runs, pass-kept, given-runs, alone-runs, nothing-runs}
 use borrow.Author.Needs.{needs}

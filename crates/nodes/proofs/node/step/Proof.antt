@@ -7,11 +7,11 @@ use native.Mathlib.Omega.{arith}
 use denote.Ref.{now}
 use Rattle.leaves.specs.Words.{words}
 use Rattle.leaves.specs.Parts.{words-part, lent-long, lent-run}
-use Rattle.nodes.specs.Kind.{cellSize}
-use Rattle.nodes.specs.Cell.{cellFits, runValues}
-use Rattle.nodes.specs.Node.{broughtAt, nodeRun}
+use Rattle.kinds.specs.Kind.{cellSize}
+use Rattle.kinds.specs.Cell.{cellFits, runValues}
+use Rattle.kinds.specs.Node.{broughtAt, nodeRun}
 use borrow.Author.Needs.{needs}
-use Rattle.nodes.proofs.Answers.{next8}
+use Rattle.kinds.proofs.Several.{next8}
 use Rattle.nodes.proofs.node.step.Statement.{statement}
 use Rattle.nodes.proofs.node.step.Tie as tie
 

@@ -14,14 +14,14 @@ use Rattle.leaves.specs.Floors.{f1, f44100, within}
 use Rattle.leaves.specs.Phase.{increment, advance, phaseAfter}
 use Rattle.leaves.specs.Sine.{sineOf, phaseUnits, over23}
 use Rattle.leaves.proofs.PhaseStep.{phase-stays, phase-fits}
-use Rattle.nodes.specs.Iter.{iter}
-use Rattle.nodes.specs.Kind.{cellSize, samplesFrom, numberIndex, carryIndex}
-use Rattle.nodes.specs.Rule.{leftOf, keeps, carryAfter, placeAfter, lineAfter, sampleBy, stateBy}
-use Rattle.nodes.specs.Cell.{Cell, putFrame, frameAt, stepCell}
-use Rattle.nodes.specs.Block.{nothing, stored}
+use Rattle.kinds.specs.Iter.{iter}
+use Rattle.kinds.specs.Kind.{cellSize, samplesFrom, numberIndex, carryIndex}
+use Rattle.kinds.specs.Rule.{leftOf, keeps, carryAfter, placeAfter, lineAfter, sampleBy, stateBy}
+use Rattle.kinds.specs.Cell.{Cell, putFrame, frameAt, stepCell}
+use Rattle.effects.specs.Block.{nothing, stored}
 use Rattle.nodes.specs.Phases.{Stays, Units, sineAt}
-use Rattle.nodes.specs.declared.kind.NodeKind.the-variants.{Sine}
-use Rattle.nodes.proofs.Carried.{carried, Carrying, carrying-none, carrying-more, carrying-end}
+use Rattle.kinds.specs.declared.kind.NodeKind.the-variants.{Sine}
+use Rattle.kinds.proofs.Carried.{carried, Carrying, carrying-none, carrying-more, carrying-end}
 use Rattle.nodes.proofs.sin_osc.sin_osc.Statement.{statement}
 use Rattle.nodes.proofs.sin_osc.sin_osc.Tie as tie
 

@@ -6,8 +6,8 @@ use lib.Ieee.{Float}
 use Rattle.leaves.specs.Words.{words}
 use Rattle.leaves.specs.Floats.{setFloat}
 use Rattle.nodes.specs.Phases.{sineAt}
-use Rattle.nodes.proofs.Answers.{next7}
-use Rattle.nodes.proofs.Filled.{Storing, storing-none, storing-then, storing-end}
+use Rattle.kinds.proofs.Several.{next7}
+use Rattle.effects.proofs.Filled.{Storing, storing-none, storing-then, storing-end}
 use Rattle.nodes.proofs.sin_osc.sines.Statement.{statement}
 use Rattle.nodes.proofs.sin_osc.sines.Tie as tie
 

@@ -5,9 +5,9 @@ use mathlib.Core.List.{List}
 use native.Mathlib.Omega.{arith}
 use lib.Ieee.{Float, binary32, add}
 use Rattle.leaves.specs.Words.{words}
-use Rattle.nodes.specs.Block.{sample, added}
-use Rattle.nodes.proofs.Answers.{next8}
-use Rattle.nodes.proofs.Filled.{Filling, filling-none, filling-then, filling-end, fill-ahead}
+use Rattle.effects.specs.Block.{sample, added}
+use Rattle.kinds.proofs.Several.{next8}
+use Rattle.effects.proofs.Filled.{Filling, filling-none, filling-then, filling-end, fill-ahead}
 use Rattle.nodes.proofs.sum.accumulate.Statement.{statement}
 use Rattle.nodes.proofs.sum.accumulate.Tie as tie
 

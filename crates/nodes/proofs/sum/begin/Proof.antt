@@ -5,9 +5,9 @@ use native.Mathlib.Omega.{arith}
 use lib.Ieee.{binary32, add, ofBits}
 use Rattle.leaves.specs.Words.{words}
 use Rattle.leaves.specs.Floors.{zeroF}
-use Rattle.nodes.specs.Block.{begun}
-use Rattle.nodes.proofs.Answers.{next6}
-use Rattle.nodes.proofs.Filled.{Filling, filling-none, filling-then, filling-end}
+use Rattle.effects.specs.Block.{begun}
+use Rattle.kinds.proofs.Several.{next6}
+use Rattle.effects.proofs.Filled.{Filling, filling-none, filling-then, filling-end}
 use Rattle.nodes.proofs.sum.begin.Statement.{statement}
 use Rattle.nodes.proofs.sum.begin.Tie as tie
 

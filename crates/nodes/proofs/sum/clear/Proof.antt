@@ -3,9 +3,9 @@ use Prim.Native.Nat.{_-_}
 use native.Mathlib.Omega.{arith}
 use mathlib.Core.Path.{refl}
 use lib.Ieee.{ofBits}
-use Rattle.nodes.specs.Block.{quiet}
-use Rattle.nodes.proofs.Answers.{next4}
-use Rattle.nodes.proofs.Filled.{Filling, filling-none, filling-then, filling-end}
+use Rattle.effects.specs.Block.{quiet}
+use Rattle.kinds.proofs.Several.{next4}
+use Rattle.effects.proofs.Filled.{Filling, filling-none, filling-then, filling-end}
 use Rattle.nodes.proofs.sum.clear.Statement.{statement}
 use Rattle.nodes.proofs.sum.clear.Tie as tie
 

@@ -5,9 +5,10 @@ use native.Mathlib.Omega.{arith}
 use denote.Ref.{now}
 use lib.ListN.{length, getD, take}
 use Rattle.leaves.specs.Words.{words}
-use Rattle.nodes.specs.Block.{fill, begun, totalAt}
+use Rattle.effects.specs.Block.{fill, begun}
+use Rattle.nodes.specs.Ready.{totalAt}
 use Rattle.nodes.proofs.Totals.{sum-none, sum-one, sum-more, sum-all}
-use Rattle.nodes.proofs.Answers.{next2}
+use Rattle.kinds.proofs.Several.{next2}
 use Rattle.nodes.proofs.sum.total.Statement.{statement}
 use Rattle.nodes.proofs.sum.total.Tie as tie
 

@@ -3,7 +3,7 @@ use mathlib.Core.Path.{_≡_}
 use mathlib.Core.Bool.{false}
 use mathlib.Core.List.{[], _∷_}
 use borrow.Author.Needs.{needs}
-use Rattle.nodes.proofs.Arms.{arm}
+use Rattle.kinds.proofs.Arms.{arm}
 use Rattle.plate.specs.Mix.{isMul}
 use Rattle.plate.proofs.mix.is_mul.Statement.{statement}
 use Rattle.plate.proofs.mix.is_mul.Tie as tie

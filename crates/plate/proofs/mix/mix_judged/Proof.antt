@@ -2,11 +2,11 @@
 use mathlib.Core.Path.{_≡_, sym, _∙_}
 use mathlib.Core.Bool.{cond}
 use Prim.Native.Nat.{ℕ}
-use Rattle.graph.specs.Answer.{answer}
+use Rattle.records.specs.Answer.{answer}
 use Rattle.context.specs.Memory.{passed}
 use Rattle.context.specs.Calls.{andThen}
-use Rattle.graph.specs.Read.{parsedOf}
-use Rattle.graph.specs.declared.answer.Answer.{Answer}
+use Rattle.boards.specs.Read.{parsedOf}
+use Rattle.records.specs.declared.answer.Answer.{Answer}
 use Rattle.context.proofs.CallChecks.{then-passed, then-refused}
 use Rattle.plate.specs.Mix.{checkMul, checkFinite, checkMix}
 use borrow.Author.Needs.{needs}

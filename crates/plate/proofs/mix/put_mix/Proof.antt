@@ -3,7 +3,7 @@ use mathlib.Core.Path.{ap, _∙_}
 use native.Mathlib.Omega.{arith}
 use lib.Ieee.{ofBits}
 use Rattle.context.specs.Calls.{putNumber}
-use Rattle.graph.specs.Read.{parsedOf}
+use Rattle.boards.specs.Read.{parsedOf}
 use Rattle.plate.specs.Plate.{dryOf}
 use borrow.Author.Needs.{needs}
 use Rattle.plate.proofs.mix.put_mix.Statement.{statement}

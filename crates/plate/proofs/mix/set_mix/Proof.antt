@@ -5,9 +5,9 @@ use mathlib.Core.List.{List}
 use native.Mathlib.Omega.{arith}
 use borrow.Author.Needs.{needs}
 use Rattle.leaves.specs.Words.{words}
-use Rattle.graph.specs.Board.{Parsed}
-use Rattle.graph.specs.Read.{parsedOf}
-use Rattle.graph.specs.declared.answer.Answer.{Answer}
+use Rattle.boards.specs.Board.{Parsed}
+use Rattle.boards.specs.Read.{parsedOf}
+use Rattle.records.specs.declared.answer.Answer.{Answer}
 use Rattle.context.proofs.CallCells.{count-nodes}
 use Rattle.context.proofs.CallBy.{judged-refused, judged-lacking, judged-done}
 use Rattle.plate.specs.Mix.{checkMix, setMix, mixOf}

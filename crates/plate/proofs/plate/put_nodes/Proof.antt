@@ -6,9 +6,10 @@ use lib.Dec.{lit<}
 use lib.ListN.{length, take}
 use lib.Seq.{sets}
 use denote.Ref.{now}
-use Rattle.graph.specs.Write.{NodeCard, noNode, nodeBytes, nodesBytes}
+use Rattle.records.specs.Write.{NodeCard, nodeBytes, nodesBytes}
+use Rattle.boards.specs.Obeys.{noNode}
 use Rattle.plate.specs.Plate.{plateNodes}
-use Rattle.graph.proofs.Stores.{one-more, all-written}
+use Rattle.records.proofs.Stores.{one-more, all-written}
 use Rattle.plate.proofs.Tables.{node-at}
 use borrow.Author.Needs.{needs}
 use Rattle.plate.proofs.plate.put_nodes.Statement.{statement}

@@ -5,9 +5,9 @@ use Prim.Native.Nat.{_+_}
 use native.Mathlib.Omega.{arith}
 use lib.ListN.{length, length-append}
 use denote.Ref.{now}
-use Rattle.graph.specs.Write.{headBytes, nodesBytes, wiresBytes, endBytes, writeBoard}
+use Rattle.records.specs.Write.{headBytes, nodesBytes, wiresBytes, endBytes, writeBoard}
 use Rattle.plate.specs.Plate.{plateNodes, plateWires}
-use Rattle.graph.proofs.Stores.{next, sets-all}
+use Rattle.records.proofs.Stores.{next, sets-all}
 use Rattle.plate.proofs.Written.{nodes-long, wires-long, plate-long}
 use borrow.Author.Needs.{needs}
 use Rattle.plate.proofs.plate.put_plate.Statement.{statement}

@@ -6,9 +6,10 @@ use lib.ListN.{length, take}
 use lib.Seq.{sets}
 use denote.Ref.{now}
 use Rattle.reading.specs.Order.{Wire}
-use Rattle.graph.specs.Write.{noWire, wireBytes, wiresBytes}
+use Rattle.boards.specs.Obeys.{noWire}
+use Rattle.records.specs.Write.{wireBytes, wiresBytes}
 use Rattle.plate.specs.Plate.{plateWires}
-use Rattle.graph.proofs.Stores.{one-more, all-written}
+use Rattle.records.proofs.Stores.{one-more, all-written}
 use Rattle.plate.proofs.Tables.{wire-at}
 use borrow.Author.Needs.{needs}
 use Rattle.plate.proofs.plate.put_wires.Statement.{statement}

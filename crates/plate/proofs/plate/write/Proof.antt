@@ -7,7 +7,7 @@ use native.Mathlib.Omega.{arith}
 use borrow.Author.Tests.{ltb-true, ltb-false, not-true, not-false}
 use lib.Ieee.{ofBits}
 use denote.Ref.{now}
-use Rattle.graph.specs.Write.{writeBoard}
+use Rattle.records.specs.Write.{writeBoard}
 use Rattle.plate.specs.Plate.{plateCard}
 use Rattle.plate.proofs.Written.{answer-of, bytes-of, size-in, size-out, wrong-size, wrong-mix, wrong-length, written}
 use borrow.Author.Needs.{needs}

@@ -1,6 +1,6 @@
 -- `render::render::judged` is safe: the judge accepted the board, so its block size and its memory are as large as any. Assumes nothing.
 use native.Mathlib.Omega.{arith}
-use Rattle.graph.specs.Read.{parsedOf}
+use Rattle.boards.specs.Read.{parsedOf}
 use Rattle.graph.proofs.Accepted.{accepted-board}
 use Rattle.context.specs.Fine.{Fine}
 use Rattle.context.proofs.FineBoard.{fine-board}

@@ -4,7 +4,7 @@ use mathlib.Core.List.{List}
 use Prim.Native.Nat.{ℕ}
 use borrow.Author.Tests.{eq-eqb, ne-eqb}
 use borrow.Author.Needs.{needs}
-use Rattle.graph.specs.Read.{parsedOf}
+use Rattle.boards.specs.Read.{parsedOf}
 use Rattle.graph.proofs.Accepted.{accepted-board}
 use Rattle.graph.proofs.Wired.{sources-within, targets-within}
 use Rattle.text.specs.Written.{Wrote}

@@ -5,7 +5,7 @@ use lib.Seq.{length-take-le}
 use lib.ListN.{take}
 use native.Mathlib.Omega.{arith}
 use borrow.Author.Needs.{needs}
-use Rattle.graph.specs.Read.{parsedOf}
+use Rattle.boards.specs.Read.{parsedOf}
 use Rattle.graph.specs.Visit.{visitingList, Lists}
 use Rattle.sizes.proofs.resize.board_late.Statement.{statement}
 use Rattle.sizes.proofs.resize.board_late.Tie as tie

@@ -4,9 +4,9 @@ use mathlib.Core.Path.{_≡_, sym, ap, _∙_}
 use native.Mathlib.Omega.{arith}
 use borrow.Author.Needs.{needs}
 use lib.Seq.{getD-take}
-use Rattle.nodes.specs.declared.kind.NodeRecord.{NodeRecord}
-use Rattle.graph.specs.Board.{blank}
-use Rattle.graph.specs.Read.{parsedOf}
+use Rattle.kinds.specs.declared.kind.NodeRecord.{NodeRecord}
+use Rattle.boards.specs.Board.{blank}
+use Rattle.boards.specs.Read.{parsedOf}
 use Rattle.context.specs.Memory.{kindAt}
 use Rattle.sizes.specs.declared.resize.Resized.{Resized}
 use Rattle.sizes.specs.Resize.{delayOf, lineBy}

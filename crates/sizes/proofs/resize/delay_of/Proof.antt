@@ -2,7 +2,7 @@
 use mathlib.Core.Path.{_≡_}
 use mathlib.Core.List.{[], _∷_}
 use borrow.Author.Needs.{needs}
-use Rattle.nodes.proofs.Arms.{arm}
+use Rattle.kinds.proofs.Arms.{arm}
 use Rattle.sizes.specs.Resize.{delayOf}
 use Rattle.sizes.proofs.resize.delay_of.Statement.{statement}
 use Rattle.sizes.proofs.resize.delay_of.Tie as tie

@@ -8,7 +8,7 @@ use Prim.Native.Nat.{ℕ, _+_, _-_, _<_, _≤_}
 use native.Mathlib.Omega.{arith}
 use borrow.Author.Needs.{needs}
 use lib.ListN.{length}
-use Rattle.graph.specs.Wires.{wiresOf}
+use Rattle.boards.specs.Wires.{wiresOf}
 use Rattle.graph.specs.Late.{lateWires, Placed}
 use Rattle.sizes.specs.Planning.{Lates}
 use Rattle.sizes.proofs.Planning.{lates-more}

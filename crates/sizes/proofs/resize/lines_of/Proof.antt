@@ -4,7 +4,7 @@ use Prim.Native.Nat.{ℕ, _*_, _-_, _<_, _≤_}
 use native.Mathlib.Omega.{arith}
 use borrow.Author.Needs.{needs}
 use lib.ListN.{length, take}
-use Rattle.graph.specs.Board.{linesOf}
+use Rattle.boards.specs.Board.{linesOf}
 use Rattle.sizes.proofs.Planning.{lines-more}
 use Rattle.sizes.proofs.resize.lines_of.Statement.{statement}
 use Rattle.sizes.proofs.resize.lines_of.Tie as tie

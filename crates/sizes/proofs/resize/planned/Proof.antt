@@ -4,7 +4,7 @@ use mathlib.Core.Path.{_∙_}
 use native.Mathlib.Omega.{arith}
 use borrow.Author.Needs.{needs}
 use lib.Seq.{length-take-le}
-use Rattle.graph.specs.Read.{parsedOf}
+use Rattle.boards.specs.Read.{parsedOf}
 use Rattle.sizes.proofs.Planning.{SizeIn, Another, plan-same, plan-no-size, size-right, one-there, plan-size, plan-many, plan-one}
 use Rattle.sizes.proofs.resize.planned.Statement.{statement}
 use Rattle.sizes.proofs.resize.planned.Tie as tie

@@ -9,9 +9,9 @@ use lib.ListN.{length}
 use lib.Seq.{sets}
 use Rattle.leaves.specs.Bytes.{u32Bytes}
 use Rattle.leaves.specs.Words.{Bytes}
-use Rattle.graph.specs.Board.{whole}
-use Rattle.graph.specs.Judge.{readBoard}
-use Rattle.graph.specs.Read.{parsedOf}
+use Rattle.boards.specs.Board.{whole}
+use Rattle.boards.specs.Judge.{readBoard}
+use Rattle.boards.specs.Read.{parsedOf}
 use Rattle.graph.proofs.Accepted.{refused-board, accepted-board}
 use Rattle.graph.proofs.Wired.{table, gathered}
 use Rattle.context.proofs.FineBoard.{accepted-fine}

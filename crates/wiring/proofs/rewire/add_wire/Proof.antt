@@ -8,9 +8,9 @@ use borrow.Author.Tests.{ltb-false}
 use lib.ListN.{length, take}
 use lib.Seq.{length-take-le}
 use Rattle.leaves.specs.Words.{Bytes}
-use Rattle.graph.specs.Board.{Parsed, whole}
-use Rattle.graph.specs.Judge.{readBoard}
-use Rattle.graph.proofs.RoundBytes.{bytes-front}
+use Rattle.boards.specs.Board.{Parsed, whole}
+use Rattle.boards.specs.Judge.{readBoard}
+use Rattle.records.proofs.RoundBytes.{bytes-front}
 use Rattle.wiring.specs.Rewire.{inFront, addedBoard, addOf}
 use Rattle.wiring.specs.declared.rewire.Wiring.{Wiring}
 use Rattle.wiring.proofs.Answered.{added-accepted, added-whole, lent-short, lent-done, lent-kept}

@@ -11,15 +11,15 @@ use lib.ListN.{length, getD, set}
 use Rattle.leaves.specs.Words.{Bytes}
 use Rattle.reading.specs.Table.{mem}
 use Rattle.reading.specs.Order.{sources}
-use Rattle.graph.specs.Board.{wireFits}
-use Rattle.graph.specs.Read.{parsedOf}
+use Rattle.boards.specs.Board.{wireFits}
+use Rattle.boards.specs.Read.{parsedOf}
 use Rattle.graph.specs.Visit.{visitingList, Lists}
 use Rattle.graph.specs.Walking.{Table, Gathered}
-use Rattle.graph.specs.declared.board.Board.{Board}
+use Rattle.boards.specs.declared.board.Board.{Board}
 use Rattle.graph.proofs.Accepted.{refused-board, accepted-board, count-is}
-use Rattle.graph.proofs.Fits.{wire-fits}
+use Rattle.boards.proofs.Fits.{wire-fits}
 use Rattle.graph.proofs.Wired as graph
-use Rattle.graph.proofs.Wiring.{wires-length}
+use Rattle.boards.proofs.Wiring.{wires-length}
 use Rattle.wiring.specs.Carried.{added, wired}
 use Rattle.wiring.specs.declared.rewire.Wiring.{Wiring}
 use Rattle.wiring.proofs.Answered.{added-refused, added-five}

@@ -9,10 +9,10 @@ use borrow.Author.Needs.{needs}
 use lib.Dec.{eqb}
 use lib.ListN.{length, getD, drop-of-length-le}
 use Rattle.reading.specs.Order.{Wire}
-use Rattle.graph.specs.Write.{noWire}
-use Rattle.graph.proofs.Wiring.{wires-length}
+use Rattle.boards.specs.Obeys.{noWire}
+use Rattle.boards.proofs.Wiring.{wires-length}
 use Rattle.wiring.specs.Carried.{joins, wired}
-use Rattle.graph.specs.Wires.{wiresOf}
+use Rattle.boards.specs.Wires.{wiresOf}
 use Rattle.wiring.proofs.Newest.{NoneFrom, place-none, place-found, none-more, wire-at}
 use Rattle.wiring.proofs.rewire.newest.Statement.{statement}
 use Rattle.wiring.proofs.rewire.newest.Tie as tie

@@ -10,13 +10,13 @@ use borrow.Author.Tests.{not-true, not-false}
 use lib.ListN.{length, getD}
 use Rattle.leaves.specs.Words.{Bytes}
 use Rattle.reading.specs.Order.{Wire}
-use Rattle.graph.specs.Read.{parsedOf}
+use Rattle.boards.specs.Read.{parsedOf}
 use Rattle.graph.specs.Visit.{visitingList, Lists}
-use Rattle.graph.specs.Wires.{wiresOf}
-use Rattle.graph.specs.declared.board.Board.{Board}
+use Rattle.boards.specs.Wires.{wiresOf}
+use Rattle.boards.specs.declared.board.Board.{Board}
 use Rattle.graph.proofs.Accepted.{refused-board, accepted-board}
 use Rattle.graph.proofs.Wired as graph
-use Rattle.graph.proofs.Wiring.{wires-length}
+use Rattle.boards.proofs.Wiring.{wires-length}
 use Rattle.wiring.specs.Carried.{wired, older, pulled}
 use Rattle.wiring.specs.declared.rewire.Wiring.{Wiring}
 use Rattle.wiring.proofs.Answered.{pulled-refused, pulled-by}

@@ -2,9 +2,9 @@
 use mathlib.Core.Path.{refl}
 use Prim.Native.Nat.{_+_}
 use denote.Ref.{now}
-use Rattle.graph.specs.Board.{wire}
-use Rattle.graph.specs.Write.{wireBytes, endBytes}
-use Rattle.graph.proofs.Stores.{next}
+use Rattle.reading.specs.Order.{wire}
+use Rattle.records.specs.Write.{wireBytes, endBytes}
+use Rattle.records.proofs.Stores.{next}
 use borrow.Author.Needs.{needs}
 use Rattle.wiring.proofs.rewire.put_last.Statement.{statement}
 use Rattle.wiring.proofs.rewire.put_last.Tie as tie

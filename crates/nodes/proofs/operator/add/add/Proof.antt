@@ -1,6 +1,6 @@
 -- `nodes::operator::add::add` meets its contract: each arm is an operator's run. Assumes nothing.
 use borrow.Author.Needs.{needs}
-use Rattle.nodes.proofs.Answers.{next4}
+use Rattle.kinds.proofs.Several.{next4}
 use Rattle.nodes.proofs.Plain.{add-operator, operator-two, operator-one}
 use Rattle.nodes.proofs.operator.add.add.Statement.{statement}
 use Rattle.nodes.proofs.operator.add.add.Tie as tie

@@ -2,9 +2,9 @@
 use Prim.Native.Nat.{_-_}
 use native.Mathlib.Omega.{arith}
 use lib.Ieee.{binary32, add}
-use Rattle.nodes.specs.Block.{opSources}
-use Rattle.nodes.proofs.Answers.{next8}
-use Rattle.nodes.proofs.Filled.{Storing, storing-none, storing-then, storing-end}
+use Rattle.effects.specs.Block.{opSources}
+use Rattle.kinds.proofs.Several.{next8}
+use Rattle.effects.proofs.Filled.{Storing, storing-none, storing-then, storing-end}
 use Rattle.nodes.proofs.operator.add.add_sources.Statement.{statement}
 use Rattle.nodes.proofs.operator.add.add_sources.Tie as tie
 

@@ -2,9 +2,9 @@
 use Prim.Native.Nat.{_-_}
 use native.Mathlib.Omega.{arith}
 use lib.Ieee.{binary32, mul}
-use Rattle.nodes.specs.Block.{opNumber}
-use Rattle.nodes.proofs.Answers.{next6}
-use Rattle.nodes.proofs.Filled.{Storing, storing-none, storing-then, storing-end}
+use Rattle.effects.specs.Block.{opNumber}
+use Rattle.kinds.proofs.Several.{next6}
+use Rattle.effects.proofs.Filled.{Storing, storing-none, storing-then, storing-end}
 use Rattle.nodes.proofs.operator.mul.mul_number.Statement.{statement}
 use Rattle.nodes.proofs.operator.mul.mul_number.Tie as tie
 

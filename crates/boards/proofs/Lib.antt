@@ -1,0 +1,20 @@
+-- Laws that the proofs of `boards` cite, and theorems for its callers.
+pub mod Sums
+pub mod Fits
+pub mod Run
+pub mod Wiring
+pub mod Answers
+pub mod Parts
+pub mod Loops
+pub mod Joined
+pub mod Six
+pub mod RoundRule
+pub mod RoundRun
+pub mod RoundBack
+pub mod RoundObeys
+pub mod RoundSources
+pub mod RoundSix
+pub mod Round
+pub mod RoundWorked
+pub mod Ending
+pub mod Formed

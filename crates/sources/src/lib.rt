@@ -1,0 +1,2 @@
+// The table of each node's sources, wire by wire.
+pub mod sources;
