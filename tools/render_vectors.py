@@ -385,6 +385,7 @@ def make_files():
         "plate64.board": plate_bytes(0.3, 64, 2864),
         "plate64_uncorrected.board": plate_bytes(0.3, 64),
         "mono16.wav": riff(fmt(1, 1, 16), data(words16)),
+        "copy.wav": riff(fmt(1, 1, 16), data(words16)),
         "mono24.wav": riff(chunk(b"LIST", b"odd"), fmt(1, 1, 24), chunk(b"odd ", b"?"), data(words24)),
         "mono32.wav": riff(fmt(3, 1, 32), data(floats(sounds + [1e-40, -0.0, 3e38]))),
         "mono8.wav": riff(fmt(1, 1, 8), data(bytes([0, 255, 128, 127, 1, 129]) + bytes(range(3, 250, 7)))),
@@ -472,6 +473,8 @@ mono16.wav - board tail.board mono
 quiet.wav quiet_out.wav board tail.board          # mixed, and that is told
 quiet.wav quiet_out.wav board tail.board right 0  # written again
 quiet_out.wav - board tail.board 0 left
+mono16.wav copy.wav board tail.board 0            # a copy of the input is not the input
+copy.wav - board tail.board 0 left
 
 # lengths that say nothing
 open0.wav - board tail.board
@@ -658,13 +661,13 @@ def rendered(files, words):
     seconds, channel = asked(words[4:])
     if isinstance(seconds, str):
         return ("%s: %s\n" % (seconds, channel)).encode()
-    there = files.get(os.path.normpath(out))
+    there = os.path.normpath(out)
     at = out
     try:
-        if there is not None and form in ("board", "card") and there == files.get(what):
-            raise Problem("is the board's file, or a copy of it")
-        if there is not None and there == files["list"]:
-            raise Problem("is the list, or a copy of it")
+        if form in ("board", "card") and there in files and there == os.path.normpath(what):
+            raise Problem("is the board's file")
+        if there == "list":
+            raise Problem("is the list")
         at = form if form not in ("plate", "board", "card") else what
         b = Board(board_of(files, form, what))
         at = name
@@ -676,8 +679,8 @@ def rendered(files, words):
         else:
             more = 176400 if b.tail() is None else b.tail()
         at = out
-        if there == files[name]:
-            raise Problem("is the input, or a copy of it")
+        if there == os.path.normpath(name):
+            raise Problem("is the input")
         if out + ".part" in files:
             at = out + ".part"
             raise Problem("is there already: remove it, unless a render is writing it")

@@ -102,6 +102,25 @@ grep -q 'cannot be written' "$work/err" || fail "a full disk is not told"
 printf 'old' >"$work/kept.wav"
 (ulimit -f 8; trap '' XFSZ; "$bin/render" "$work/in.wav" "$work/kept.wav" plate 0.5 2>"$work/err")
 [ "$(cat "$work/kept.wav")" = old ] && [ ! -e "$work/kept.wav.part" ] || fail "a file that cannot be written whole costs the old one"
+# a copy is another file; a link stays a link, and what it leads to is kept or replaced whole, or made
+cp "$work/in.wav" "$work/copy.wav"
+mkdir "$work/folder"
+printf 'old' >"$work/folder/far.wav"
+ln -s folder/near.wav "$work/link.wav"
+ln -s far.wav "$work/folder/near.wav"
+ln -s "$work/new.wav" "$work/nowhere.wav"
+ln -s round.wav "$work/round.wav"
+(ulimit -f 8; trap '' XFSZ; "$bin/render" "$work/in.wav" "$work/link.wav" plate 0.5 2>"$work/err")
+[ "$(cat "$work/folder/far.wav")" = old ] && [ ! -e "$work/folder/far.wav.part" ] || fail "a file behind a link that cannot be written whole costs the old one"
+for out in copy link nowhere; do
+    tools/status.sh "$bin/render" "$work/in.wav" "$work/$out.wav" plate 0.5 2>"$work/err" || fail "$out.wav: $(cat "$work/err")"
+    cmp -s "$work/copy.wav" "$work/$out.wav" || fail "$out.wav: another sound"
+done
+[ -L "$work/link.wav" ] && [ -L "$work/folder/near.wav" ] && [ -L "$work/nowhere.wav" ] && [ -f "$work/new.wav" ] || fail "a link is replaced"
+! cmp -s "$work/in.wav" "$work/copy.wav" || fail "a copy of the input is not written"
+"$bin/render" "$work/in.wav" "$work/round.wav" plate 0.5 2>"$work/err"
+grep -q 'links without an end' "$work/err" && [ -L "$work/round.wav" ] || fail "round.wav: $(cat "$work/err")"
+cmp -s examples/sound.wav "$work/in.wav" || fail "a render writes over what it reads"
 echo "users.sh: no file is lost"
 
 # ---- play judges its words before it proves anything, and says how it is used

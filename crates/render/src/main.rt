@@ -11,7 +11,6 @@
 // Answers go to standard error; those of `check`, which is `list` otherwise, to standard output.
 mod board;
 mod file;
-mod output;
 mod play;
 mod render;
 mod say;

@@ -7,11 +7,6 @@ use crate::board::Made;
 use crate::board::from_file;
 use crate::board::make;
 use crate::board::tell_board;
-use crate::file::is_file;
-use crate::file::is_open_file;
-use crate::output::Way;
-use crate::output::part_name;
-use crate::output::way_of;
 use crate::play::Levels;
 use crate::play::Run;
 use crate::play::Went;
@@ -23,6 +18,12 @@ use crate::source::survey;
 use crate::words::Asked;
 use boards::judge::read_board;
 use check::same;
+use files::is_file;
+use files::is_open_file;
+use files::output::Way;
+use files::output::led_to;
+use files::output::part_name;
+use files::output::way_of;
 use graph::tail::ENDLESS;
 use graph::tail::tail_of;
 use libc::STDOUT_FILENO;
@@ -164,37 +165,42 @@ fn straight(to: i32, run: Run, board: &[u8], mixed: bool, input: &[u8], output: 
     }
 }
 
-// Closes the file that is written and gives it the output's name; true if both went well.
-fn named(to: i32, fd: i32, part: &[u8], output: &[u8]) -> bool {
+// Closes what is written and gives it the file's name; true if both went well.
+fn named(to: i32, fd: i32, part: &[u8], file: &[u8]) -> bool {
     if libc::close(fd) != 0 {
-        say::failed(to, output, b"cannot be written");
+        say::failed(to, file, b"cannot be written");
         return false;
     }
-    if os::rename(part, output) != 0 {
-        say::failed(to, output, b"cannot be written");
+    if os::rename(part, file) != 0 {
+        say::failed(to, file, b"cannot be written");
         return false;
     }
     true
 }
 
-// To a file beside the output, which then takes its name.
-fn beside(to: i32, run: Run, board: &[u8], mixed: bool, input: &[u8], output: &[u8])
+// Why what is to be written beside a file cannot be made.
+fn not_made(to: i32, part: &[u8], output: &[u8]) {
+    if os::errno() == libc::EEXIST {
+        say::problem(
+            to,
+            part,
+            b"is there already: remove it, unless a render is writing it",
+        );
+        return;
+    }
+    say::failed(to, output, b"cannot be opened for writing");
+}
+
+// To a file beside the one that the output leads to, whose name it then takes.
+fn beside(to: i32, run: Run, board: &[u8], mixed: bool, input: &[u8], output: &[u8], file: &[u8])
     requires { ⌜ Ready run ⌝ }
 {
     let mut name = io::buffer();
-    let n = part_name(output, &mut name);
+    let n = part_name(file, &mut name);
     let part = &name[..n];
     let fd = os::create(part);
     if fd < 0 {
-        if os::errno() == libc::EEXIST {
-            say::problem(
-                to,
-                part,
-                b"is there already: remove it, unless a render is writing it",
-            );
-            return;
-        }
-        say::failed(to, output, b"cannot be opened for writing");
+        not_made(to, part, output);
         return;
     }
     let went = write_file(with_output(run, fd), board);
@@ -203,7 +209,7 @@ fn beside(to: i32, run: Run, board: &[u8], mixed: bool, input: &[u8], output: &[
         os::unlink(part);
         return;
     }
-    if named(to, fd, part, output) {
+    if named(to, fd, part, file) {
         finished(to, run, went, mixed, input, output);
     } else {
         os::unlink(part);
@@ -218,10 +224,21 @@ fn to_output(to: i32, run: Run, board: &[u8], mixed: bool, input: &[u8], output:
         to_standard(to, run, board, mixed, input, output);
         return;
     }
-    match way_of(to, output) {
+    let mut name = io::buffer();
+    let n = led_to(output, &mut name);
+    if n == 0 {
+        say::problem(
+            to,
+            output,
+            b"no name of a file: empty, too long, or links without an end",
+        );
+        return;
+    }
+    let file = &name[..n];
+    match way_of(file) {
         Way::Straight => straight(to, run, board, mixed, input, output),
-        Way::Beside => beside(to, run, board, mixed, input, output),
-        Way::Bad => (),
+        Way::Beside => beside(to, run, board, mixed, input, output, file),
+        Way::Closed => say::failed(to, output, b"cannot be opened for writing"),
     }
 }
 
@@ -253,7 +270,7 @@ fn from_open(
         return;
     }
     if is_open_file(fd, output) {
-        say::problem(to, output, b"is the input, or a copy of it");
+        say::problem(to, output, b"is the input");
         return;
     }
     libc::lseek(fd, start, libc::SEEK_SET);
@@ -314,11 +331,11 @@ fn through_board(to: i32, form: &[u8], what: &[u8], asked: Asked, input: &[u8], 
 // Whether to write the output would lose the board's file or the list; that is told.
 fn loses(to: i32, form: &[u8], what: &[u8], list: &[u8], output: &[u8]) -> bool {
     if from_file(form) && is_file(what, output) {
-        say::problem(to, output, b"is the board's file, or a copy of it");
+        say::problem(to, output, b"is the board's file");
         return true;
     }
     if is_file(list, output) {
-        say::problem(to, output, b"is the list, or a copy of it");
+        say::problem(to, output, b"is the list");
         return true;
     }
     false

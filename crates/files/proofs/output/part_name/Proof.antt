@@ -1,12 +1,12 @@
--- `render::output::part_name` meets its contract: both parts lie within the room. Assumes nothing.
+-- `files::output::part_name` meets its contract: both parts lie within the room. Assumes nothing.
 use Prim.Native.Nat.{_+_, _≤_}
 use lib.ListN.{length}
 use mathlib.Core.Path.{sym}
 use native.Mathlib.Omega.{arith}
 use lib.Seq.{length-take-le}
 use borrow.Author.Needs.{needs}
-use Rattle.render.proofs.output.part_name.Statement.{statement}
-use Rattle.render.proofs.output.part_name.Tie as tie
+use Rattle.files.proofs.output.part_name.Statement.{statement}
+use Rattle.files.proofs.output.part_name.Tie as tie
 
 returns-2 : tie.Need-returns-2
 returns-2 c =

@@ -1,11 +1,11 @@
--- `render::output::put` is safe and ends. Assumes nothing.
+-- `files::output::put` is safe and ends. Assumes nothing.
 use mathlib.Core.Path.{_≡_, refl}
 use Prim.Native.Nat.{_≤_, _-_}
 use native.Mathlib.Omega.{arith}
 use lib.ListN.{length, length-set}
 use borrow.Author.Needs.{needs}
-use Rattle.render.proofs.output.put.Statement.{statement}
-use Rattle.render.proofs.output.put.Tie as tie
+use Rattle.files.proofs.output.put.Statement.{statement}
+use Rattle.files.proofs.output.put.Tie as tie
 
 abbrev Inv-loop : tie.InvT-loop
 Inv-loop from to₀ at i₀ to i = (i ≤ length from) × (length to ≡ length to₀)
