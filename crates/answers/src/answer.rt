@@ -16,16 +16,15 @@ use crate::fault::node_fault;
 use crate::fault::source_fault;
 use crate::fault::wire_fault;
 use crate::kind::put_kind;
+use card_lines::labels::bare;
+use card_lines::labels::body_of;
+use card_lines::labels::line_after;
+use card_lines::labels::mark_length;
+use card_lines::names::HEAD;
+use card_lines::names::WIRE;
+use card_lines::names::named;
+use card_lines::reason::Reason;
 use cards::board::Made;
-use cards::labels::bare;
-use cards::labels::body_of;
-use cards::labels::line_after;
-use cards::labels::mark_length;
-use cards::names::HEAD;
-use cards::names::WIRE;
-use cards::names::named;
-use cards::reason::Reason;
-use leaves::float::of_bits;
 use text::words::Stop;
 use text::words::find;
 use text::words::next_word;
@@ -34,6 +33,7 @@ use text::written::put;
 use text::written::put_number;
 use text::written::put_pair;
 use text::written::put_word;
+use values::float::of_bits;
 
 // What may be wrong with a line, a line each.
 const REASONS: [u8; 420] =

@@ -4,17 +4,17 @@ ghost use lib.ListN.{length};
 ghost use Rattle.boards.specs.Read.{Sound};
 use boards::board::Board;
 use boards::judge::read_board;
-use cards::names::has_float;
-use cards::names::has_whole;
+use card_lines::names::has_float;
+use card_lines::names::has_whole;
 use kinds::kind::bounds_of;
 use kinds::kind::is_frequency;
 use kinds::kind::is_pass;
 use kinds::kind::length_fits;
-use leaves::bytes::u16_at;
-use leaves::bytes::u32_at;
-use leaves::bytes::wide;
-use leaves::float::finite_bits;
-use leaves::float::of_bits;
+use values::bytes::u16_at;
+use values::bytes::u32_at;
+use values::bytes::wide;
+use values::float::finite_bits;
+use values::float::of_bits;
 
 // The rules, a line each, and the line of each: refusals 1 to 3; a node by itself and in its place; a wire;
 // the input node.

@@ -2,10 +2,10 @@
 // place `at` on. Each function returns the place after what it wrote.
 ghost use Prim.Native.Nat.{_+_, _≤_};
 ghost use lib.ListN.{length};
-use cards::names::NAMES;
-use cards::names::has_float;
-use cards::names::has_whole;
-use cards::names::name;
+use card_lines::names::NAMES;
+use card_lines::names::has_float;
+use card_lines::names::has_whole;
+use card_lines::names::name;
 use text::float::put_float;
 use text::written::put;
 use text::written::put_spaced;

@@ -6,7 +6,7 @@ use mathlib.Core.List.{List, [], _∷_}
 use native.Mathlib.Omega.{arith}
 use lib.Dec.{eqb}
 use lib.ListN.{length}
-use Rattle.leaves.specs.Bytes.{u16At, u32At}
+use Rattle.values.specs.Bytes.{u16At, u32At}
 use Rattle.kinds.specs.Kind.{ruleOf, sourcesFit}
 use Rattle.kinds.specs.declared.kind.NodeRecord.{NodeRecord}
 use Rattle.kinds.specs.declared.kind.Fields.{Fields}

@@ -7,7 +7,7 @@ use native.Mathlib.Numerals.{add-one}
 use native.Mathlib.Omega.{arith}
 use lib.ListN.{length, getD, take, set, length-set}
 use lib.Seq.{length-take-le, take-suc-set, getD-set-same, getD-set-other}
-use Rattle.leaves.specs.Bytes.{u16At}
+use Rattle.values.specs.Bytes.{u16At}
 use Rattle.kinds.specs.Kind.{lineOf, channelsOf, fewest, most}
 use Rattle.kinds.specs.declared.kind.NodeKind.{NodeKind}
 use Rattle.kinds.specs.declared.kind.NodeRecord.{NodeRecord}

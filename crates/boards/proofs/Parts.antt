@@ -7,7 +7,7 @@ use native.Mathlib.Omega.{arith}
 use borrow.Author.Tests.{ne-eqb, eq-eqb, leb-true, le-leb, eqb-true, le-ltb}
 use lib.Dec.{leb, eqb}
 use lib.ListN.{length, drop, length-drop}
-use Rattle.leaves.specs.Bytes.{u16At, u32At}
+use Rattle.values.specs.Bytes.{u16At, u32At}
 use Rattle.kinds.specs.Kind.{ruleOf}
 use Rattle.kinds.specs.declared.kind.Fields.{Fields}
 use Rattle.kinds.specs.declared.kind.Fields.the-variants as fields

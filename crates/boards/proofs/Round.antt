@@ -10,7 +10,7 @@ use native.Mathlib.Omega.{arith}
 use borrow.Author.Tests.{leb-true, le-leb}
 use lib.ListN.{length, getD}
 use lib.Dec.{leb}
-use Rattle.leaves.specs.Words.{Bytes}
+use Rattle.values.specs.Words.{Bytes}
 use Rattle.reading.specs.Order.{Wire}
 use Rattle.records.specs.Answer.{answer}
 use Rattle.boards.specs.Board.{Parsed, Progress, going, refused, whole, memoryLength, readRecords}

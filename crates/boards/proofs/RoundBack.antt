@@ -9,8 +9,8 @@ use borrow.Author.Tests.{eqb-true}
 use lib.ListN.{length, drop, length-drop}
 use lib.Dec.{eqb}
 use lib.Seq.{drop-drop, drop-length}
-use Rattle.leaves.specs.Bytes.{u16At, u32At, u16Bytes, u32Bytes}
-use Rattle.leaves.specs.Words.{Bytes}
+use Rattle.values.specs.Bytes.{u16At, u32At, u16Bytes, u32Bytes}
+use Rattle.values.specs.Words.{Bytes}
 use Rattle.kinds.specs.Kind.{ruleOf}
 use Rattle.kinds.specs.declared.kind.NodeKind.{NodeKind}
 use Rattle.kinds.specs.declared.kind.Fields.{Fields}

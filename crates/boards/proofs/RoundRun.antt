@@ -9,8 +9,8 @@ use borrow.Author.Tests.{ne-eqb, eq-eqb, le-leb}
 use lib.ListN.{length, drop, length-append, length-drop}
 use lib.Dec.{leb}
 use lib.Seq.{append-snoc, drop-drop}
-use Rattle.leaves.specs.Bytes.{u16At, u32At}
-use Rattle.leaves.specs.Words.{word-split}
+use Rattle.values.specs.Bytes.{u16At, u32At}
+use Rattle.values.specs.Words.{word-split}
 use Rattle.kinds.specs.Kind.{ruleOf, lineOf, channelsOf, cellSize}
 use Rattle.kinds.specs.declared.kind.NodeRecord.{NodeRecord}
 use Rattle.kinds.specs.declared.kind.Fields.the-variants.{Is}

@@ -5,7 +5,7 @@ use mathlib.Core.List.{List, [], _∷_, _++_}
 use mathlib.Core.Bool.{Bool, cond, not, _&&_}
 use lib.ListN.{length}
 use lib.Dec.{ltb, leb, eqb}
-use Rattle.leaves.specs.Bytes.{u16At, u32At}
+use Rattle.values.specs.Bytes.{u16At, u32At}
 use Rattle.kinds.specs.Kind.{ruleOf, lineOf, channelsOf, cellSize, isDestination}
 use Rattle.kinds.specs.declared.kind.NodeKind.{NodeKind}
 use Rattle.kinds.specs.declared.kind.NodeKind.the-variants.{Pass}

@@ -5,7 +5,7 @@ use mathlib.Core.List.{List, []}
 use mathlib.Core.Bool.{Bool, false, cond, _&&_}
 use lib.ListN.{length, getD, take}
 use lib.Dec.{leb, eqb}
-use Rattle.leaves.specs.Bytes.{u16At, u32At}
+use Rattle.values.specs.Bytes.{u16At, u32At}
 use Rattle.kinds.specs.Kind.{ruleOf, fewest, most}
 use Rattle.kinds.specs.declared.kind.NodeRecord.{NodeRecord}
 use Rattle.kinds.specs.declared.kind.Fields.{Fields}

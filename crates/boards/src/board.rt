@@ -4,7 +4,7 @@ ghost use mathlib.Core.Path.{_≡_};
 ghost use mathlib.Core.List.{[]};
 ghost use Prim.Native.Nat.{_+_, _*_, _≤_, _<_};
 ghost use lib.ListN.{length};
-ghost use Rattle.leaves.specs.Bytes.{u16At};
+ghost use Rattle.values.specs.Bytes.{u16At};
 ghost use Rattle.records.specs.Record.{foundAt};
 ghost use Rattle.boards.specs.Board.{Parsed, going, refused, whole, headed, placed, nodeFits, wireFits, headBy, endBy, stepOf};
 ghost use Rattle.boards.specs.BoardParts.{orRefused, startsWith, nodeRead, isWire, partEnd, HeadRead, NodesRead, WiresRead};
@@ -20,14 +20,14 @@ use kinds::kind::channels_of;
 use kinds::kind::is_destination;
 use kinds::kind::line_of;
 use kinds::kind::rule_of;
-use leaves::bytes::u16_at;
-use leaves::bytes::u32_at;
-use leaves::bytes::wide;
 use records::answer::Answer;
 use records::reader::read_record;
 use records::record::Found;
 use sources::sources::add_source;
 use sources::sources::second;
+use values::bytes::u16_at;
+use values::bytes::u32_at;
+use values::bytes::wide;
 
 // The head: block size and input node.
 pub struct Head {

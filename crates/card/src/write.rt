@@ -11,12 +11,12 @@ use graph::graph::is_late;
 use graph::graph::places;
 use graph::graph::visiting_list;
 use kinds::kind::NodeKind;
-use leaves::bytes::wide;
 use text::written::put;
 use text::written::put_number;
 use text::written::put_pair;
 use text::written::put_spaced;
 use text::written::put_word;
+use values::bytes::wide;
 
 // What a board is shown as: a card, or a graph with a node for each node and an arrow for each wire. In
 // a graph the input stands at the top and the destination at the bottom, a late wire is dashed and does

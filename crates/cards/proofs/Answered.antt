@@ -9,10 +9,10 @@ use lib.ListN.{length}
 use Rattle.boards.specs.Judge.{judgeOf}
 use Rattle.records.specs.Write.{endBytes}
 use Rattle.text.specs.Words.{linesOf}
-use Rattle.cards.specs.Labels.{unmarked}
-use Rattle.cards.specs.Line.{saidOf}
+use Rattle.card_lines.specs.Labels.{unmarked}
+use Rattle.card_lines.specs.Line.{saidOf}
 use Rattle.cards.specs.Board.{recordBytes, written, stepOf, byStep, Said, judgedOf, cardFrom, cardOf, Judged}
-use Rattle.cards.specs.declared.reason.Reason.{Reason}
+use Rattle.card_lines.specs.declared.reason.Reason.{Reason}
 use Rattle.cards.specs.declared.board.Written.{Written}
 use Rattle.cards.specs.declared.board.Step.{Step}
 use Rattle.cards.specs.declared.board.Step.the-variants as step

@@ -1,6 +1,4 @@
--- Laws that the proofs of `cards` cite.
-pub mod Naming
-pub mod Labelling
+-- Laws that the proofs of `cards` cite, and what is shown of a card.
 pub mod Making
 pub mod Answered
 pub mod Obeyed

@@ -15,9 +15,9 @@ use Rattle.text.proofs.Finding.{no-line}
 use Rattle.text.proofs.Writing.{wrote-sets}
 use Rattle.cards.specs.Board.{recordBytes, written, stepOf, byStep, Said, madeBy, judgedOf, cardFrom, linesSay}
 use Rattle.cards.specs.Adding.{Grown, stored, Adds}
-use Rattle.cards.specs.Line.{saidOf}
-use Rattle.cards.specs.declared.line.Line.{Line}
-use Rattle.cards.specs.declared.reason.Reason.{Reason}
+use Rattle.card_lines.specs.Line.{saidOf}
+use Rattle.card_lines.specs.declared.line.Line.{Line}
+use Rattle.card_lines.specs.declared.reason.Reason.{Reason}
 use Rattle.cards.specs.declared.board.Step.{Step}
 use Rattle.cards.specs.declared.board.Step.the-variants as step
 use Rattle.cards.specs.declared.board.Written.{Written}

@@ -3,17 +3,17 @@ use mathlib.Core.Path.{_≡_, subst}
 use mathlib.Core.List.{List, [], _∷_, _++_}
 use Prim.Native.Nat.{ℕ, zero, suc, _+_}
 use native.Mathlib.Omega.{arith}
-use Rattle.leaves.specs.Bytes.{u16Bytes, u32Bytes}
-use Rattle.leaves.specs.Words.{Bytes}
+use Rattle.values.specs.Bytes.{u16Bytes, u32Bytes}
+use Rattle.values.specs.Words.{Bytes}
 use Rattle.records.specs.Write.{endBytes, writeBoard, Card}
 use Rattle.boards.specs.Obeys.{Obeys}
 use Rattle.boards.proofs.Round.{judge-exact}
 use Rattle.text.specs.Words.{linesOf}
-use Rattle.cards.specs.Labels.{unmarked}
-use Rattle.cards.specs.Line.{saidOf}
+use Rattle.card_lines.specs.Labels.{unmarked}
+use Rattle.card_lines.specs.Line.{saidOf}
 use Rattle.cards.specs.Board.{recordBytes, written, stepOf, cardFrom, cardOf, Judged}
-use Rattle.cards.specs.declared.line.Line.{Line}
-use Rattle.cards.specs.declared.line.Line.the-variants as line
+use Rattle.card_lines.specs.declared.line.Line.{Line}
+use Rattle.card_lines.specs.declared.line.Line.the-variants as line
 use Rattle.cards.specs.declared.board.Written.{Written}
 use Rattle.cards.specs.declared.board.Made.the-variants as made
 use Rattle.cards.proofs.Answered.{by-step, card-judged}

@@ -6,22 +6,22 @@ use mathlib.Core.List.{List, [], _∷_}
 use Prim.Native.Nat.{ℕ}
 use lib.Ieee.{round, mul, div, eq, lt, le, ofBits, toBits}
 use lib.ListN.{length}
-use Rattle.leaves.specs.Floors.{within, floorOf}
+use Rattle.values.specs.Floors.{within, floorOf}
 use Rattle.leaves.specs.Lengths.{samplesOf, delayOf}
 use Rattle.boards.specs.Board.{takeFound, stepOf as recordStep, run, readRecords}
 use Rattle.boards.specs.Judge.{readBoard, judgeOf}
 use Rattle.records.specs.Record.{foundAt}
 use Rattle.boards.specs.JudgeCases.{printed, printed-judged}
 use Rattle.records.specs.declared.answer.Answer.{Answer}
-use Rattle.text.specs.Decimal.{nearestTo}
-use Rattle.text.specs.Number.{digitOf, digitsFrom, readFrom, wholeOf, digitsOf, numberFrom, allOf, powerOf, scaled, decimalAt, floatOf}
+use Rattle.decimals.specs.Decimal.{nearestTo}
+use Rattle.decimals.specs.Number.{digitOf, digitsFrom, readFrom, wholeOf, digitsOf, numberFrom, allOf, powerOf, scaled, decimalAt, floatOf}
 use Rattle.text.specs.Words.{ahead, nextWord, wordAt, countFrom, linesOf}
-use Rattle.cards.specs.Names.{alike, names, placeIn}
-use Rattle.cards.specs.Line.{recordLine, plainLine, labelledLine, lineOf, saidOf}
-use Rattle.cards.specs.Labels.{allInner, labelOf, bodyOf, nodesIn, nodeNamed, endOf}
-use Rattle.cards.specs.Lengths.{lengthOf}
+use Rattle.card_lines.specs.Names.{alike, names, placeIn}
+use Rattle.card_lines.specs.Line.{recordLine, plainLine, labelledLine, lineOf, saidOf}
+use Rattle.card_lines.specs.Labels.{allInner, labelOf, bodyOf, nodesIn, nodeNamed, endOf}
+use Rattle.card_lines.specs.Lengths.{lengthOf}
 use Rattle.cards.specs.Board.{stepOf, madeBy, judgedOf, cardFrom, cardOf}
-use Rattle.cards.specs.declared.reason.Reason.the-variants as reason
+use Rattle.card_lines.specs.declared.reason.Reason.the-variants as reason
 use Rattle.cards.specs.declared.board.Made.the-variants.{Board, Refused, Bad}
 
 -- document 01's printed board: block 2 input 1  # a loop; destination; pass; add 0; delay 1; mul 0.5; ; wire 1 2; wire 2 3; wire 3 4; wire 4 2; wire 3 0

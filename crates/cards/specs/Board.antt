@@ -11,12 +11,12 @@ use Rattle.boards.specs.Judge.{judgeOf}
 use Rattle.records.specs.Write.{headBytes, nodeBytes, wireBytes, endBytes}
 use Rattle.records.specs.declared.answer.Answer.{Answer}
 use Rattle.text.specs.Words.{linesOf}
-use Rattle.cards.specs.Labels.{unmarked}
-use Rattle.cards.specs.Line.{saidOf}
-use Rattle.cards.specs.declared.reason.Reason.{Reason}
-use Rattle.cards.specs.declared.reason.Reason.the-variants as reason
-use Rattle.cards.specs.declared.line.Line.{Line}
-use Rattle.cards.specs.declared.line.Line.the-variants as line
+use Rattle.card_lines.specs.Labels.{unmarked}
+use Rattle.card_lines.specs.Line.{saidOf}
+use Rattle.card_lines.specs.declared.reason.Reason.{Reason}
+use Rattle.card_lines.specs.declared.reason.Reason.the-variants as reason
+use Rattle.card_lines.specs.declared.line.Line.{Line}
+use Rattle.card_lines.specs.declared.line.Line.the-variants as line
 use Rattle.cards.specs.declared.board.Written.{Written}
 use Rattle.cards.specs.declared.board.Step.{Step}
 use Rattle.cards.specs.declared.board.Step.the-variants as step

@@ -9,12 +9,12 @@ ghost use Rattle.records.specs.Write.{headBytes, nodeBytes, wireBytes, endBytes
 ghost use Rattle.cards.specs.Adding.{Room, Adds, Within};
 ghost use Rattle.cards.specs.Board.{recordBytes, headStep, nodeStep, wireStep, stepOf, judgedOf, linesSay, cardOf};
 ghost use Rattle.text.specs.Words.{linesOf};
-use crate::labels::line_after;
-use crate::labels::mark_length;
-use crate::line::Line;
-use crate::line::said;
-use crate::reason::Reason;
 use boards::judge::judge;
+use card_lines::labels::line_after;
+use card_lines::labels::mark_length;
+use card_lines::line::Line;
+use card_lines::line::said;
+use card_lines::reason::Reason;
 use records::writer::put_end;
 use records::writer::put_head;
 use records::writer::put_node;
@@ -158,8 +158,8 @@ fn lines_board(text: &[u8], out: &mut [u8]) -> Made
 
 // The board of a card, in the first bytes of `out`, and the judge's answer to it; or the first bad line.
 // Ruled out, and tried by must-fail edits: every card refused (refuses_all), a bad line passed over
-// (bad_line_passed), a second node with the same name passed over (first_name_wins), a name that stands
-// for the node behind it (name_one_off).
+// (bad_line_passed), a second node with the same name passed over (card_lines, first_name_wins), a name
+// that stands for the node behind it (card_lines, name_one_off).
 pub fn board_of(text: &[u8], out: &mut [u8]) -> Made
     requires { ⌜ 1932 ≤ length (now out) ⌝ }
     ensures within { λ r. ⌜ Within (now (out .exit)) r ⌝ }

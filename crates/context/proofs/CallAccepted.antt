@@ -11,7 +11,7 @@ use mathlib.Core.List.{List, _++_}
 use native.Mathlib.Omega.{arith}
 use lib.ListN.{length, take, drop}
 use lib.Seq.{paste, length-paste, length-take-le, length-paste-head}
-use Rattle.leaves.specs.Words.{words, length-words, words-append, words-take, words-drop}
+use Rattle.values.specs.Words.{words, length-words, words-append, words-take, words-drop}
 use Rattle.kinds.specs.Kind.{cellSize}
 use Rattle.kinds.specs.declared.kind.NodeRecord.{NodeRecord}
 use Rattle.boards.specs.Board.{Parsed, cellsOf, memoryLength}

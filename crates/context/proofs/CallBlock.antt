@@ -6,8 +6,8 @@ use mathlib.Core.List.{List, [], _++_, append-nil}
 use native.Mathlib.Omega.{arith}
 use lib.ListN.{length, take, drop, length-drop}
 use lib.Seq.{paste, length-paste, drop-length}
-use Rattle.leaves.specs.Words.{words, unwords, unwords-words, Bytes}
-use Rattle.leaves.specs.Parts.{part, words-part}
+use Rattle.values.specs.Words.{words, unwords, unwords-words, Bytes}
+use Rattle.values.specs.Parts.{part, words-part}
 use Rattle.boards.specs.Board.{cellsOf}
 use Rattle.context.specs.Memory.{passed, runBlock}
 use Rattle.context.specs.Calls.{asLeft, ranBlock, listed}

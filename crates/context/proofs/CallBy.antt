@@ -13,7 +13,7 @@ use mathlib.Core.List.{List}
 use borrow.Author.Tests.{eqb-true, ne-eqb}
 use lib.Dec.{eqb}
 use lib.ListN.{length}
-use Rattle.leaves.specs.Words.{words, unwords, Bytes, unwords-words}
+use Rattle.values.specs.Words.{words, unwords, Bytes, unwords-words}
 use Rattle.boards.specs.Board.{Parsed, Progress, going, refused, whole, memoryLength}
 use Rattle.boards.specs.Judge.{readBoard}
 use Rattle.boards.specs.Formed.{TableAt}

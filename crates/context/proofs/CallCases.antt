@@ -5,7 +5,7 @@ use mathlib.Core.Path.{_≡_, refl}
 use mathlib.Core.List.{List, [], _∷_}
 use lib.ListN.{set, replicate}
 use lib.Ieee.{ofBits}
-use Rattle.leaves.specs.Words.{words}
+use Rattle.values.specs.Words.{words}
 use Rattle.kinds.specs.Kind.{ruleOf}
 use Rattle.kinds.specs.Cell.{numberFits, carryFits, placeFits}
 use Rattle.records.specs.Answer.{answer}

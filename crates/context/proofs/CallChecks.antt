@@ -15,7 +15,7 @@ use borrow.Author.Tests.{eqb-true, eqb-false, eq-eqb, ne-eqb}
 use lib.Dec.{eqb}
 use lib.ListN.{length, getD, take, drop}
 use lib.Seq.{drop-cons, drop-length}
-use Rattle.leaves.specs.Floats.{finiteBits}
+use Rattle.values.specs.Floats.{finiteBits}
 use Rattle.kinds.specs.Cell.{cellFits}
 use Rattle.kinds.specs.declared.kind.NodeRecord.{NodeRecord}
 use Rattle.records.specs.Answer.{answer}

@@ -10,8 +10,8 @@ use native.Mathlib.Numerals.{add-one}
 use native.Mathlib.Omega.{arith}
 use lib.ListN.{length, set, take, drop, replicate, length-append, replicate-append-replicate}
 use lib.Ieee.{binary32, toBits}
-use Rattle.leaves.specs.Words.{words}
-use Rattle.leaves.specs.Floats.{setFloat}
+use Rattle.values.specs.Words.{words}
+use Rattle.values.specs.Floats.{setFloat}
 use Rattle.kinds.specs.Kind.{channelsOf, lineOf, cellSize}
 use Rattle.kinds.specs.Cell.{valuesOf, freshCell, numberOf}
 use Rattle.kinds.specs.declared.kind.NodeKind.{NodeKind}

@@ -14,8 +14,8 @@ use native.Mathlib.Omega.{arith}
 use native.Mathlib.Decide.{decLt, ℕ-discrete}
 use lib.ListN.{length, drop, length-drop}
 use lib.Seq.{paste, length-paste, length-take-le}
-use Rattle.leaves.specs.Words.{words}
-use Rattle.leaves.specs.Parts.{part, part-before, part-after}
+use Rattle.values.specs.Words.{words}
+use Rattle.values.specs.Parts.{part, part-before, part-after}
 use Rattle.kinds.specs.Kind.{cellSize}
 use Rattle.kinds.specs.Cell.{cellFits, runValues}
 use Rattle.kinds.specs.Node.{nodeRun}

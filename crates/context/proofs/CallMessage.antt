@@ -17,7 +17,7 @@ use lib.Dec.{T, ltb}
 use lib.Ieee.{Float, binary32, toBits, fits}
 use lib.ListN.{length, set, take, drop, length-set}
 use lib.Seq.{drop-set-add, take-set-lt, set-split, append-snoc, paste}
-use Rattle.leaves.specs.Parts.{part}
+use Rattle.values.specs.Parts.{part}
 use Rattle.kinds.specs.Kind.{cellSize}
 use Rattle.kinds.specs.Cell.{takesNumber, valueFits, cellFits}
 use Rattle.kinds.specs.declared.kind.NodeKind.{NodeKind}

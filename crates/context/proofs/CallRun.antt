@@ -13,8 +13,8 @@ use native.Mathlib.Omega.{arith}
 use lib.Dec.{eqb}
 use lib.ListN.{length, getD, take, drop, length-drop, drop-of-length-le}
 use lib.Seq.{getD-take, getD-drop, drop-cons, length-take-le, ext-getD}
-use Rattle.leaves.specs.Words.{words, length-words}
-use Rattle.leaves.specs.Floats.{floatAt}
+use Rattle.values.specs.Words.{words, length-words}
+use Rattle.values.specs.Floats.{floatAt}
 use Rattle.kinds.specs.Row.{Writes, mono, keeping, stereo, rowOf}
 use Rattle.kinds.specs.Kind.{channelsBy, channelsOf, lineOf, cellSize}
 use Rattle.kinds.specs.Rule.{Brought}

@@ -10,7 +10,7 @@ use mathlib.Core.Bool.{true}
 use mathlib.Core.List.{List, [], _∷_}
 use native.Mathlib.Omega.{arith}
 use lib.ListN.{length, getD, take}
-use Rattle.leaves.specs.Words.{Bytes}
+use Rattle.values.specs.Words.{Bytes}
 use Rattle.kinds.specs.Kind.{channelsOf, cellSize}
 use Rattle.kinds.specs.Node.{LineFits}
 use Rattle.kinds.specs.declared.kind.NodeKind.the-variants.{Pass, Destination}

@@ -6,9 +6,9 @@ use mathlib.Core.List.{List, [], _∷_}
 use lib.ListN.{length, set}
 use lib.Dec.{eqb, ltb}
 use lib.Ieee.{Float, binary32, toBits}
-use Rattle.leaves.specs.Words.{words, unwords}
-use Rattle.leaves.specs.Floats.{finiteBits}
-use Rattle.leaves.specs.Parts.{part}
+use Rattle.values.specs.Words.{words, unwords}
+use Rattle.values.specs.Floats.{finiteBits}
+use Rattle.values.specs.Parts.{part}
 use Rattle.records.specs.Answer.{answer}
 use Rattle.boards.specs.Board.{Parsed, Progress, going, refused, whole, memoryLength}
 use Rattle.boards.specs.Judge.{readBoard}

@@ -3,7 +3,7 @@ use Prim.Native.Nat.{ℕ, _+_, _*_, _≤_, _<_}
 use mathlib.Core.Path.{_≡_}
 use mathlib.Core.List.{List, [], _∷_, map}
 use lib.ListN.{length, take}
-use Rattle.leaves.specs.Floats.{setFloat}
+use Rattle.values.specs.Floats.{setFloat}
 use Rattle.kinds.specs.Kind.{samplesFrom}
 use Rattle.kinds.specs.Cell.{numberOf}
 use Rattle.kinds.specs.declared.kind.NodeRecord.{NodeRecord}

@@ -4,7 +4,7 @@ ghost use mathlib.Core.Path.{_≡_};
 ghost use Prim.Native.Nat.{_+_, _*_, _≤_};
 ghost use lib.ListN.{length, take, drop, replicate};
 ghost use lib.Seq.{paste};
-ghost use Rattle.leaves.specs.Words.{words};
+ghost use Rattle.values.specs.Words.{words};
 ghost use Rattle.kinds.specs.Kind.{samplesFrom};
 ghost use Rattle.context.specs.Memory.{leftStart, rightStart, checkCells, runNodes};
 ghost use Rattle.context.specs.Calls.{andThen, checkNeeded, checkSize, checkSizes, checkSamples, asLeft, listed, freshOf, blockOf};
@@ -20,12 +20,12 @@ use kinds::cell::SAMPLES;
 use kinds::cell::cell_fits;
 use kinds::cell::number_of;
 use kinds::kind::NodeRecord;
-use leaves::bytes::wide;
-use leaves::bytes::word_at;
-use leaves::float::finite_bits;
-use leaves::float::store;
 use nodes::node::step;
 use records::answer::Answer;
+use values::bytes::wide;
+use values::bytes::word_at;
+use values::float::finite_bits;
+use values::float::store;
 
 // ---- checks
 

@@ -2,7 +2,7 @@
 ghost use mathlib.Core.Path.{_≡_};
 ghost use Prim.Native.Nat.{_*_, _<_};
 ghost use lib.ListN.{length};
-ghost use Rattle.leaves.specs.Words.{words};
+ghost use Rattle.values.specs.Words.{words};
 ghost use Rattle.boards.specs.Read.{parsedOf, Sound};
 ghost use Rattle.context.specs.Fine.{Fine};
 ghost use Rattle.context.specs.Calls.{checkNumber, putNumber, messageOf};
@@ -10,8 +10,8 @@ use crate::open::judged;
 use boards::board::Board;
 use kinds::cell::takes_number;
 use kinds::cell::value_fits;
-use leaves::float::store;
 use records::answer::Answer;
+use values::float::store;
 
 // Checks 11 and 12: the node is there and takes a number, and the value is in its range.
 fn number_judged(board: Board, k: usize, value: f32) -> Answer

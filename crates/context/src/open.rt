@@ -2,7 +2,7 @@
 ghost use mathlib.Core.Path.{_≡_};
 ghost use Prim.Native.Nat.{_*_, _≤_};
 ghost use lib.ListN.{length, take};
-ghost use Rattle.leaves.specs.Words.{words};
+ghost use Rattle.values.specs.Words.{words};
 ghost use Rattle.context.specs.Memory.{checkCells};
 ghost use Rattle.context.specs.Calls.{checkNeeded};
 ghost use Rattle.context.specs.Stages.{CellsIn, readOpen, readJudged, Opened};

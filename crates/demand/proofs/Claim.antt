@@ -9,7 +9,7 @@ use Prim.Native.Nat.{ℕ}
 use mathlib.Core.Path.{_≡_, refl, ap, _∙_}
 use mathlib.Core.List.{List}
 use native.Mathlib.Omega.{arith}
-use Rattle.leaves.specs.Words.{Bytes, unwords}
+use Rattle.values.specs.Words.{Bytes, unwords}
 use Rattle.kinds.specs.Rule.{Frame}
 use Rattle.kinds.specs.History.{Heard}
 use Rattle.reading.specs.Effect.{wiringIn}

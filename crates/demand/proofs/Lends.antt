@@ -10,7 +10,7 @@ use mathlib.Core.Bool.{Bool, true, false}
 use mathlib.Core.List.{List}
 use borrow.Author.Tests.{eqb-true}
 use lib.Dec.{eqb}
-use Rattle.leaves.specs.Words.{Bytes}
+use Rattle.values.specs.Words.{Bytes}
 use Rattle.reading.specs.Table.{All}
 use Rattle.reading.specs.Order.{Wire}
 use Rattle.reading.specs.Board.{Leaves}

@@ -10,7 +10,7 @@ use mathlib.Core.List.{List, [], _∷_, _++_, map, map-append}
 use borrow.Author.Tests.{eqb-true, eq-eqb}
 use lib.Dec.{eqb}
 use lib.ListN.{length, getD}
-use Rattle.leaves.specs.Words.{Bytes, unwords}
+use Rattle.values.specs.Words.{Bytes, unwords}
 use Rattle.kinds.specs.Kind.{channelsOf}
 use Rattle.kinds.specs.Rule.{Frame}
 use Rattle.kinds.specs.Cell.{valuesOf}

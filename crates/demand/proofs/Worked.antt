@@ -11,7 +11,7 @@ use borrow.Author.Tests.{ltb-true}
 use lib.ListN.{take, drop}
 use lib.Dec.{ltb}
 use lib.Ieee.{ofBits, toBits, add, mul, round}
-use Rattle.leaves.specs.Words.{Bytes, words, unwords}
+use Rattle.values.specs.Words.{Bytes, words, unwords}
 use Rattle.kinds.specs.Kind.{ruleOf}
 use Rattle.kinds.specs.Iter.{iter}
 use Rattle.kinds.specs.History.{Heard}

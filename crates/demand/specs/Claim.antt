@@ -8,7 +8,7 @@ use mathlib.Core.Bool.{cond}
 use mathlib.Core.List.{List}
 use lib.Dec.{eqb}
 use lib.ListN.{length}
-use Rattle.leaves.specs.Words.{Bytes}
+use Rattle.values.specs.Words.{Bytes}
 use Rattle.kinds.specs.Rule.{Frame}
 use Rattle.kinds.specs.History.{Heard}
 use Rattle.reading.specs.Order.{Wire, Reorders}

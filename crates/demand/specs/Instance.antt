@@ -1,6 +1,6 @@
 -- What is known of what is lent while a board that reads as p plays. Scaffolding, of which the statements say nothing. Definitions only.
 use mathlib.Core.Path.{_≡_}
-use Rattle.leaves.specs.Words.{Bytes}
+use Rattle.values.specs.Words.{Bytes}
 use Rattle.boards.specs.Board.{Parsed, whole}
 use Rattle.boards.specs.Judge.{readBoard}
 use Rattle.boards.specs.BoardParts.{wired as withWires}

@@ -6,7 +6,7 @@ use mathlib.Core.Bool.{Bool, cond}
 use mathlib.Core.List.{List, [], _∷_}
 use lib.ListN.{length, take}
 use lib.Dec.{eqb}
-use Rattle.leaves.specs.Words.{unwords}
+use Rattle.values.specs.Words.{unwords}
 use Rattle.kinds.specs.Rule.{Frame}
 use Rattle.kinds.specs.Cell.{valuesOf}
 use Rattle.kinds.specs.History.{Heard}

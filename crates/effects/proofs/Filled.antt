@@ -12,8 +12,8 @@ use borrow.Author.Tests.{ltb-true, ltb-false}
 use lib.ListN.{length, set, length-set}
 use lib.Seq.{getD-set-same, getD-set-other, ext-getD}
 use lib.Ieee.{Float, nan, binary32, toBits}
-use Rattle.leaves.specs.Words.{words}
-use Rattle.leaves.specs.Floats.{floatAt}
+use Rattle.values.specs.Words.{words}
+use Rattle.values.specs.Floats.{floatAt}
 use Rattle.kinds.specs.Iter.{iter}
 use Rattle.effects.specs.Block.{sample, fetched, fetchedIf, fill, stored}
 use Rattle.kinds.proofs.Iterated.{iter-then}

@@ -18,9 +18,9 @@ use lib.ListN.{length, getD, set, take, drop}
 use lib.Seq.{take-at, drop-at}
 use lib.Ieee.{Float, nan, binary32, ofBits, toBits}
 use borrow.Author.Tests.{lt-ltb, le-ltb, eq-eqb, ne-eqb, eqb-true, eqb-false, ltb-true, ltb-false}
-use Rattle.leaves.specs.Words.{words, length-words}
-use Rattle.leaves.specs.Floats.{floatAt}
-use Rattle.leaves.specs.Floors.{floorOf}
+use Rattle.values.specs.Words.{words, length-words}
+use Rattle.values.specs.Floats.{floatAt}
+use Rattle.values.specs.Floors.{floorOf}
 use Rattle.leaves.specs.Position.{positionOf, restOf}
 use Rattle.kinds.specs.Kind.{channelsOf, cellSize, samplesFrom, numberIndex, placeIndex}
 use Rattle.kinds.specs.Iter.{iter, from}

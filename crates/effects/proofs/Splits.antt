@@ -7,7 +7,7 @@ use borrow.Author.Count.{below-more}
 use lib.ListN.{length, getD, set, length-set}
 use lib.Seq.{getD-set-same, getD-set-other}
 use lib.Ieee.{Float, nan}
-use Rattle.leaves.specs.Floors.{floorOf}
+use Rattle.values.specs.Floors.{floorOf}
 use Rattle.leaves.specs.Position.{restOf}
 use Rattle.effects.specs.Block.{sample, Split}
 

@@ -5,8 +5,8 @@ use mathlib.Core.Bool.{Bool, cond}
 use mathlib.Core.List.{List, [], _∷_}
 use lib.ListN.{getD, set}
 use lib.Ieee.{Float, nan, binary32, toBits, add}
-use Rattle.leaves.specs.Floats.{floatAt}
-use Rattle.leaves.specs.Floors.{zeroF, floorOf}
+use Rattle.values.specs.Floats.{floatAt}
+use Rattle.values.specs.Floors.{zeroF, floorOf}
 use Rattle.leaves.specs.Position.{positionOf, restOf}
 use Rattle.kinds.specs.Iter.{iter}
 use Rattle.kinds.specs.Rule.{Brought}

@@ -5,9 +5,9 @@ ghost use Prim.Native.Nat.{ℕ, _+_, _*_, _%_, _^_, _≤_, _<_};
 ghost use mathlib.Core.List.{List};
 ghost use lib.ListN.{length, getD};
 ghost use lib.Ieee.{Float};
-ghost use Rattle.leaves.specs.Words.{words};
-ghost use Rattle.leaves.specs.Floats.{floatAt};
-ghost use Rattle.leaves.specs.Floors.{Upto};
+ghost use Rattle.values.specs.Words.{words};
+ghost use Rattle.values.specs.Floats.{floatAt};
+ghost use Rattle.values.specs.Floors.{Upto};
 ghost use Rattle.leaves.specs.Position.{positionOf};
 ghost use Rattle.kinds.specs.Kind.{samplesFrom, numberIndex, placeIndex};
 ghost use Rattle.kinds.specs.Rule.{allPass, between};
@@ -20,13 +20,13 @@ use kinds::cell::NUMBER;
 use kinds::cell::PLACE;
 use kinds::cell::SAMPLES;
 use kinds::kind::NodeKind;
-use leaves::bytes::put_word;
-use leaves::bytes::word_at;
-use leaves::float::load;
-use leaves::float::store;
-use leaves::float::to_bits;
 use leaves::position::position;
 use leaves::position::split;
+use values::bytes::put_word;
+use values::bytes::word_at;
+use values::float::load;
+use values::float::store;
+use values::float::to_bits;
 
 // The output for the input x and the delayed input and output.
 fn output(g: f32, x: f32, old_x: f32, old_y: f32) -> f32

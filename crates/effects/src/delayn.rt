@@ -5,7 +5,7 @@ ghost use mathlib.Core.Path.{_≡_};
 ghost use Prim.Native.Nat.{ℕ, _+_, _*_, _≤_, _<_};
 ghost use lib.ListN.{length, getD};
 ghost use lib.Ieee.{binary32, ofBits, toBits};
-ghost use Rattle.leaves.specs.Words.{words};
+ghost use Rattle.values.specs.Words.{words};
 ghost use Rattle.kinds.specs.Kind.{samplesFrom, placeIndex};
 ghost use Rattle.effects.specs.Ring.{stretchOf, wrapOf, stretchValues};
 ghost use Rattle.effects.specs.Block.{alone};
@@ -13,9 +13,9 @@ ghost use Rattle.kinds.specs.Cell.{runValues};
 use kinds::cell::PLACE;
 use kinds::cell::SAMPLES;
 use kinds::kind::NodeKind;
-use leaves::bytes::put_word;
-use leaves::bytes::word_at;
-use leaves::float::store;
+use values::bytes::put_word;
+use values::bytes::word_at;
+use values::float::store;
 
 // The pattern of the float that a pattern stands for: another NaN becomes 7FC00000.
 fn canonical(bits: u32) -> u32

@@ -2,16 +2,16 @@
 ghost use mathlib.Core.Path.{_≡_};
 ghost use Prim.Native.Nat.{_+_, _*_, _≤_, _<_};
 ghost use lib.ListN.{length};
-ghost use Rattle.leaves.specs.Words.{words};
+ghost use Rattle.values.specs.Words.{words};
 ghost use Rattle.kinds.specs.Kind.{samplesFrom};
 ghost use Rattle.effects.specs.Block.{alone};
 ghost use Rattle.kinds.specs.Cell.{runValues};
 use kinds::cell::CARRY;
 use kinds::cell::SAMPLES;
 use kinds::kind::NodeKind;
-use leaves::float::load;
-use leaves::float::store;
 use leaves::onepole::OnePole;
+use values::float::load;
+use values::float::store;
 
 pub fn one_pole(cell: &mut [u8], b: f32, size: usize, x: &[f32; 128])
     requires { ⌜ (0 < size) × (size ≤ 128) × (length (now cell) ≡ 4 * (samplesFrom + size)) ⌝ }

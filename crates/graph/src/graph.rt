@@ -8,7 +8,7 @@ ghost use Rattle.boards.specs.Wires.{Within, wiresOf};
 ghost use Rattle.graph.specs.Visit.{visitingList, Lists};
 ghost use Rattle.graph.specs.Walking.{Table, Gathered, Ready, Visited};
 ghost use Rattle.graph.specs.Late.{isLate, lateWires, Placed};
-use leaves::bytes::wide;
+use values::bytes::wide;
 
 // The walk from `node`, which is not marked yet: marks it, goes to each of its sources that is not
 // marked, then lists it after the `count` nodes listed so far. Returns how many are listed then.

@@ -12,8 +12,8 @@ use boards::judge::read_board;
 use kinds::kind::NodeKind;
 use kinds::kind::NodeRecord;
 use kinds::kind::line_of;
-use leaves::bytes::wide;
 use records::answer::Answer;
+use values::bytes::wide;
 
 // The answer of a board whose output may never end.
 pub const ENDLESS: usize = 4294967295;

@@ -1,9 +1,9 @@
 // Judges the boards on standard input, each after its length in two bytes, and writes number and
 // place of each answer on a line.
 use boards::judge::judge;
-use leaves::bytes::u16_at;
 use libc::STDOUT_FILENO;
 use records::answer::Answer;
+use values::bytes::u16_at;
 
 fn show(a: Answer) {
     io::print_decimal(STDOUT_FILENO, a.number as u64);

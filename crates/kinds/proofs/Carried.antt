@@ -11,7 +11,7 @@ use lib.Dec.{T}
 use lib.ListN.{length, getD, set}
 use lib.Ieee.{Float, binary32, ofBits, toBits, fits}
 use lib.Ieee.Bits.{ofBits-toBits}
-use Rattle.leaves.specs.Floats.{floatAt, setFloat}
+use Rattle.values.specs.Floats.{floatAt, setFloat}
 use Rattle.kinds.specs.Kind.{cellSize, channelsOf, samplesFrom, numberIndex, carryIndex}
 use Rattle.kinds.specs.Iter.{iter}
 use Rattle.kinds.specs.Rule.{Brought, withCarry}

@@ -11,7 +11,7 @@ use lib.ListN.{length, length-replicate}
 use lib.Ieee.{Float, binary32, ofBits, toBits, le}
 use lib.Ieee.Bits.{ofBits-fits, ofBits-toBits}
 use borrow.Author.Tests.{leb-true, lt-ltb}
-use Rattle.leaves.specs.Floors.{zeroF, within}
+use Rattle.values.specs.Floors.{zeroF, within}
 use Rattle.kinds.specs.Row.{Value, unused, coefficient, numbered, inRange, Line, noLine, lineX, lineXY, Carry, noCarry, lastOutput, runningPhase, rowOf}
 use Rattle.kinds.specs.Kind.{lengthFits, wholeFits, floatFits, fieldsFit, kindBy, typeKnown, isIf, ruleOf, channelsOf, lineOf, cellSize}
 use Rattle.kinds.specs.Cell.{valuesOf, freshCell, startIn, numberOf, numberIn, carryIn, placeIn, numberFits, carryFits, placeFits, cellFits}

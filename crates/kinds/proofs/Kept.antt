@@ -17,8 +17,8 @@ use lib.Ieee.{Float, binary32, ofBits, toBits, fits}
 use lib.Ieee.Bits.{ofBits-toBits}
 use denote.Floats.{passes, is-true}
 use borrow.Author.Tests.{ltb-true, lt-ltb, eqb-false}
-use Rattle.leaves.specs.Floors.{f1, f44100, within}
-use Rattle.leaves.specs.Parts.{part, part-paste}
+use Rattle.values.specs.Floors.{f1, f44100, within}
+use Rattle.values.specs.Parts.{part, part-paste}
 use Rattle.leaves.specs.Phase.{phaseAfter}
 use Rattle.leaves.proofs.PhaseStep.{phase-stays, phase-fits}
 use Rattle.kinds.specs.Row.{Value, unused, coefficient, numbered, inRange, Line, noLine, lineX, lineXY, Carry, noCarry, lastOutput, runningPhase, rowOf}

@@ -6,7 +6,7 @@ use native.Mathlib.Omega.{arith}
 use denote.Floats.{passes}
 use lib.Dec.{T, eqb}
 use lib.Ieee.{Float, binary32, ofBits}
-use Rattle.leaves.specs.Floors.{f44100, finiteF, within}
+use Rattle.values.specs.Floors.{f44100, finiteF, within}
 use Rattle.kinds.specs.Row.{Carry, noCarry, lastOutput, runningPhase, TypeRow, rowOf}
 use Rattle.kinds.specs.Kind.{lineLength, fewest, most}
 use Rattle.kinds.specs.Cell.{takesIn, valueIn, numberIn}

@@ -14,7 +14,7 @@ use lib.Dec.{leb}
 use lib.ListN.{length, set, length-set}
 use lib.Ieee.{Float, nan, binary32, ofBits, toBits, add, mul}
 use Rattle.leaves.specs.Position.{positionOf, restOf}
-use Rattle.leaves.specs.Floors.{floorOf}
+use Rattle.values.specs.Floors.{floorOf}
 use Rattle.kinds.specs.Row.{Line, noLine, lineX, lineXY, Writes, mono, keeping, stereo, rowOf}
 use Rattle.kinds.specs.Kind.{sourcesFit}
 use Rattle.kinds.specs.Rule.{Brought, Frame, State, first, two, allPass, between, tapBy, tap, leftOf, rightOf, keepsIn, keeps, carryAfter, lineOn, lineAfter, xLine, yLine, leftBy, sampleBy, stateBy}

@@ -5,7 +5,7 @@ use mathlib.Core.List.{List, _∷_, _++_}
 use lib.ListN.{getD, set, take, drop, replicate}
 use lib.Dec.{eqb, ltb}
 use lib.Ieee.{Float, binary32, ofBits, toBits}
-use Rattle.leaves.specs.Floors.{f1, zeroF, within}
+use Rattle.values.specs.Floors.{f1, zeroF, within}
 use Rattle.kinds.specs.Row.{Value, unused, coefficient, numbered, inRange, Line, noLine, lineX, lineXY, Carry, noCarry, lastOutput, runningPhase, rowOf}
 use Rattle.kinds.specs.Kind.{channelsOf, lineOf, samplesFrom, numberIndex, carryIndex, placeIndex, lineFrom}
 use Rattle.kinds.specs.Iter.{iter}

@@ -6,7 +6,7 @@ use mathlib.Core.Bool.{cond}
 use mathlib.Core.List.{List, [], _∷_, _++_, map}
 use lib.ListN.{length}
 use lib.Ieee.{Float, binary32, ofBits, toBits}
-use Rattle.leaves.specs.Floors.{zeroF}
+use Rattle.values.specs.Floors.{zeroF}
 use Rattle.reading.specs.Table.{tab}
 use Rattle.reading.specs.Ring.{from, newest}
 use Rattle.kinds.specs.Row.{Line, noLine, lineX, lineXY, rowOf}

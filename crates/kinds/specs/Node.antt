@@ -4,8 +4,8 @@ use mathlib.Core.List.{List, map}
 use lib.ListN.{getD}
 use lib.Seq.{paste}
 use lib.Ieee.{Float}
-use Rattle.leaves.specs.Floats.{floatAt}
-use Rattle.leaves.specs.Parts.{part}
+use Rattle.values.specs.Floats.{floatAt}
+use Rattle.values.specs.Parts.{part}
 use Rattle.kinds.specs.Row.{Line, noLine, lineX, lineXY, rowOf}
 use Rattle.kinds.specs.Kind.{cellSize}
 use Rattle.kinds.specs.Rule.{Brought}

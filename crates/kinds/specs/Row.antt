@@ -7,7 +7,7 @@ use mathlib.Core.List.{List, [], _∷_}
 use lib.ListN.{length, getD}
 use lib.Dec.{ltb}
 use lib.Ieee.{Float, nan, binary32, add, sub, mul, neg}
-use Rattle.leaves.specs.Floors.{f1, f44100, zeroF, finiteF, within, floorOf}
+use Rattle.values.specs.Floors.{f1, f44100, zeroF, finiteF, within, floorOf}
 use Rattle.leaves.specs.Position.{positionOf, restOf}
 use Rattle.leaves.specs.Sine.{sineOf, phaseUnits, over23}
 use Rattle.leaves.specs.OnePole.{onePoleOf, onePoleStep}

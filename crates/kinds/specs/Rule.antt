@@ -6,7 +6,7 @@ use mathlib.Core.List.{List}
 use lib.ListN.{length, getD, set}
 use lib.Dec.{eqb}
 use lib.Ieee.{Float, binary32, ofBits, toBits}
-use Rattle.leaves.specs.Floors.{zeroF}
+use Rattle.values.specs.Floors.{zeroF}
 use Rattle.leaves.specs.Phase.{phaseAfter}
 use Rattle.kinds.specs.Row.{Terms, Line, noLine, lineX, lineXY, Carry, noCarry, lastOutput, runningPhase, Writes, mono, keeping, stereo, rowOf}
 use Rattle.kinds.specs.declared.kind.NodeKind.{NodeKind}

@@ -3,16 +3,16 @@ ghost use mathlib.Core.Path.{_≡_};
 ghost use Prim.Native.Nat.{_+_, _*_, _≤_};
 ghost use mathlib.Core.Bool.{_&&_};
 ghost use lib.ListN.{length, drop};
-ghost use Rattle.leaves.specs.Words.{words};
+ghost use Rattle.values.specs.Words.{words};
 ghost use Rattle.kinds.specs.Kind.{samplesFrom};
 ghost use Rattle.kinds.specs.Cell.{numberOf, takesNumber, valueFits, numberFits, carryFits, placeFits, cellFits};
 use crate::kind::NodeKind;
 use crate::kind::is_frequency;
-use leaves::bytes::word_at;
-use leaves::float::finite;
-use leaves::float::finite_bits;
-use leaves::float::of_bits;
-use leaves::float::within;
+use values::bytes::word_at;
+use values::float::finite;
+use values::float::finite_bits;
+use values::float::of_bits;
+use values::float::within;
 
 // The values of a cell, in order: number, carry, ring place, and from SAMPLES on the samples, then
 // the line.

@@ -4,11 +4,11 @@ ghost use Prim.Native.Nat.{_+_, _*_, _≤_, _<_};
 ghost use Rattle.kinds.specs.Row.{inRange, frequency};
 ghost use Rattle.kinds.specs.Kind.{lengthFits, isIf, ruleOf, lineOf, channelsOf, cellSize, isDestination, isPass, fewest, most, sourcesFit};
 use crate::cell::SAMPLES;
-use leaves::bytes::wide;
-use leaves::float::SAMPLE_RATE;
-use leaves::float::finite_bits;
-use leaves::float::of_bits;
-use leaves::float::within;
+use values::bytes::wide;
+use values::float::SAMPLE_RATE;
+use values::float::finite_bits;
+use values::float::of_bits;
+use values::float::within;
 
 // A node's type, with its line length and its number, coefficient or frequency.
 pub enum NodeKind {

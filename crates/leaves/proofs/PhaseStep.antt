@@ -8,10 +8,10 @@ use lib.Dec.{T, ltb, lit<, lit≤}
 use borrow.Author.Tests.{ltb-true, ltb-false}
 use lib.Ieee.{Float, nan, inf, fin, binary32, up, down, sum, add, sub, neg, div, lt, fits}
 use lib.Ieee.Fits.{down-pos, add-fits, sub-fits, cond-fits}
-use Rattle.leaves.specs.Floors.{zeroF, f1, f44100, within, Upto}
+use Rattle.values.specs.Floors.{zeroF, f1, f44100, within, Upto}
 use Rattle.leaves.specs.Phase.{increment, turnedBack, advance, phaseAfter}
 use Rattle.leaves.specs.Worked.{worked}
-use Rattle.leaves.proofs.Floors.{minus-zero-upto, within-upto, upto-within, quotient-upto}
+use Rattle.values.proofs.Floors.{minus-zero-upto, within-upto, upto-within, quotient-upto}
 use Rattle.leaves.proofs.Sums.{larger-first, sum-upto}
 
 -- ---- from 0 to 1

@@ -7,8 +7,8 @@ use native.Mathlib.Omega.{arith}
 use lib.Dec.{ltb}
 use lib.Ieee.{Float, nan, inf, fin, binary32, up, down, round, sum, add}
 use lib.Ieee.Fits.{down-pos}
-use Rattle.leaves.specs.Floors.{Upto}
-use Rattle.leaves.proofs.Floors.{no-size, round-upto}
+use Rattle.values.specs.Floors.{Upto}
+use Rattle.values.proofs.Floors.{no-size, round-upto}
 
 -- ---- a / c and b / c of unlike signs: the rounded difference, by a test for the smaller
 

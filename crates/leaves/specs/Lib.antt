@@ -1,9 +1,4 @@
 -- What the contracts of the leaves cite; how near the sine and the plate's one-pole constants are (Series, Exponential); the worked values.
-pub mod Words
-pub mod Parts
-pub mod Bytes
-pub mod Floats
-pub mod Floors
 pub mod OnePole
 pub mod Phase
 pub mod Lengths

@@ -1,6 +1,6 @@
 -- The one-pole: its coefficients a and b and its last output y1, each operation one rounding. Definitions only.
 use lib.Ieee.{Float, binary32, add, sub, mul}
-use Rattle.leaves.specs.Floors.{f1}
+use Rattle.values.specs.Floors.{f1}
 use Rattle.leaves.specs.declared.onepole.OnePole.{OnePole}
 
 -- a = 1 - b

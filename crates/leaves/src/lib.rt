@@ -1,7 +1,5 @@
-// The leaves of the plate tank: numbers and floats in lent bytes, the one-pole, the oscillator's
-// phase and sine, lengths from milliseconds, and where a modulated all-pass reads.
-pub mod bytes;
-pub mod float;
+// The leaves of the plate tank: the one-pole, the oscillator's phase and sine, lengths from
+// milliseconds, and where a modulated all-pass reads.
 pub mod lengths;
 pub mod onepole;
 pub mod phase;

@@ -1,7 +1,7 @@
 // The oscillator's phase, from one sample to the next.
 ghost use mathlib.Core.Path.{_≡_};
 ghost use Rattle.leaves.specs.Phase.{increment, advance};
-use crate::float::SAMPLE_RATE;
+use values::float::SAMPLE_RATE;
 
 // How far a frequency moves the phase: a block divides once.
 pub fn increment(f: f32) -> f32

@@ -3,14 +3,14 @@
 // questions, and the lines by its own reading of document 01.
 ghost use Prim.Native.Nat.{_+_, _≤_};
 ghost use lib.ListN.{length};
-use leaves::bytes::u32_at;
-use leaves::float::finite;
-use leaves::float::of_bits;
-use leaves::float::to_bits;
-use leaves::float::within;
 use leaves::lengths::Length;
 use leaves::onepole::OnePole;
 use libc::STDOUT_FILENO;
+use values::bytes::u32_at;
+use values::float::finite;
+use values::float::of_bits;
+use values::float::to_bits;
+use values::float::within;
 
 // What a line holds.
 struct Line(u32, u32);

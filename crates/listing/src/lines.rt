@@ -15,11 +15,11 @@ use boards::judge::read_board;
 use graph::graph::is_late;
 use graph::graph::places;
 use graph::graph::visiting_list;
-use leaves::bytes::wide;
 use text::written::put;
 use text::written::put_pair;
 use text::written::put_spaced;
 use text::written::put_word;
+use values::bytes::wide;
 
 // The first `count` nodes of a list.
 fn put_nodes(out: &mut [u8], at: usize, list: &[u8; 64], count: usize) -> usize

@@ -12,7 +12,7 @@ use borrow.Author.Tests.{ltb-true}
 use lib.Dec.{ltb}
 use lib.ListN.{length, List·getD-eq-default}
 use lib.Ieee.{Float, nan, binary32, ofBits, toBits, add, mul}
-use Rattle.leaves.specs.Floors.{floorOf}
+use Rattle.values.specs.Floors.{floorOf}
 use Rattle.leaves.specs.Position.{positionOf, restOf}
 use Rattle.leaves.specs.OnePole.{onePoleOf, onePoleStep}
 use Rattle.kinds.specs.Row.{Terms, Writes, mono, product, plus, delayed, filteredBy, smoothed, wave, rowOf}

@@ -9,7 +9,7 @@ use lib.Dec.{T}
 use lib.ListN.{length, getD, set, length-set}
 use lib.Seq.{getD-set-same, getD-set-other}
 use lib.Ieee.{Float}
-use Rattle.leaves.specs.Floors.{f1, within}
+use Rattle.values.specs.Floors.{f1, within}
 use Rattle.leaves.specs.Phase.{advance}
 use Rattle.leaves.specs.Sine.{phaseUnits}
 use Rattle.nodes.specs.Phases.{Stays, Moves, Units}

@@ -13,8 +13,8 @@ use native.Mathlib.Omega.{arith}
 use lib.ListN.{length, set, length-set}
 use lib.Seq.{set-comm, set-getD}
 use lib.Ieee.{Float, binary32, ofBits, toBits, add, mul}
-use Rattle.leaves.specs.Words.{words, length-words}
-use Rattle.leaves.specs.Floats.{floatAt}
+use Rattle.values.specs.Words.{words, length-words}
+use Rattle.values.specs.Floats.{floatAt}
 use Rattle.kinds.specs.Kind.{channelsOf, lineOf, cellSize, samplesFrom, numberIndex}
 use Rattle.kinds.specs.Iter.{iter}
 use Rattle.kinds.specs.Rule.{Brought, State, first, operand, keeps, leftOf, leftBy, rightOf, carryAfter, placeAfter, lineAfter, sampleBy, stateBy}

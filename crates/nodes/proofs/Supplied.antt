@@ -9,9 +9,9 @@ use borrow.Author.Tests.{ltb-true, leb-true, eq-eqb, ne-eqb}
 use lib.Dec.{leb, ltb, T}
 use lib.ListN.{length, getD}
 use lib.Ieee.{Float}
-use Rattle.leaves.specs.Words.{words, length-words}
-use Rattle.leaves.specs.Floats.{floatAt}
-use Rattle.leaves.specs.Floors.{f1, f44100, within}
+use Rattle.values.specs.Words.{words, length-words}
+use Rattle.values.specs.Floats.{floatAt}
+use Rattle.values.specs.Floors.{f1, f44100, within}
 use Rattle.kinds.specs.Kind.{fewest, most, cellSize, samplesFrom, numberIndex, carryIndex, placeIndex}
 use Rattle.kinds.specs.Rule.{Brought, keeps, leftOf, rightOf, carryAfter, placeAfter, lineAfter, stateBy}
 use Rattle.kinds.specs.Cell.{cellOf, numberFits, carryFits, placeFits, runValues}

@@ -7,7 +7,7 @@ use native.Mathlib.Numerals.{add-one}
 use lib.ListN.{length, getD, take}
 use lib.Seq.{take-suc, take-length}
 use lib.Ieee.{Float, binary32, add}
-use Rattle.leaves.specs.Floats.{floatAt}
+use Rattle.values.specs.Floats.{floatAt}
 use Rattle.kinds.specs.Rule.{addTo, total}
 use Rattle.effects.specs.Block.{sample, fill, quiet, begun, added}
 use Rattle.kinds.specs.Node.{samplesAt}

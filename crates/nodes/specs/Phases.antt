@@ -5,7 +5,7 @@ use mathlib.Core.List.{List}
 use lib.Dec.{T}
 use lib.ListN.{getD}
 use lib.Ieee.{Float}
-use Rattle.leaves.specs.Floors.{f1, within}
+use Rattle.values.specs.Floors.{f1, within}
 use Rattle.leaves.specs.Phase.{advance}
 use Rattle.leaves.specs.Sine.{sineOf, phaseUnits, over23}
 

@@ -6,8 +6,8 @@ use mathlib.Core.List.{List}
 use lib.Dec.{eqb}
 use lib.ListN.{length, getD}
 use lib.Ieee.{Float}
-use Rattle.leaves.specs.Words.{words}
-use Rattle.leaves.specs.Parts.{part}
+use Rattle.values.specs.Words.{words}
+use Rattle.values.specs.Parts.{part}
 use Rattle.kinds.specs.Kind.{typeOf, channelsOf, cellSize, sourcesFit}
 use Rattle.kinds.specs.Rule.{Brought, first, total}
 use Rattle.kinds.specs.Cell.{cellFits}

@@ -2,10 +2,10 @@
 ghost use mathlib.Core.Path.{_≡_};
 ghost use Prim.Native.Nat.{_+_, _*_, _≤_};
 ghost use lib.ListN.{length};
-ghost use Rattle.leaves.specs.Words.{words};
+ghost use Rattle.values.specs.Words.{words};
 ghost use Rattle.effects.specs.Block.{fetched, fill, putBlock};
-use leaves::float::load;
-use leaves::float::store;
+use values::float::load;
+use values::float::store;
 
 // The samples that stand from value `at` on.
 pub fn fetch(memory: &[u8], at: usize, size: usize, x: &mut [f32; 128])

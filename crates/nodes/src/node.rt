@@ -4,7 +4,7 @@ ghost use mathlib.Core.Path.{_≡_};
 ghost use Prim.Native.Nat.{ℕ, _+_, _*_, _≤_, _<_};
 ghost use lib.Dec.{ltb};
 ghost use lib.ListN.{length, getD};
-ghost use Rattle.leaves.specs.Words.{words};
+ghost use Rattle.values.specs.Words.{words};
 ghost use Rattle.kinds.specs.Rule.{Brought};
 ghost use Rattle.kinds.specs.Cell.{runValues};
 ghost use Rattle.effects.specs.Block.{fetchedIf};
@@ -23,7 +23,7 @@ use kinds::cell::SAMPLES;
 use kinds::kind::NodeKind;
 use kinds::kind::NodeRecord;
 use kinds::kind::cell_size;
-use leaves::bytes::wide;
+use values::bytes::wide;
 
 // The first wire's source, and the second's where there are two sources.
 fn operands(

@@ -5,9 +5,9 @@ ghost use Prim.Native.Nat.{ℕ, _+_, _*_, _≤_, _<_};
 ghost use lib.Dec.{T};
 ghost use lib.ListN.{length};
 ghost use lib.Ieee.{Float};
-ghost use Rattle.leaves.specs.Words.{words};
-ghost use Rattle.leaves.specs.Floats.{floatAt};
-ghost use Rattle.leaves.specs.Floors.{f1, f44100, within};
+ghost use Rattle.values.specs.Words.{words};
+ghost use Rattle.values.specs.Floats.{floatAt};
+ghost use Rattle.values.specs.Floors.{f1, f44100, within};
 ghost use Rattle.kinds.specs.Kind.{samplesFrom, numberIndex, carryIndex};
 ghost use Rattle.effects.specs.Block.{nothing, stored};
 ghost use Rattle.kinds.specs.Cell.{runValues};
@@ -16,12 +16,12 @@ use kinds::cell::CARRY;
 use kinds::cell::NUMBER;
 use kinds::cell::SAMPLES;
 use kinds::kind::NodeKind;
-use leaves::float::load;
-use leaves::float::store;
 use leaves::phase::advance;
 use leaves::phase::increment;
 use leaves::sine::phase_units;
 use leaves::sine::sine;
+use values::float::load;
+use values::float::store;
 
 // The place of the next sample, and its phase.
 struct Climbed {

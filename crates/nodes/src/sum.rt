@@ -2,11 +2,11 @@
 ghost use mathlib.Core.Path.{_≡_};
 ghost use Prim.Native.Nat.{_+_, _*_, _≤_};
 ghost use lib.ListN.{length};
-ghost use Rattle.leaves.specs.Words.{words};
+ghost use Rattle.values.specs.Words.{words};
 ghost use Rattle.effects.specs.Block.{fill, quiet, begun, added};
 ghost use Rattle.nodes.specs.Ready.{totalAt, InMemory};
-use leaves::bytes::wide;
-use leaves::float::load;
+use values::bytes::wide;
+use values::float::load;
 
 fn clear(x: &mut [f32; 128], size: usize)
     requires { ⌜ size ≤ 128 ⌝ }

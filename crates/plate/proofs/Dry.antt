@@ -12,8 +12,8 @@ use lib.Pow.{pow-add, pow-pos, pow-mono}
 use lib.Ieee.{Float, nan, inf, fin, binary32, prec, emax, low, up, down, odd, units, round, sum, add, neg, sub, le, fits}
 use lib.Ieee.Fits.{down-pos, and-l, and-r, round-is}
 use lib.Ieee.Order.{round-mono}
-use Rattle.leaves.specs.Floors.{finiteF}
-use Rattle.leaves.proofs.Floors.{nothing-le}
+use Rattle.values.specs.Floors.{finiteF}
+use Rattle.values.proofs.Floors.{nothing-le}
 use Rattle.plate.specs.Plate.{dryOf}
 
 -- ---- a rounded value is finite up to the largest float and one more

@@ -11,8 +11,8 @@ use lib.Ieee.{Float, binary32, toBits, fits}
 use lib.Ieee.Fits.{sub-fits}
 use lib.ListN.{length, getD, length-set}
 use lib.Seq.{getD-set-same, getD-set-other}
-use Rattle.leaves.specs.Floors.{f1, finiteF}
-use Rattle.leaves.specs.Words.{words, unwords, length-words, words-unwords, length-unwords, Bytes}
+use Rattle.values.specs.Floors.{f1, finiteF}
+use Rattle.values.specs.Words.{words, unwords, length-words, words-unwords, length-unwords, Bytes}
 use Rattle.kinds.specs.Cell.{takesNumber, valueFits}
 use Rattle.kinds.specs.declared.kind.NodeKind.{NodeKind}
 use Rattle.kinds.proofs.Rows.{row-laws}

@@ -10,7 +10,7 @@ use borrow.Author.Tests.{ltb-true, lt-ltb, le-ltb}
 use lib.Dec.{ltb}
 use lib.Ieee.{Float}
 use lib.ListN.{length}
-use Rattle.leaves.specs.Floors.{finiteF}
+use Rattle.values.specs.Floors.{finiteF}
 use Rattle.kinds.specs.declared.kind.NodeRecord.{NodeRecord}
 use Rattle.records.specs.Answer.{answer}
 use Rattle.boards.specs.Board.{Parsed}

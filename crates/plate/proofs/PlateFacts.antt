@@ -11,12 +11,12 @@ use lib.Dec.{T, ltb}
 use lib.Ieee.{Float, binary32, ofBits, toBits, fits, round, mul, div, eq, lt, le}
 use lib.Ieee.Bits.{ofBits-toBits}
 use lib.Ieee.Fits.{sub-fits}
-use Rattle.leaves.specs.Floors.{f1, finiteF, within, floorOf}
+use Rattle.values.specs.Floors.{f1, finiteF, within, floorOf}
 use Rattle.leaves.specs.Lengths.{samplesOf, delayOf, allPassOf, placeOf}
 use Rattle.leaves.specs.declared.lengths.Length.the-variants.{Samples}
-use Rattle.leaves.proofs.Patterns.{pattern-lt}
+use Rattle.values.proofs.Patterns.{pattern-lt}
 use Rattle.kinds.specs.Kind.{lineOf, ruleOf}
-use Rattle.leaves.specs.Floats.{finiteBits}
+use Rattle.values.specs.Floats.{finiteBits}
 use Rattle.kinds.specs.declared.kind.Fields.{Fields}
 use Rattle.kinds.specs.declared.kind.Fields.the-variants.{Is, Broken}
 use Rattle.reading.specs.Order.{Wire, wire}

@@ -7,7 +7,7 @@ use borrow.Author.Tests.{leb-true, le-leb, eq-eqb, ne-eqb}
 use lib.Dec.{leb, eqb}
 use lib.Ieee.{Float}
 use lib.ListN.{length}
-use Rattle.leaves.specs.Floors.{finiteF}
+use Rattle.values.specs.Floors.{finiteF}
 use Rattle.records.specs.Answer.{answer}
 use Rattle.boards.specs.Board.{sizeFits}
 use Rattle.records.specs.Write.{nodesBytes, wiresBytes, writeBoard}

@@ -7,8 +7,8 @@ use mathlib.Core.List.{List}
 use lib.ListN.{length, getD}
 use lib.Dec.{ltb, eqb}
 use lib.Ieee.{Float, binary32, toBits}
-use Rattle.leaves.specs.Floors.{finiteF}
-use Rattle.leaves.specs.Words.{words}
+use Rattle.values.specs.Floors.{finiteF}
+use Rattle.values.specs.Words.{words}
 use Rattle.kinds.specs.Kind.{typeOf}
 use Rattle.kinds.specs.declared.kind.NodeKind.{NodeKind}
 use Rattle.records.specs.Answer.{answer}

@@ -7,7 +7,7 @@ use lib.ListN.{length}
 use lib.Dec.{eqb}
 use lib.Ieee.{Float, binary32, toBits, sub}
 use Rattle.leaves.specs.Exponential.{bSevenFifths, bOneFifth}
-use Rattle.leaves.specs.Floors.{f1, finiteF}
+use Rattle.values.specs.Floors.{f1, finiteF}
 use Rattle.reading.specs.Order.{Wire, wire}
 use Rattle.records.specs.Answer.{answer}
 use Rattle.boards.specs.Board.{sizeFits}

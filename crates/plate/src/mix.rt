@@ -2,7 +2,7 @@
 ghost use mathlib.Core.Path.{_≡_};
 ghost use Prim.Native.Nat.{_*_, _<_};
 ghost use lib.ListN.{length};
-ghost use Rattle.leaves.specs.Words.{words};
+ghost use Rattle.values.specs.Words.{words};
 ghost use Rattle.boards.specs.Read.{parsedOf, Sound};
 ghost use Rattle.context.specs.Fine.{Fine};
 ghost use Rattle.plate.specs.Mix.{isMul, checkMul, checkMix, setMix, mixOf};
@@ -10,8 +10,8 @@ use boards::board::Board;
 use context::message::put_number;
 use context::open::judged;
 use kinds::kind::NodeKind;
-use leaves::float::finite;
 use records::answer::Answer;
+use values::float::finite;
 
 fn is_mul(kind: NodeKind) -> bool
     ensures { λ r. ⌜ r ≡ isMul kind ⌝ }

@@ -6,8 +6,6 @@ ghost use lib.ListN.{length};
 ghost use lib.Seq.{sets};
 ghost use Rattle.records.specs.Write.{nodesBytes, wiresBytes, writeBoard};
 ghost use Rattle.plate.specs.Plate.{plateNodes, plateWires, plateCard, writeOf};
-use leaves::float::finite;
-use leaves::float::to_bits;
 use leaves::onepole::B_ONE_FIFTH;
 use leaves::onepole::B_SEVEN_FIFTHS;
 use records::answer::Answer;
@@ -15,6 +13,8 @@ use records::writer::put_end;
 use records::writer::put_head;
 use records::writer::put_node;
 use records::writer::put_wire;
+use values::float::finite;
+use values::float::to_bits;
 
 // Each node's type, whole number and bits of the float; those of the mix, 41, 47, 43 and 49, are put in
 // as the plate is written.

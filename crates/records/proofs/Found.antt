@@ -7,7 +7,7 @@ use native.Mathlib.Omega.{arith}
 use borrow.Author.Tests.{leb-true, le-leb}
 use lib.ListN.{length, drop, length-drop}
 use lib.Dec.{leb, eqb}
-use Rattle.leaves.specs.Bytes.{u16At}
+use Rattle.values.specs.Bytes.{u16At}
 use Rattle.records.specs.Record.{cut, inOrder, foundOf, foundAt}
 use Rattle.records.specs.declared.record.Found.{Found}
 use Rattle.records.specs.declared.record.Found.the-variants.{Head, Node, Wire, End, Refused}

@@ -6,8 +6,8 @@ use mathlib.Core.List.{List, [], _∷_, _++_}
 use native.Mathlib.Omega.{arith}
 use lib.ListN.{length, getD, take, drop}
 use lib.Seq.{getD-drop}
-use Rattle.leaves.specs.Bytes.{u16At, u32At, u16Bytes, u32Bytes}
-use Rattle.leaves.specs.Words.{word, word-digits, Bytes}
+use Rattle.values.specs.Bytes.{u16At, u32At, u16Bytes, u32Bytes}
+use Rattle.values.specs.Words.{word, word-digits, Bytes}
 use Rattle.reading.specs.Order.{Wire}
 use Rattle.records.specs.Write.{NodeCard, Card, headBytes, nodeBytes, wireBytes, endBytes, nodesBytes, wiresBytes, writeBoard}
 

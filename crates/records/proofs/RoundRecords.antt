@@ -9,7 +9,7 @@ use native.Mathlib.Omega.{arith}
 use borrow.Author.Tests.{ltb-false, le-ltb, leb-true, eqb-true, eqb-false}
 use lib.ListN.{length, drop, length-drop}
 use lib.Dec.{ltb, leb, eqb}
-use Rattle.leaves.specs.Bytes.{u16At}
+use Rattle.values.specs.Bytes.{u16At}
 use Rattle.records.specs.Record.{inOrder, sized, foundOf, foundAt}
 use Rattle.records.specs.declared.record.Found.{Found}
 use Rattle.records.specs.declared.record.Found.the-variants.{Head, Node, Wire, End, Refused}

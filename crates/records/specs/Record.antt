@@ -6,7 +6,7 @@ use mathlib.Core.List.{List}
 use mathlib.Core.Bool.{Bool, cond, _&&_, _||_}
 use lib.ListN.{length}
 use lib.Dec.{ltb, leb, eqb}
-use Rattle.leaves.specs.Bytes.{u16At}
+use Rattle.values.specs.Bytes.{u16At}
 use Rattle.records.specs.declared.reader.Reader.{Reader}
 use Rattle.records.specs.declared.record.Found.{Found}
 use Rattle.records.specs.declared.record.Found.the-variants.{Head, Node, Wire, End, Refused}

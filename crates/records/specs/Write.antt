@@ -2,7 +2,7 @@
 -- descriptions and wires; and the bytes that are written for it. Definitions only.
 use Prim.Native.Nat.{ℕ}
 use mathlib.Core.List.{List, [], _∷_, _++_}
-use Rattle.leaves.specs.Bytes.{u16Bytes, u32Bytes}
+use Rattle.values.specs.Bytes.{u16Bytes, u32Bytes}
 use Rattle.reading.specs.Order.{Wire}
 
 -- a node as its record describes it: type, whole number n, bits of the float f

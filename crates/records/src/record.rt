@@ -2,7 +2,7 @@
 // its length.
 ghost use mathlib.Core.Path.{_≡_};
 ghost use Rattle.records.specs.Record.{inOrder, sized, foundOf, foundAt, lengthOf};
-use leaves::bytes::u16_at;
+use values::bytes::u16_at;
 
 // A whole record of a kind that may stand there, of the kind's length; or why not, by number.
 pub enum Found {

@@ -5,11 +5,11 @@ ghost use mathlib.Core.List.{_++_};
 ghost use Prim.Native.Nat.{_+_, _≤_};
 ghost use lib.ListN.{length};
 ghost use lib.Seq.{sets};
-ghost use Rattle.leaves.specs.Bytes.{u16Bytes};
+ghost use Rattle.values.specs.Bytes.{u16Bytes};
 ghost use Rattle.reading.specs.Order.{wire};
 ghost use Rattle.records.specs.Write.{headBytes, nodeBytes, wireBytes, endBytes};
-use leaves::bytes::put_u16;
-use leaves::bytes::put_u32;
+use values::bytes::put_u16;
+use values::bytes::put_u32;
 
 // Two numbers.
 fn put_two(board: &mut [u8], at: usize, a: u16, b: u16)

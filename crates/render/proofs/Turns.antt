@@ -3,7 +3,7 @@ use mathlib.Core.Path.{_≡_, ap, _∙_}
 use mathlib.Core.List.{List}
 use Prim.Native.Nat.{ℕ, _*_}
 use lib.ListN.{length}
-use Rattle.leaves.specs.Words.{words, unwords, Bytes, unwords-words}
+use Rattle.values.specs.Words.{words, unwords, Bytes, unwords-words}
 use Rattle.context.specs.Calls.{Outcome, asLeft}
 use Rattle.context.specs.Calls as calls
 use Rattle.records.specs.declared.answer.Answer.{Answer}

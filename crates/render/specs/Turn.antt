@@ -2,7 +2,7 @@
 use mathlib.Core.Path.{_≡_}
 use mathlib.Core.List.{List}
 use Prim.Native.Nat.{ℕ}
-use Rattle.leaves.specs.Words.{words, unwords}
+use Rattle.values.specs.Words.{words, unwords}
 use Rattle.context.specs.Calls.{Outcome}
 use Rattle.context.specs.Calls as calls
 use Rattle.records.specs.declared.answer.Answer.{Answer}

@@ -9,9 +9,9 @@ use answers::answer::refusal_text;
 use cards::board::Made as Card;
 use cards::board::board_of as read_card;
 use check::same;
-use leaves::float::of_bits;
-use text::number::Float;
-use text::number::float_of;
+use decimals::number::Float;
+use decimals::number::float_of;
+use values::float::of_bits;
 
 // A board's bytes, so many; or something is wrong, and was told.
 pub enum Made {

@@ -3,7 +3,7 @@
 // again what was said, is refused.
 use crate::say;
 use check::same;
-use text::number::whole_of;
+use decimals::number::whole_of;
 use wav::format::Taken;
 
 // What is asked for; `timed` and `picked` tell whether a word said it.

@@ -7,11 +7,11 @@ ghost use lib.ListN.{length};
 mod hash;
 mod record;
 
-use leaves::bytes::u32_at;
 use libc::STDIN_FILENO;
 use libc::STDOUT_FILENO;
 use record::Found;
 use record::answered;
+use values::bytes::u32_at;
 
 fn found_at(s: &[u8], at: usize) -> Found
     requires { ⌜ at + 12 ≤ length (now s) ⌝ }

@@ -8,11 +8,11 @@ use boards::judge::judge;
 use boards::judge::read_board;
 use graph::tail::tail_of;
 use kinds::kind::NodeRecord;
-use leaves::bytes::u16_at;
-use leaves::bytes::u32_at;
-use leaves::bytes::wide;
-use leaves::float::of_bits;
 use records::answer::Answer;
+use values::bytes::u16_at;
+use values::bytes::u32_at;
+use values::bytes::wide;
+use values::float::of_bits;
 
 // An answer and its check.
 pub struct Found {

@@ -3,7 +3,7 @@
 use mathlib.Core.Path.{_≡_, refl}
 use mathlib.Core.Bool.{true, false}
 use mathlib.Core.List.{[], _∷_}
-use Rattle.text.specs.Number.{digitOf, readFrom, wholeOf}
+use Rattle.decimals.specs.Number.{digitOf, readFrom, wholeOf}
 use Rattle.text.specs.Words.{ahead, wordAt}
 use Rattle.rewire.specs.declared.change.Line.the-variants.{Empty, Says, Other}
 use Rattle.rewire.specs.Change.{changeOf}

@@ -8,7 +8,7 @@ use borrow.Author.Tests.{eq-eqb, ne-eqb, eqb-true, eqb-false}
 use lib.Dec.{eqb}
 use lib.ListN.{length, take}
 use lib.Seq.{length-take-le}
-use Rattle.leaves.specs.Words.{Bytes}
+use Rattle.values.specs.Words.{Bytes}
 use Rattle.reading.specs.Order.{Wire}
 use Rattle.boards.specs.Board.{Parsed, Progress, going, refused, whole, memoryLength}
 use Rattle.boards.specs.Judge.{readBoard, answerBy, judgeOf}

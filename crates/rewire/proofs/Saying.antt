@@ -5,7 +5,7 @@ use mathlib.Core.List.{List, [], _∷_}
 use Prim.Native.Nat.{ℕ}
 use native.Mathlib.Omega.{arith}
 use lib.ListN.{length, getD}
-use Rattle.text.specs.declared.number.Whole.{Whole}
+use Rattle.decimals.specs.declared.number.Whole.{Whole}
 use Rattle.rewire.specs.declared.change.Line.the-variants.{Empty, Other}
 use Rattle.rewire.specs.Change.{signed, byWords}
 

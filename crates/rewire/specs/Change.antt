@@ -3,10 +3,10 @@ use Prim.Native.Nat.{ℕ}
 use mathlib.Core.Bool.{true, false, cond, _&&_}
 use mathlib.Core.List.{List, [], _∷_}
 use lib.Dec.{eqb}
-use Rattle.text.specs.Number.{wholeOf}
+use Rattle.decimals.specs.Number.{wholeOf}
 use Rattle.text.specs.Words.{wordAt}
 use Rattle.text.specs.Written.{pair}
-use Rattle.text.specs.declared.number.Whole.{Whole}
+use Rattle.decimals.specs.declared.number.Whole.{Whole}
 use Rattle.rewire.specs.declared.change.Change.{Change}
 use Rattle.rewire.specs.declared.change.Line.{Line}
 use Rattle.rewire.specs.declared.change.Line.the-variants.{Empty, Says, Other}

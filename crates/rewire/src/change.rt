@@ -4,7 +4,7 @@ ghost use Prim.Native.Nat.{_≤_};
 ghost use lib.ListN.{length};
 ghost use Rattle.text.specs.Written.{Wrote};
 ghost use Rattle.rewire.specs.Change.{signed, changeOf, changeLine};
-use text::number::whole_of;
+use decimals::number::whole_of;
 use text::words::word_at;
 use text::written::put_pair;
 

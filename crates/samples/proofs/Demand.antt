@@ -14,7 +14,7 @@ use lib.Dec.{T, eqb}
 use lib.ListN.{length}
 use lib.Ieee.{Float, binary32, fits, toBits}
 use lib.Ieee.Bits.{ofBits-toBits}
-use Rattle.leaves.specs.Words.{Bytes, unwords}
+use Rattle.values.specs.Words.{Bytes, unwords}
 use Rattle.kinds.specs.Rule.{Frame}
 use Rattle.kinds.specs.History.{Heard}
 use Rattle.reading.specs.Order.{Reorders}

@@ -15,7 +15,7 @@ use lib.Arith.{digits-div, digits-mod}
 use lib.ListN.{length, getD, replicate, length-replicate}
 use lib.Ieee.{binary32, toBits}
 use lib.Seq.{ext-getD}
-use Rattle.leaves.specs.Words.{unwords}
+use Rattle.values.specs.Words.{unwords}
 use Rattle.kinds.specs.Kind.{channelsOf}
 use Rattle.kinds.specs.Rule.{Frame, State, withNumber}
 use Rattle.kinds.specs.Cell.{Cell, valuesOf, numberOf, freshCell}

@@ -5,7 +5,7 @@ use mathlib.Core.Path.{_≡_, refl, sym, _∙_}
 use mathlib.Core.List.{List, [], _∷_}
 use lib.ListN.{replicate}
 use lib.Ieee.{ofBits, toBits, add, mul, round}
-use Rattle.leaves.specs.Words.{words, unwords}
+use Rattle.values.specs.Words.{words, unwords}
 use Rattle.kinds.specs.Kind.{ruleOf}
 use Rattle.kinds.specs.Iter.{iter}
 use Rattle.kinds.specs.History.{Heard}

@@ -16,7 +16,7 @@ use lib.Dec.{eqb}
 use lib.Ieee.{Float, binary32, toBits}
 use lib.ListN.{length, getD, set, length-append, length-map}
 use lib.Seq.{paste, set-at}
-use Rattle.leaves.specs.Parts.{part}
+use Rattle.values.specs.Parts.{part}
 use Rattle.kinds.specs.Kind.{channelsOf}
 use Rattle.kinds.specs.Rule.{Frame, State}
 use Rattle.kinds.specs.Cell.{valuesOf}

@@ -3,7 +3,7 @@
 -- Assumes nothing.
 use Prim.Native.Nat.{ℕ, _*_}
 use mathlib.Core.Path.{_≡_, ap, subst⁻¹, _∙_}
-use Rattle.leaves.specs.Words.{words-unwords, length-unwords}
+use Rattle.values.specs.Words.{words-unwords, length-unwords}
 use Rattle.kinds.specs.Cell.{cellFits}
 use Rattle.kinds.proofs.Kept.{judged-fits}
 use Rattle.boards.specs.Board.{Parsed}

@@ -17,8 +17,8 @@ use lib.Dec.{eqb}
 use lib.Ieee.{binary32}
 use lib.Ieee.Bits.{ofBits-fits}
 use lib.ListN.{length, getD}
-use Rattle.leaves.specs.Parts.{part}
-use Rattle.leaves.specs.Words.{words, unwords, length-words, words-unwords}
+use Rattle.values.specs.Parts.{part}
+use Rattle.values.specs.Words.{words, unwords, length-words, words-unwords}
 use Rattle.kinds.specs.Rule.{Frame}
 use Rattle.kinds.specs.Cell.{valueFits, numberFits}
 use Rattle.kinds.proofs.Kept.{value-number}

@@ -17,7 +17,7 @@ use borrow.Author.Tests.{eqb-true}
 use lib.Dec.{eqb}
 use lib.ListN.{length, getD, take, drop, length-append, length-map, List·getD-append, List·getD-map}
 use lib.Seq.{paste, getD-append-add, take-at, drop-at, drop-drop, take-all, take-length}
-use Rattle.leaves.specs.Parts.{part}
+use Rattle.values.specs.Parts.{part}
 use Rattle.kinds.specs.Row.{Writes, mono, keeping, stereo, rowOf}
 use Rattle.kinds.specs.Kind.{channelsBy, channelsOf, lineOf, cellSize}
 use Rattle.kinds.specs.Rule.{Frame, State}

@@ -15,8 +15,8 @@ use lib.Dec.{eqb, ltb}
 use lib.Ieee.{Float, nan, binary32, ofBits, toBits}
 use lib.ListN.{length, getD, set, drop, length-append, length-map, length-set}
 use lib.Seq.{paste, take-at, drop-at, set-append-left}
-use Rattle.leaves.specs.Floats.{floatAt}
-use Rattle.leaves.specs.Parts.{part}
+use Rattle.values.specs.Floats.{floatAt}
+use Rattle.values.specs.Parts.{part}
 use Rattle.kinds.specs.Kind.{channelsOf, cellSize, sourcesFit}
 use Rattle.kinds.specs.Iter.{iter}
 use Rattle.kinds.specs.Rule.{Brought, Frame, State, keeps, leftBy, rightOf, sampleBy, stateBy}

@@ -14,7 +14,7 @@ use native.Mathlib.Omega.{arith}
 use borrow.Author.Tests.{eqb-true}
 use lib.Dec.{eqb}
 use lib.ListN.{length, getD}
-use Rattle.leaves.specs.Words.{words, unwords, words-unwords, Bytes}
+use Rattle.values.specs.Words.{words, unwords, words-unwords, Bytes}
 use Rattle.kinds.specs.Kind.{lineOf}
 use Rattle.kinds.specs.Rule.{Frame}
 use Rattle.kinds.specs.History.{Heard}

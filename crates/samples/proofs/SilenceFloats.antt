@@ -16,7 +16,7 @@ use lib.Ieee.{Float, nan, inf, fin, binary32, unlike, ofBits, toBits, round, add
 use lib.Ieee.Fits.{down-pos}
 use lib.Ieee.Scale.{round-same}
 use Rattle.reading.specs.Table.{All}
-use Rattle.leaves.specs.Floors.{zeroF, finiteF}
+use Rattle.values.specs.Floors.{zeroF, finiteF}
 use Rattle.kinds.specs.Rule.{addTo, total}
 use Rattle.samples.specs.Silence.{Zero}
 

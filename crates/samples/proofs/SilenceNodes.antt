@@ -13,7 +13,7 @@ use lib.Dec.{leb}
 use lib.ListN.{length, getD}
 use lib.Ieee.{Float, nan, binary32, ofBits, toBits}
 use Rattle.reading.specs.Table.{All}
-use Rattle.leaves.specs.Floors.{finiteF}
+use Rattle.values.specs.Floors.{finiteF}
 use Rattle.kinds.specs.Kind.{lineOf, fewest, most, sourcesFit}
 use Rattle.kinds.specs.Node.{LineFits}
 use Rattle.kinds.specs.Rule.{Brought, Frame, first, two, operand, leftOf, rightOf, keeps}

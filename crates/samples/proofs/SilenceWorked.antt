@@ -4,7 +4,7 @@ use Prim.Native.Nat.{ℕ}
 use mathlib.Core.Path.{_≡_, refl}
 use mathlib.Core.List.{List, [], _∷_}
 use lib.Ieee.{ofBits, toBits, add, mul, round}
-use Rattle.leaves.specs.Words.{words, unwords}
+use Rattle.values.specs.Words.{words, unwords}
 use Rattle.kinds.specs.Kind.{ruleOf}
 use Rattle.kinds.specs.Iter.{iter}
 use Rattle.kinds.specs.Rule.{total, leftOf, rightOf, keeps, carryAfter, get, xLine, yLine, placeAfter, lineAfter, sampleBy, stateBy}

@@ -7,7 +7,7 @@ use mathlib.Core.List.{List, [], _∷_, map}
 use lib.ListN.{length, replicate}
 use lib.Dec.{eqb, ltb}
 use lib.Ieee.{nan, binary32, ofBits}
-use Rattle.leaves.specs.Words.{unwords}
+use Rattle.values.specs.Words.{unwords}
 use Rattle.kinds.specs.Kind.{channelsOf, lineOf}
 use Rattle.kinds.specs.declared.kind.NodeKind.{NodeKind}
 use Rattle.kinds.specs.Rule.{Brought, Frame, State, withNumber, sampleBy, stateBy}

@@ -9,7 +9,7 @@ use mathlib.Core.List.{List, [], _∷_, _++_, map}
 use lib.ListN.{length, getD, replicate}
 use lib.Dec.{eqb}
 use lib.Ieee.{Float, binary32, ofBits, toBits}
-use Rattle.leaves.specs.Words.{words, unwords}
+use Rattle.values.specs.Words.{words, unwords}
 use Rattle.kinds.specs.Kind.{channelsOf}
 use Rattle.kinds.specs.Rule.{Brought, Frame, State, withNumber}
 use Rattle.kinds.specs.Cell.{Cell, valuesOf, numberOf, freshCell}

@@ -10,7 +10,7 @@ use mathlib.Core.Bool.{cond}
 use mathlib.Core.List.{List, [], _∷_, map}
 use lib.ListN.{getD}
 use lib.Dec.{eqb}
-use Rattle.leaves.specs.Words.{words}
+use Rattle.values.specs.Words.{words}
 use Rattle.kinds.specs.Rule.{Frame}
 use Rattle.kinds.specs.History.{Heard}
 use Rattle.reading.specs.Order.{Reorders}

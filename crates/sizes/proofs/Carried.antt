@@ -12,7 +12,7 @@ use lib.Dec.{eqb, ltb, leb}
 use lib.ListN.{length, getD, length-map}
 use lib.Ieee.{Float, nan, binary32, ofBits, toBits}
 use borrow.Author.Tests.{leb-true, ltb-true}
-use Rattle.leaves.specs.Floors.{zeroF}
+use Rattle.values.specs.Floors.{zeroF}
 use Rattle.kinds.specs.Kind.{sourcesFit, channelsOf}
 use Rattle.kinds.specs.Rule.{Brought, Frame, keeps}
 use Rattle.kinds.specs.History.{Heard, xs, freshHeard, sampleHeard, heardAfter}

@@ -15,7 +15,7 @@ use lib.Dec.{eqb}
 use lib.ListN.{length, getD, set, length-set, List·getD-map}
 use lib.Seq.{sets, map-set-same, set-set, set-getD, getD-set-same}
 use borrow.Author.Tests.{eqb-true}
-use Rattle.leaves.specs.Bytes.{u16Bytes, u32Bytes}
+use Rattle.values.specs.Bytes.{u16Bytes, u32Bytes}
 use Rattle.kinds.specs.Kind.{lineOf, channelsOf, cellSize}
 use Rattle.kinds.specs.declared.kind.NodeKind.{NodeKind}
 use Rattle.kinds.specs.declared.kind.NodeKind.the-variants.{Pass, Delay}

@@ -18,7 +18,7 @@ use lib.Dec.{eqb, leb, ltb}
 use lib.ListN.{length, getD, take, length-append}
 use lib.Seq.{take-suc}
 use borrow.Author.Tests.{ltb-true, ltb-false, leb-true, leb-false, le-leb, lt-leb, eqb-true, eqb-false, eq-eqb, ne-eqb}
-use Rattle.leaves.specs.Words.{Bytes}
+use Rattle.values.specs.Words.{Bytes}
 use Rattle.kinds.specs.Kind.{lineOf}
 use Rattle.kinds.specs.declared.kind.NodeKind.{NodeKind}
 use Rattle.kinds.specs.declared.kind.NodeKind.the-variants.{Delay}

@@ -10,9 +10,9 @@ use lib.ListN.{set}
 use lib.Ieee.{Float, binary32, toBits, fits}
 use lib.Ieee.Bits.{ofBits-toBits}
 use lib.Ieee.Fits.{sub-fits}
-use Rattle.leaves.specs.Floors.{f1, finiteF}
-use Rattle.leaves.proofs.Patterns.{pattern-lt}
-use Rattle.leaves.specs.Floats.{finiteBits}
+use Rattle.values.specs.Floors.{f1, finiteF}
+use Rattle.values.proofs.Patterns.{pattern-lt}
+use Rattle.values.specs.Floats.{finiteBits}
 use Rattle.kinds.specs.declared.kind.NodeKind.the-variants.{Delay}
 use Rattle.records.specs.Answer.{answer}
 use Rattle.boards.specs.Board.{Parsed, whole, linesOf, memoryLength}

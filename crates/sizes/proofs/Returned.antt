@@ -4,7 +4,7 @@ use mathlib.Core.Path.{_≡_, refl, sym, ap, subst, _∙_}
 use mathlib.Core.List.{List, []}
 use native.Mathlib.Omega.{arith}
 use lib.ListN.{set}
-use Rattle.leaves.specs.Words.{Bytes}
+use Rattle.values.specs.Words.{Bytes}
 use Rattle.kinds.specs.declared.kind.NodeKind.the-variants.{Delay}
 use Rattle.boards.specs.Board.{Parsed, whole}
 use Rattle.boards.specs.Judge.{readBoard}

@@ -11,7 +11,7 @@ use native.Mathlib.Omega.{arith}
 use lib.Dec.{eqb, ltb}
 use lib.ListN.{set}
 use borrow.Author.Tests.{eqb-true, eqb-false, ltb-true, ltb-false}
-use Rattle.leaves.specs.Words.{Bytes}
+use Rattle.values.specs.Words.{Bytes}
 use Rattle.kinds.specs.declared.kind.NodeKind.{NodeKind}
 use Rattle.kinds.specs.declared.kind.NodeKind.the-variants.{Delay}
 use Rattle.reading.specs.Order.{Wire, sources, wire}

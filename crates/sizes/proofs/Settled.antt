@@ -6,8 +6,8 @@ use native.Mathlib.Omega.{arith}
 use lib.ListN.{set}
 use lib.Seq.{sets}
 use Rattle.reading.specs.Table.{All}
-use Rattle.leaves.specs.Bytes.{u16Bytes, u32Bytes}
-use Rattle.leaves.specs.Words.{Bytes}
+use Rattle.values.specs.Bytes.{u16Bytes, u32Bytes}
+use Rattle.values.specs.Words.{Bytes}
 use Rattle.boards.specs.Board.{Parsed, Progress, going, refused, whole}
 use Rattle.boards.specs.Judge.{readBoard}
 use Rattle.sizes.specs.declared.resize.Resized.{Resized}

@@ -10,7 +10,7 @@ use mathlib.Core.Bool.{true}
 use mathlib.Core.List.{List, map}
 use native.Mathlib.Omega.{arith}
 use lib.ListN.{length, replicate}
-use Rattle.leaves.specs.Words.{Bytes, unwords}
+use Rattle.values.specs.Words.{Bytes, unwords}
 use Rattle.kinds.specs.Rule.{Frame}
 use Rattle.reading.specs.Table.{tab, All}
 use Rattle.reading.proofs.Table.{tab-agree}

@@ -8,8 +8,8 @@ use mathlib.Core.List.{List, [], _∷_}
 use lib.ListN.{length}
 use lib.Seq.{sets}
 use lib.Dec.{eqb, leb}
-use Rattle.leaves.specs.Bytes.{u16Bytes, u32Bytes}
-use Rattle.leaves.specs.Words.{Bytes}
+use Rattle.values.specs.Bytes.{u16Bytes, u32Bytes}
+use Rattle.values.specs.Words.{Bytes}
 use Rattle.kinds.specs.Kind.{typeOf}
 use Rattle.kinds.specs.History.{lengthOf}
 use Rattle.kinds.specs.declared.kind.NodeKind.{NodeKind}

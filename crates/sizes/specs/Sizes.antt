@@ -6,8 +6,8 @@ use mathlib.Core.Path.{_≡_}
 use mathlib.Core.Bool.{true}
 use mathlib.Core.List.{List, [], _∷_, _++_, map}
 use lib.ListN.{length, getD, set, take, drop, replicate}
-use Rattle.leaves.specs.Words.{words, unwords}
-use Rattle.leaves.specs.Floats.{finiteBits}
+use Rattle.values.specs.Words.{words, unwords}
+use Rattle.values.specs.Floats.{finiteBits}
 use Rattle.kinds.specs.declared.kind.NodeKind.{NodeKind}
 use Rattle.kinds.specs.declared.kind.NodeKind.the-variants.{Delay}
 use Rattle.reading.specs.Order.{sources, wire}

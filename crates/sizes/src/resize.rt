@@ -19,9 +19,9 @@ use graph::graph::places;
 use graph::graph::visiting_list;
 use kinds::kind::NodeKind;
 use kinds::kind::line_of;
-use leaves::bytes::put_u16;
-use leaves::bytes::put_u32;
-use leaves::bytes::wide;
+use values::bytes::put_u16;
+use values::bytes::put_u32;
+use values::bytes::wide;
 
 // Why a board is not carried to another block size.
 pub enum Reason {

@@ -4,7 +4,7 @@
 ghost use mathlib.Core.Path.{_≡_};
 ghost use Prim.Native.Nat.{_+_, _≤_};
 ghost use Rattle.sources.specs.Gather.{among, countWith, listWith, secondWith};
-use leaves::bytes::wide;
+use values::bytes::wide;
 
 // Whether x is one of the n numbers from `start` on.
 fn among(lists: &[u8; 512], start: usize, n: usize, x: u8) -> bool

@@ -3,12 +3,12 @@
 ghost use mathlib.Core.Path.{_≡_};
 ghost use Prim.Native.Nat.{_+_, _<_, _≤_};
 ghost use lib.ListN.{length};
-use crate::decimal::Decimal;
-use crate::decimal::decimal_of;
-use crate::decimal::power;
 use crate::written::put;
 use crate::written::put_number;
-use leaves::float::to_bits;
+use decimals::decimal::Decimal;
+use decimals::decimal::decimal_of;
+use decimals::decimal::power;
+use values::float::to_bits;
 
 // A digit of base 16.
 fn glyph(digit: u32) -> u8

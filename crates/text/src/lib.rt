@@ -1,8 +1,4 @@
-// Text in lent bytes: the words of a line, numbers read and written.
-pub mod big;
-pub mod decimal;
+// Text in lent bytes: the words of a line, numbers and floats written.
 pub mod float;
-pub mod nearest;
-pub mod number;
 pub mod words;
 pub mod written;

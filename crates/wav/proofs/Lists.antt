@@ -8,7 +8,7 @@ use native.Mathlib.Numerals.{add-one}
 use native.Mathlib.Omega.{arith}
 use lib.ListN.{length, getD, set, take, length-set}
 use lib.Seq.{take-suc-set, take-all}
-use Rattle.leaves.specs.Floors.{finiteF}
+use Rattle.values.specs.Floors.{finiteF}
 use Rattle.wav.specs.Frames.{sampleIn, firstBad, listed, interleaved}
 use Rattle.wav.specs.declared.format.Format.{Format}
 

@@ -14,9 +14,9 @@ use lib.Ieee.Exact.{HasValue, round-exact}
 use lib.Ieee.Back.{round-whole}
 use lib.Ieee.Fits.{down-pos, core, round-is}
 use lib.Ieee.Scale.{round-same}
-use Rattle.leaves.specs.Floors.{whole}
+use Rattle.values.specs.Floors.{whole}
 use Rattle.leaves.specs.Sine.{over23}
-use Rattle.leaves.proofs.Floors.{plain-sign}
+use Rattle.values.proofs.Floors.{plain-sign}
 use Rattle.wav.specs.Frames.{wholeOf, byteOf, longOf}
 use Rattle.wav.proofs.Exact.{small, sizeOf, minus, negated}
 

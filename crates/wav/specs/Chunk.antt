@@ -3,8 +3,8 @@ use Prim.Native.Nat.{ℕ, _+_, _%_}
 use mathlib.Core.Bool.{Bool, cond, _&&_}
 use mathlib.Core.List.{List}
 use lib.Dec.{eqb}
-use Rattle.leaves.specs.Words.{word}
-use Rattle.leaves.specs.Bytes.{u32At}
+use Rattle.values.specs.Words.{word}
+use Rattle.values.specs.Bytes.{u32At}
 use Rattle.wav.specs.declared.chunk.Chunk.{Chunk}
 use Rattle.wav.specs.declared.chunk.Chunk.the-variants.{Format, Data, Other}
 

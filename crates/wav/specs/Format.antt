@@ -4,7 +4,7 @@ use mathlib.Core.Bool.{Bool, true, false, cond}
 use mathlib.Core.List.{List}
 use lib.ListN.{length}
 use lib.Dec.{eqb, ltb}
-use Rattle.leaves.specs.Bytes.{u16At, u32At}
+use Rattle.values.specs.Bytes.{u16At, u32At}
 use Rattle.wav.specs.declared.format.Format.{Format}
 use Rattle.wav.specs.declared.format.Coding.{Coding}
 use Rattle.wav.specs.declared.format.Coding.the-variants.{Whole8, Whole16, Whole24, Whole32, Float32}

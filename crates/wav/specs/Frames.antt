@@ -7,8 +7,8 @@ use lib.ListN.{length, getD}
 use lib.Dec.{ltb}
 use lib.IntN.{pos, negsuc}
 use lib.Ieee.{Float, fin, binary32, ofBits, toBits, round, add, mul, neg}
-use Rattle.leaves.specs.Bytes.{u16At, u32At}
-use Rattle.leaves.specs.Floors.{zeroF, finiteF}
+use Rattle.values.specs.Bytes.{u16At, u32At}
+use Rattle.values.specs.Floors.{zeroF, finiteF}
 use Rattle.leaves.specs.Sine.{over23}
 use Rattle.wav.specs.Format.{widthOf, frameOf}
 use Rattle.wav.specs.declared.format.Format.{Format}

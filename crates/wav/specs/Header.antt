@@ -1,7 +1,7 @@
 -- What stands before the frames of the WAV file that is written. Definitions only.
 use Prim.Native.Nat.{ℕ, _+_, _*_}
 use mathlib.Core.List.{List, _++_}
-use Rattle.leaves.specs.Bytes.{u16Bytes, u32Bytes}
+use Rattle.values.specs.Bytes.{u16Bytes, u32Bytes}
 use Rattle.wav.specs.Chunk.{RIFF, WAVE, fmt, fact, data′}
 
 -- format 3, floats; 2 channels; 44,100 frames a second, of 8 bytes; 32 bits a sample; nothing more

@@ -4,8 +4,8 @@ use mathlib.Core.Bool.{Bool, cond, not, _&&_, _||_}
 use mathlib.Core.List.{List}
 use lib.Dec.{eqb}
 use lib.Ieee.{Float, lt, neg}
-use Rattle.leaves.specs.Floors.{f1, finiteF}
-use Rattle.leaves.specs.Floats.{floatAt}
+use Rattle.values.specs.Floors.{f1, finiteF}
+use Rattle.values.specs.Floats.{floatAt}
 use Rattle.wav.specs.declared.level.Fault.{Fault}
 use Rattle.wav.specs.declared.level.Fault.the-variants.{NotFinite, Loud}
 use Rattle.wav.specs.declared.level.Count.{Count}

@@ -2,16 +2,16 @@
 ghost use mathlib.Core.Path.{_≡_};
 ghost use Prim.Native.Nat.{_*_, _/_};
 ghost use lib.ListN.{length};
-ghost use Rattle.leaves.specs.Words.{words};
+ghost use Rattle.values.specs.Words.{words};
 ghost use Rattle.wav.specs.Frames.{sampleIn, firstBad, blockOf, interleaved};
 ghost use Rattle.wav.specs.Format.{frameOf};
 use crate::format::Format;
 use crate::format::frame_size;
 use crate::sample::frame_at;
-use leaves::bytes::put_word;
-use leaves::bytes::word_at;
-use leaves::float::finite;
-use leaves::float::store;
+use values::bytes::put_word;
+use values::bytes::word_at;
+use values::float::finite;
+use values::float::store;
 
 // Sample i of some frames; zero after the last.
 fn sample_in(frames: &[u8], i: usize, format: Format) -> f32

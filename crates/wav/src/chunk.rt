@@ -2,7 +2,7 @@
 // of its body and the body. A body of odd length is followed by one byte that counts for nothing.
 ghost use mathlib.Core.Path.{_≡_};
 ghost use Rattle.wav.specs.Chunk.{isWave, chunkOf, passed};
-use leaves::bytes::u32_at;
+use values::bytes::u32_at;
 
 // A chunk by its name, with its length.
 pub enum Chunk {

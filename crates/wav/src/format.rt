@@ -3,8 +3,8 @@ ghost use mathlib.Core.Path.{_≡_};
 ghost use Prim.Native.Nat.{_≤_};
 ghost use lib.ListN.{length};
 ghost use Rattle.wav.specs.Format.{widthOf, frameOf, wholeCoded, codedOf, judgedFrame, judgedCoding, judgedAs, formatOf};
-use leaves::bytes::u16_at;
-use leaves::bytes::u32_at;
+use values::bytes::u16_at;
+use values::bytes::u32_at;
 
 // How a sample is coded: a whole number of 8, 16, 24 or 32 bits, or a float of 32.
 pub enum Coding {

@@ -2,7 +2,7 @@
 ghost use mathlib.Core.Path.{_≡_};
 ghost use Prim.Native.Nat.{_≤_};
 ghost use Rattle.wav.specs.Header.{headerOf};
-use leaves::bytes::put_u32;
+use values::bytes::put_u32;
 
 // The most frames that a file can have: its length after the first 8 bytes is a number of 32 bits.
 pub const MOST: usize = 536870905;

@@ -3,10 +3,10 @@
 ghost use mathlib.Core.Path.{_≡_};
 ghost use Prim.Native.Nat.{_+_, _/_, _<_, _≤_, _^_};
 ghost use lib.ListN.{length};
-ghost use Rattle.leaves.specs.Words.{words};
+ghost use Rattle.values.specs.Words.{words};
 ghost use Rattle.wav.specs.Level.{loudF, faultyF, more, counted};
-use leaves::float::finite;
-use leaves::float::load;
+use values::float::finite;
+use values::float::load;
 
 // What is counted: samples that are infinite or NaN; or finite ones above 1 or below -1.
 pub enum Fault {

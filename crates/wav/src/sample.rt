@@ -10,9 +10,9 @@ use crate::format::Coding;
 use crate::format::Format;
 use crate::format::Taken;
 use crate::format::width;
-use leaves::bytes::u16_at;
-use leaves::bytes::u32_at;
-use leaves::float::of_bits;
+use values::bytes::u16_at;
+use values::bytes::u32_at;
+use values::float::of_bits;
 
 fn wide(byte: u8) -> u32
     ensures { λ r. ⌜ (r ≡ byte) × (r < 256) ⌝ }

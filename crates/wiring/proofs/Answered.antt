@@ -7,7 +7,7 @@ use native.Mathlib.Omega.{arith}
 use borrow.Author.Tests.{eq-eqb, ne-eqb}
 use lib.Dec.{eqb, ltb}
 use lib.ListN.{length}
-use Rattle.leaves.specs.Words.{Bytes}
+use Rattle.values.specs.Words.{Bytes}
 use Rattle.boards.specs.Board.{Parsed, Progress, going, refused, whole, wireFits}
 use Rattle.boards.specs.Judge.{readBoard, checkSix}
 use Rattle.boards.specs.BoardParts.{wired as withWires}

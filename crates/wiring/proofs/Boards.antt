@@ -9,7 +9,7 @@ use borrow.Author.Tests.{eqb-true, leb-true}
 use lib.Dec.{eqb, leb}
 use lib.ListN.{length, getD, take, length-append}
 use lib.Seq.{getD-take}
-use Rattle.leaves.specs.Words.{Bytes}
+use Rattle.values.specs.Words.{Bytes}
 use Rattle.kinds.specs.Kind.{sourcesFit, fewest, most}
 use Rattle.kinds.specs.declared.kind.NodeRecord.{NodeRecord}
 use Rattle.reading.specs.Table.{mem}

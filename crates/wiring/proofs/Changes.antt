@@ -13,8 +13,8 @@ use borrow.Author.Tests.{eq-eqb, ltb-false, le-ltb}
 use lib.Dec.{ltb}
 use lib.ListN.{length, getD, take, drop, length-append}
 use lib.Seq.{take-at, drop-at, length-take-le}
-use Rattle.leaves.specs.Bytes.{u16Bytes}
-use Rattle.leaves.specs.Words.{Bytes}
+use Rattle.values.specs.Bytes.{u16Bytes}
+use Rattle.values.specs.Words.{Bytes}
 use Rattle.reading.specs.Order.{Wire, wire}
 use Rattle.boards.specs.Board.{Parsed, Progress, going, refused, whole, wireFits}
 use Rattle.boards.specs.Judge.{readBoard, checkSix}

@@ -10,7 +10,7 @@ use mathlib.Core.List.{List, [], _∷_, _++_, append-assoc}
 use native.Mathlib.Omega.{arith}
 use lib.ListN.{length, take, drop, length-append, take-append-drop}
 use lib.Seq.{take-at, drop-at, take-take, length-take-le, sets, sets-eq}
-use Rattle.leaves.specs.Words.{Bytes}
+use Rattle.values.specs.Words.{Bytes}
 use Rattle.reading.specs.Order.{Wire, Each, wire}
 use Rattle.boards.specs.Board.{Parsed, whole, refused, wireFits, readRecords}
 use Rattle.boards.specs.Judge.{readBoard}

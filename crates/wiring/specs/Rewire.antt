@@ -6,7 +6,7 @@ use mathlib.Core.Bool.{cond}
 use mathlib.Core.List.{List, [], _++_}
 use lib.Dec.{eqb, ltb}
 use lib.ListN.{length, take, drop, replicate}
-use Rattle.leaves.specs.Words.{Bytes}
+use Rattle.values.specs.Words.{Bytes}
 use Rattle.reading.specs.Order.{Wire, wire}
 use Rattle.boards.specs.Board.{Parsed, Progress, going, refused, whole}
 use Rattle.boards.specs.Judge.{readBoard}

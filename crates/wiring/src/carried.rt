@@ -8,7 +8,7 @@ ghost use Rattle.graph.specs.Walking.{Table};
 ghost use Rattle.wiring.specs.Skimming.{Room, LaidPart, Asks, Skimmed, Carries};
 use graph::graph::Order;
 use graph::graph::places;
-use leaves::bytes::wide;
+use values::bytes::wide;
 
 // Where a carried walk stands: how many nodes are listed, and from which place on the old list is still
 // to come.

@@ -17,9 +17,9 @@ use boards::judge::read_board;
 use graph::graph::Order;
 use graph::graph::visiting_list;
 use kinds::kind::sources_fit;
-use leaves::bytes::wide;
 use records::writer::put_end;
 use records::writer::put_wire;
+use values::bytes::wide;
 
 // What a change of wires gives back: number and place as every call, and the new board's visiting list,
 // the first `count` bytes of `listed`, with zeros behind them. A refusal's list is empty.

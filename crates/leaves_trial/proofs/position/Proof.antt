@@ -3,9 +3,9 @@ use borrow.Author.Needs.{needs}
 use mathlib.Core.Path.{sym, subst}
 use Prim.Native.Nat.{_^_}
 use native.Mathlib.Omega.{arith}
-use Rattle.leaves.specs.Floors.{Upto}
+use Rattle.values.specs.Floors.{Upto}
 use Rattle.leaves.specs.Position.{positionOf}
-use Rattle.leaves.proofs.Floors.{upto-more}
+use Rattle.values.proofs.Floors.{upto-more}
 use Rattle.leaves.proofs.Place.{position-upto}
 use Rattle.leaves_trial.proofs.position.Statement.{statement}
 use Rattle.leaves_trial.proofs.position.Tie as tie

@@ -4,15 +4,15 @@ ghost use Prim.Native.Nat.{_+_, _*_, _≤_};
 ghost use lib.ListN.{length};
 ghost use lib.Ieee as ieee;
 ghost use lib.Ieee.{Float, binary32};
-ghost use Rattle.leaves.specs.Words.{words};
+ghost use Rattle.values.specs.Words.{words};
 ghost use Rattle.kinds.specs.Kind.{samplesFrom};
 ghost use Rattle.effects.specs.Block.{stored, opNumber, opSources, given};
 ghost use Rattle.kinds.specs.Cell.{runValues};
 use kinds::cell::NUMBER;
 use kinds::cell::SAMPLES;
 use kinds::kind::NodeKind;
-use leaves::float::load;
-use leaves::float::store;
+use values::float::load;
+use values::float::store;
 
 fn mul_number(cell: &mut [u8], number: f32, size: usize, x: &[f32; 128])
     requires { ⌜ (size ≤ 128) × (4 * (samplesFrom + size) ≤ length (now cell)) ⌝ }

@@ -5,7 +5,7 @@ use Prim.Native.Nat.{ℕ}
 use native.Mathlib.Omega.{arith}
 use lib.ListN.{length, take}
 use lib.Seq.{length-take-le}
-use Rattle.leaves.specs.Words.{Bytes}
+use Rattle.values.specs.Words.{Bytes}
 use Rattle.boards.specs.Judge.{readBoard}
 use Rattle.wiring.specs.Rewire.{wiringBy}
 use Rattle.wiring.specs.declared.rewire.Wiring.{Wiring}

@@ -2,7 +2,7 @@
 use mathlib.Core.Path.{_≡_, _∙_}
 use Prim.Native.Nat.{_+_}
 use denote.Ref.{now}
-use Rattle.leaves.specs.Bytes.{u16At, u32At}
+use Rattle.values.specs.Bytes.{u16At, u32At}
 use Rattle.kinds.specs.Kind.{ruleOf}
 use Rattle.boards.specs.BoardParts.{nodeRead}
 use borrow.Author.Needs.{needs}

@@ -7,7 +7,7 @@ use native.Mathlib.Omega.{arith}
 use borrow.Author.Needs.{needs}
 use lib.ListN.{length, getD}
 use denote.Ref.{now}
-use Rattle.leaves.specs.Bytes.{u16At}
+use Rattle.values.specs.Bytes.{u16At}
 use Rattle.boards.specs.Wires.{wiresOf}
 use Rattle.boards.proofs.Wiring.{wires-stored, wires-length}
 use Rattle.sources.proofs.Tabling.{Tabling, tabling-started, ins-few, counts-few, tabling-more}

@@ -6,7 +6,7 @@ use lib.ListN.{drop}
 use lib.Seq.{sets}
 use Rattle.text.specs.Words.{linesOf}
 use Rattle.cards.specs.Board.{linesSay}
-use Rattle.cards.proofs.Labelling.{from-place}
+use Rattle.card_lines.proofs.Labelling.{from-place}
 use borrow.Author.Needs.{needs}
 use Rattle.cards.proofs.board.board_of.Statement.{statement}
 use Rattle.cards.proofs.board.board_of.Tie as tie

@@ -7,7 +7,7 @@ use borrow.Author.Needs.{needs}
 use lib.ListN.{length, take, drop}
 use Rattle.text.specs.Words.{linesOf}
 use Rattle.text.proofs.Finding.{line-here}
-use Rattle.cards.specs.Line.{saidOf}
+use Rattle.card_lines.specs.Line.{saidOf}
 use Rattle.cards.specs.Adding.{Room, Stepped}
 use Rattle.cards.proofs.Making.{adds-line, Partly, partly-start, partly-on, partly-bad, partly-answer, partly-bytes}
 use Rattle.cards.proofs.board.lines_board.Statement.{statement}

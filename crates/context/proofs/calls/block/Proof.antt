@@ -6,7 +6,7 @@ use mathlib.Core.List.{List}
 use native.Mathlib.Omega.{arith}
 use lib.ListN.{length}
 use borrow.Author.Needs.{needs}
-use Rattle.leaves.specs.Words.{words}
+use Rattle.values.specs.Words.{words}
 use Rattle.context.specs.Memory.{runNodes, runBlock}
 use Rattle.context.specs.Calls.{Outcome, andThen, checkMemory, checkBlocks, checkSamples, checkNeeded, checkValues, asLeft, ranBlock, blockIn, listed}
 use Rattle.context.specs.Fine.{Fine}

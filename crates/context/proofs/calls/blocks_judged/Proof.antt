@@ -1,7 +1,7 @@
 -- `context::calls::blocks_judged` meets its contract. The lengths decide, and then the samples. Assumes nothing.
 use mathlib.Core.Path.{_≡_, sym, ap, _∙_}
 use lib.ListN.{length}
-use Rattle.leaves.specs.Words.{words}
+use Rattle.values.specs.Words.{words}
 use Rattle.context.specs.Calls.{checkSizes, checkSamples}
 use Rattle.records.specs.declared.answer.Answer.{Answer}
 use Rattle.context.proofs.CallChecks.{sizes-accepted, then-passed, then-refused}

@@ -4,7 +4,7 @@ use mathlib.Core.Path.{_≡_, refl, ap, _∙_}
 use native.Mathlib.Omega.{arith}
 use lib.ListN.{length, replicate}
 use borrow.Author.Needs.{needs}
-use Rattle.leaves.specs.Words.{words, unwords}
+use Rattle.values.specs.Words.{words, unwords}
 use Rattle.boards.specs.Board.{cellsOf}
 use Rattle.boards.specs.Judge.{readBoard}
 use Rattle.boards.specs.Read.{parsedOf}

@@ -4,7 +4,7 @@ use mathlib.Core.Path.{_≡_, sym, ap, _∙_}
 use native.Mathlib.Omega.{arith}
 use borrow.Author.Needs.{needs}
 use lib.ListN.{length, take}
-use Rattle.leaves.specs.Words.{words}
+use Rattle.values.specs.Words.{words}
 use Rattle.records.specs.declared.answer.Answer.{Answer}
 use Rattle.context.specs.Memory.{checkCells}
 use Rattle.context.specs.Calls.{checkNeeded}

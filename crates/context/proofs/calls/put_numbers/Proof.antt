@@ -4,8 +4,8 @@ use mathlib.Core.Path.{_≡_, refl, sym, ap, _∙_}
 use native.Mathlib.Omega.{arith}
 use lib.ListN.{length, take, drop}
 use Rattle.context.specs.Memory.{nodeIn}
-use Rattle.leaves.specs.Words.{words}
-use Rattle.leaves.specs.Floats.{setFloat}
+use Rattle.values.specs.Words.{words}
+use Rattle.values.specs.Floats.{setFloat}
 use Rattle.kinds.specs.Cell.{numberOf}
 use Rattle.context.specs.Stages.{putNumbers}
 use Rattle.context.proofs.CallFresh.{numbers-next, numbers-end}

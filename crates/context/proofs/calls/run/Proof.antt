@@ -5,7 +5,7 @@ use mathlib.Core.Path.{_≡_, refl, sym, ap, subst, _∙_}
 use mathlib.Core.List.{List}
 use native.Mathlib.Omega.{arith}
 use lib.ListN.{length, getD, take, drop}
-use Rattle.leaves.specs.Words.{words}
+use Rattle.values.specs.Words.{words}
 use Rattle.kinds.specs.Node.{broughtAt, nodeRun}
 use Rattle.nodes.specs.Ready.{Ready}
 use Rattle.context.specs.Memory.{nodeIn, runNode}

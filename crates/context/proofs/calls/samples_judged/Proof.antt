@@ -3,8 +3,8 @@ use Prim.Native.Nat.{_≤_, _-_}
 use mathlib.Core.Path.{_≡_, refl, sym, ap, _∙_}
 use native.Mathlib.Omega.{arith}
 use lib.ListN.{drop}
-use Rattle.leaves.specs.Words.{words, length-words}
-use Rattle.leaves.specs.Floats.{finiteBits}
+use Rattle.values.specs.Words.{words, length-words}
+use Rattle.values.specs.Floats.{finiteBits}
 use Rattle.context.specs.Calls.{checkSamples}
 use Rattle.context.proofs.CallChecks.{samples-next, samples-wrong, samples-end}
 use Rattle.context.proofs.calls.samples_judged.Statement.{statement}

@@ -3,7 +3,7 @@ use Prim.Native.Nat.{ℕ, _-_, _*_, _≤_}
 use mathlib.Core.Path.{_≡_, refl, sym, ap, _∙_}
 use native.Mathlib.Omega.{arith}
 use lib.ListN.{take, drop}
-use Rattle.leaves.specs.Words.{words}
+use Rattle.values.specs.Words.{words}
 use Rattle.records.specs.declared.answer.Answer.{Answer}
 use Rattle.context.specs.Memory.{leftStart, rightStart, nodeIn, checkCells}
 use Rattle.context.specs.Stages.{StartFits, Starts}

@@ -1,8 +1,8 @@
 -- `context::message::put_number` meets its contract: the number is the first value of the node's cell. Assumes nothing.
 use mathlib.Core.Path.{sym, ap, _∙_}
 use native.Mathlib.Omega.{arith}
-use Rattle.leaves.specs.Words.{words}
-use Rattle.leaves.specs.Floats.{setFloat}
+use Rattle.values.specs.Words.{words}
+use Rattle.values.specs.Floats.{setFloat}
 use Rattle.kinds.specs.declared.kind.NodeRecord.{NodeRecord}
 use Rattle.context.proofs.CallCells.{node-in, cells-in}
 use borrow.Author.Needs.{needs}

@@ -3,7 +3,7 @@ use Prim.Native.Nat.{_≤_, _-_}
 use mathlib.Core.Path.{_≡_, refl, sym, _∙_}
 use native.Mathlib.Omega.{arith}
 use lib.ListN.{take, drop}
-use Rattle.leaves.specs.Words.{words}
+use Rattle.values.specs.Words.{words}
 use Rattle.context.specs.Memory.{checkCells}
 use Rattle.context.proofs.CallChecks.{cells-next, cells-wrong, cells-end}
 use Rattle.context.proofs.open.cells_judged.Statement.{statement}

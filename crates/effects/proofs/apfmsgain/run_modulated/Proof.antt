@@ -6,9 +6,9 @@ use Prim.Native.Nat.{ℕ, _+_, _-_, _^_, _≤_, _<_}
 use native.Mathlib.Omega.{arith}
 use lib.ListN.{length, getD, length-replicate}
 use lib.Ieee.{Float}
-use Rattle.leaves.specs.Floors.{Upto}
+use Rattle.values.specs.Floors.{Upto}
 use Rattle.leaves.specs.Position.{positionOf}
-use Rattle.leaves.proofs.Floors.{upto-more, floor-le}
+use Rattle.values.proofs.Floors.{upto-more, floor-le}
 use Rattle.leaves.proofs.Place.{position-upto}
 use Rattle.effects.specs.Block.{sample, fill, positioned, Split, pair}
 use Rattle.kinds.specs.declared.kind.NodeKind.the-variants.{AllPass}

@@ -2,7 +2,7 @@
 use Prim.Native.Nat.{_-_, _^_}
 use mathlib.Core.Path.{sym, subst}
 use native.Mathlib.Omega.{arith}
-use Rattle.leaves.specs.Floors.{Upto}
+use Rattle.values.specs.Floors.{Upto}
 use Rattle.kinds.proofs.Several.{next2, next6}
 use Rattle.effects.proofs.Splits.{Splitting, splitting-none, splitting-then, splitting-end}
 use Rattle.effects.proofs.apfmsgain.splits.Statement.{statement}

@@ -1,7 +1,7 @@
 -- `effects::delayn::canonical` meets its contract: a NaN's pattern comes back as 7FC00000, any other as itself. Assumes nothing.
 use mathlib.Core.Path.{sym}
 use native.Mathlib.Omega.{arith}
-use Rattle.leaves.proofs.Patterns.{pattern-back, pattern-nan}
+use Rattle.values.proofs.Patterns.{pattern-back, pattern-nan}
 use Rattle.effects.proofs.delayn.canonical.Statement.{statement}
 use Rattle.effects.proofs.delayn.canonical.Tie as tie
 

@@ -5,7 +5,7 @@ use Prim.Native.Nat.{ℕ, _+_, _*_, _≤_, _<_, _-_}
 use native.Mathlib.Omega.{arith}
 use lib.ListN.{length, getD, set}
 use lib.Ieee.{Float, binary32, ofBits, toBits}
-use Rattle.leaves.specs.Words.{words, length-words}
+use Rattle.values.specs.Words.{words, length-words}
 use Rattle.kinds.specs.Kind.{cellSize, samplesFrom}
 use Rattle.effects.specs.Block.{sample, alone}
 use Rattle.effects.specs.Ring.{stretchValues}

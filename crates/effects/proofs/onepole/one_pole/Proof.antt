@@ -8,8 +8,8 @@ use lib.Dec.{T}
 use lib.ListN.{length}
 use lib.Ieee.{Float, binary32, fits}
 use lib.Ieee.Fits.{add-fits}
-use Rattle.leaves.specs.Words.{words, length-words}
-use Rattle.leaves.specs.Floats.{floatAt, setFloat}
+use Rattle.values.specs.Words.{words, length-words}
+use Rattle.values.specs.Floats.{floatAt, setFloat}
 use Rattle.leaves.specs.OnePole.{onePoleOf, onePoleStep}
 use Rattle.leaves.specs.declared.onepole.OnePole.{OnePole}
 use Rattle.kinds.specs.Kind.{cellSize, samplesFrom, numberIndex, carryIndex}

@@ -13,7 +13,7 @@ use borrow.Fn.PlainCycle.{Measures, is, falls, and}
 use Rattle.graph.proofs.graph.visit.Reads as visit
 use Rattle.graph.proofs.graph.visit.Kinds as visit-kinds
 use Rattle.graph.proofs.graph.+visit.Lts-visit as visit-lts
-use Rattle.leaves.proofs.bytes.wide.Reads as wide-reads
+use Rattle.values.proofs.bytes.wide.Reads as wide-reads
 use Rattle.graph.proofs.graph.+visit.{statement}
 use Rattle.graph.proofs.graph.+visit.Tie.{close}
 

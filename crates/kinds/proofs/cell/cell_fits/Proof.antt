@@ -6,7 +6,7 @@ use mathlib.Core.List.{List}
 use Prim.Native.Nat.{ℕ, _+_}
 use lib.ListN.{getD, drop}
 use lib.Seq.{getD-drop}
-use Rattle.leaves.specs.Words.{words}
+use Rattle.values.specs.Words.{words}
 use Rattle.kinds.specs.Kind.{numberIndex, carryIndex, placeIndex}
 use Rattle.kinds.specs.Cell.{numberFits, carryFits, placeFits, cellFits}
 use Rattle.kinds.specs.declared.kind.NodeKind.{NodeKind}

@@ -3,7 +3,7 @@ use mathlib.Core.Path.{_≡_}
 use mathlib.Core.List.{[], _∷_}
 use borrow.Author.Needs.{needs}
 use lib.Ieee.{ofBits}
-use Rattle.leaves.specs.Floors.{zeroF}
+use Rattle.values.specs.Floors.{zeroF}
 use Rattle.kinds.specs.Cell.{numberOf}
 use Rattle.kinds.proofs.Several.{next4}
 use Rattle.kinds.proofs.Arms.{arm}

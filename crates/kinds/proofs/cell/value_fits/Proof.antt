@@ -4,7 +4,7 @@ use mathlib.Core.Bool.{false}
 use mathlib.Core.List.{[], _∷_}
 use borrow.Author.Needs.{needs}
 use lib.Ieee.{ofBits}
-use Rattle.leaves.specs.Floors.{finiteF}
+use Rattle.values.specs.Floors.{finiteF}
 use Rattle.kinds.specs.Cell.{valueFits}
 use Rattle.kinds.proofs.Several.{next3}
 use Rattle.kinds.proofs.Arms.{arm}

@@ -6,7 +6,7 @@ use Prim.Native.Nat.{ℕ}
 use lib.Dec.{eqb}
 use lib.Ieee.{binary32, ofBits}
 use borrow.Author.Needs.{needs}
-use Rattle.leaves.specs.Floors.{f1, finiteF, within}
+use Rattle.values.specs.Floors.{f1, finiteF, within}
 use Rattle.kinds.specs.Row.{inRange, frequency}
 use Rattle.kinds.specs.Cell.{numberFits, carryFits, placeFits}
 use Rattle.kinds.specs.declared.kind.NodeKind.{NodeKind}

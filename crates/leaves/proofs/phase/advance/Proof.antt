@@ -2,7 +2,7 @@
 use mathlib.Core.Path.{_≡_}
 use mathlib.Core.Bool.{true, false}
 use lib.Ieee.{binary32, add, lt, ofBits}
-use Rattle.leaves.specs.Floors.{f1}
+use Rattle.values.specs.Floors.{f1}
 use Rattle.leaves.specs.Phase.{advance}
 use Rattle.leaves.proofs.phase.advance.Statement.{statement}
 use Rattle.leaves.proofs.phase.advance.Tie as tie

@@ -1,7 +1,7 @@
 -- `nodes::block::fetch` meets its contract: after i turns the first i samples are filled in. Assumes nothing.
 use Prim.Native.Nat.{_-_}
 use native.Mathlib.Omega.{arith}
-use Rattle.leaves.specs.Words.{words}
+use Rattle.values.specs.Words.{words}
 use Rattle.effects.specs.Block.{fetched}
 use Rattle.kinds.proofs.Several.{next6}
 use Rattle.effects.proofs.Filled.{Filling, filling-none, filling-then, filling-end}

@@ -7,7 +7,7 @@ use denote.Ref.{now}
 use lib.Dec.{ltb}
 use lib.ListN.{length, getD}
 use lib.Ieee.{Float}
-use Rattle.leaves.specs.Words.{words}
+use Rattle.values.specs.Words.{words}
 use Rattle.kinds.specs.Rule.{Brought, total}
 use Rattle.effects.specs.Block.{sample, fill, fetchedIf}
 use Rattle.kinds.specs.Node.{samplesAt, broughtAt}

@@ -7,7 +7,7 @@ use denote.Ref.{now}
 use borrow.Author.Tests.{lt-ltb, le-ltb}
 use lib.Dec.{ltb}
 use lib.ListN.{length, getD}
-use Rattle.leaves.specs.Words.{words}
+use Rattle.values.specs.Words.{words}
 use Rattle.effects.specs.Block.{fetched, fetchedIf, fill}
 use Rattle.effects.proofs.Filled.{fetch-asked, fetch-not}
 use Rattle.kinds.proofs.Several.{next2, next3}

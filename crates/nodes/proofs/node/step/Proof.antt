@@ -5,8 +5,8 @@ use mathlib.Core.List.{List}
 use Prim.Native.Nat.{ℕ, _+_, _-_, _*_}
 use native.Mathlib.Omega.{arith}
 use denote.Ref.{now}
-use Rattle.leaves.specs.Words.{words}
-use Rattle.leaves.specs.Parts.{words-part, lent-long, lent-run}
+use Rattle.values.specs.Words.{words}
+use Rattle.values.specs.Parts.{words-part, lent-long, lent-run}
 use Rattle.kinds.specs.Kind.{cellSize}
 use Rattle.kinds.specs.Cell.{cellFits, runValues}
 use Rattle.kinds.specs.Node.{broughtAt, nodeRun}

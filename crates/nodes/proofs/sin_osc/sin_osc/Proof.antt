@@ -8,9 +8,9 @@ use native.Mathlib.Omega.{arith}
 use lib.Dec.{T}
 use lib.ListN.{length, length-replicate}
 use lib.Ieee.{Float}
-use Rattle.leaves.specs.Words.{words, length-words}
-use Rattle.leaves.specs.Floats.{floatAt, setFloat}
-use Rattle.leaves.specs.Floors.{f1, f44100, within}
+use Rattle.values.specs.Words.{words, length-words}
+use Rattle.values.specs.Floats.{floatAt, setFloat}
+use Rattle.values.specs.Floors.{f1, f44100, within}
 use Rattle.leaves.specs.Phase.{increment, advance, phaseAfter}
 use Rattle.leaves.specs.Sine.{sineOf, phaseUnits, over23}
 use Rattle.leaves.proofs.PhaseStep.{phase-stays, phase-fits}

@@ -3,8 +3,8 @@ use Prim.Native.Nat.{_+_, _-_}
 use mathlib.Core.Path.{ap, _∙_}
 use native.Mathlib.Omega.{arith}
 use lib.Ieee.{Float}
-use Rattle.leaves.specs.Words.{words}
-use Rattle.leaves.specs.Floats.{setFloat}
+use Rattle.values.specs.Words.{words}
+use Rattle.values.specs.Floats.{setFloat}
 use Rattle.nodes.specs.Phases.{sineAt}
 use Rattle.kinds.proofs.Several.{next7}
 use Rattle.effects.proofs.Filled.{Storing, storing-none, storing-then, storing-end}

@@ -4,7 +4,7 @@ use mathlib.Core.Path.{ap, _∙_}
 use mathlib.Core.List.{List}
 use native.Mathlib.Omega.{arith}
 use lib.Ieee.{Float, binary32, add}
-use Rattle.leaves.specs.Words.{words}
+use Rattle.values.specs.Words.{words}
 use Rattle.effects.specs.Block.{sample, added}
 use Rattle.kinds.proofs.Several.{next8}
 use Rattle.effects.proofs.Filled.{Filling, filling-none, filling-then, filling-end, fill-ahead}

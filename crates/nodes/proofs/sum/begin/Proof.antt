@@ -3,8 +3,8 @@ use Prim.Native.Nat.{_-_}
 use mathlib.Core.Path.{ap}
 use native.Mathlib.Omega.{arith}
 use lib.Ieee.{binary32, add, ofBits}
-use Rattle.leaves.specs.Words.{words}
-use Rattle.leaves.specs.Floors.{zeroF}
+use Rattle.values.specs.Words.{words}
+use Rattle.values.specs.Floors.{zeroF}
 use Rattle.effects.specs.Block.{begun}
 use Rattle.kinds.proofs.Several.{next6}
 use Rattle.effects.proofs.Filled.{Filling, filling-none, filling-then, filling-end}

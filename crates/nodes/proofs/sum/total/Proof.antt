@@ -4,7 +4,7 @@ use Prim.Native.Nat.{ℕ, _+_, _*_, _-_, _≤_, _<_}
 use native.Mathlib.Omega.{arith}
 use denote.Ref.{now}
 use lib.ListN.{length, getD, take}
-use Rattle.leaves.specs.Words.{words}
+use Rattle.values.specs.Words.{words}
 use Rattle.effects.specs.Block.{fill, begun}
 use Rattle.nodes.specs.Ready.{totalAt}
 use Rattle.nodes.proofs.Totals.{sum-none, sum-one, sum-more, sum-all}

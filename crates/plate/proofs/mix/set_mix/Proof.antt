@@ -4,7 +4,7 @@ use mathlib.Core.Path.{_≡_, sym, ap, _∙_}
 use mathlib.Core.List.{List}
 use native.Mathlib.Omega.{arith}
 use borrow.Author.Needs.{needs}
-use Rattle.leaves.specs.Words.{words}
+use Rattle.values.specs.Words.{words}
 use Rattle.boards.specs.Board.{Parsed}
 use Rattle.boards.specs.Read.{parsedOf}
 use Rattle.records.specs.declared.answer.Answer.{Answer}

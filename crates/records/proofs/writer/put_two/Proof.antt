@@ -2,7 +2,7 @@
 use mathlib.Core.Path.{refl}
 use Prim.Native.Nat.{_+_}
 use denote.Ref.{now}
-use Rattle.leaves.specs.Bytes.{u16Bytes}
+use Rattle.values.specs.Bytes.{u16Bytes}
 use Rattle.records.proofs.Stores.{next}
 use borrow.Author.Needs.{needs}
 use Rattle.records.proofs.writer.put_two.Statement.{statement}

@@ -6,9 +6,9 @@ use Prim.Native.Nat.{ℕ}
 use lib.ListN.{length, getD}
 use borrow.Author.Tests.{not-true, not-false}
 use borrow.Author.Needs.{needs}
-use Rattle.text.specs.Number.{wholeOf}
+use Rattle.decimals.specs.Number.{wholeOf}
 use Rattle.text.specs.Words.{wordAt}
-use Rattle.text.specs.declared.number.Whole.{Whole}
+use Rattle.decimals.specs.declared.number.Whole.{Whole}
 use Rattle.rewire.specs.declared.change.Line.the-variants.{Other}
 use Rattle.rewire.specs.Change.{signed, changeOf}
 use Rattle.rewire.proofs.Saying.{no-words, long-sign, more-words, said}

@@ -7,8 +7,8 @@ use native.Mathlib.Omega.{arith}
 use borrow.Author.Needs.{needs}
 use lib.ListN.{length}
 use lib.Seq.{sets}
-use Rattle.leaves.specs.Bytes.{u32Bytes}
-use Rattle.leaves.specs.Words.{Bytes}
+use Rattle.values.specs.Bytes.{u32Bytes}
+use Rattle.values.specs.Words.{Bytes}
 use Rattle.boards.specs.Board.{whole}
 use Rattle.boards.specs.Judge.{readBoard}
 use Rattle.boards.specs.Read.{parsedOf}

@@ -1,6 +1,6 @@
 -- `text::float::put_float` meets its contract: a decimal that was found has at most 10 places. Assumes nothing.
 use mathlib.Core.Path.{subst}
-use Rattle.text.specs.Decimal.{Prints}
+use Rattle.decimals.specs.Decimal.{Prints}
 use borrow.Author.Needs.{needs}
 use Rattle.text.proofs.float.put_float.Statement.{statement}
 use Rattle.text.proofs.float.put_float.Tie as tie

@@ -4,8 +4,8 @@ use native.Mathlib.Omega.{arith}
 use Prim.Native.Nat.{ℕ, _≤_, _<_, _-_}
 use denote.Ref.{now}
 use lib.ListN.{length, take}
-use Rattle.leaves.specs.Words.{words, length-words}
-use Rattle.leaves.specs.Floats.{setFloat}
+use Rattle.values.specs.Words.{words, length-words}
+use Rattle.values.specs.Floats.{setFloat}
 use Rattle.wav.specs.Frames.{listed, blockOf}
 use Rattle.wav.proofs.Lists.{listed-next, listed-end}
 use Rattle.wav.proofs.block.fill.Statement.{statement}

@@ -3,7 +3,7 @@ use Prim.Native.Nat.{ℕ, _≤_, _-_, _/_}
 use denote.Ref.{now}
 use lib.ListN.{length}
 use native.Mathlib.Nat.{sub-zero, div-le-self, le-antisymm}
-use Rattle.leaves.specs.Floors.{finiteF}
+use Rattle.values.specs.Floors.{finiteF}
 use mathlib.Core.Path.{_≡_, sym, ap, _∙_}
 use native.Mathlib.Omega.{arith}
 use borrow.Author.Needs.{needs}

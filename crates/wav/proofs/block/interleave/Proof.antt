@@ -4,7 +4,7 @@ use native.Mathlib.Omega.{arith}
 use Prim.Native.Nat.{ℕ, _+_, _*_, _≤_, _<_, _-_}
 use denote.Ref.{now}
 use lib.ListN.{length, take, set}
-use Rattle.leaves.specs.Words.{words, length-words}
+use Rattle.values.specs.Words.{words, length-words}
 use Rattle.wav.specs.Frames.{interleaved}
 use Rattle.wav.proofs.Lists.{pair-next, interleaved-end}
 use Rattle.wav.proofs.block.interleave.Statement.{statement}

@@ -6,8 +6,8 @@ use denote.Ref.{now}
 use lib.ListN.{length}
 use native.Mathlib.Numerals.{add-one}
 use native.Mathlib.Omega.{arith}
-use Rattle.leaves.specs.Words.{words}
-use Rattle.leaves.specs.Floats.{floatAt}
+use Rattle.values.specs.Words.{words}
+use Rattle.values.specs.Floats.{floatAt}
 use Rattle.wav.specs.Level.{faultyF, more, counted}
 use Rattle.wav.proofs.level.count_faults.Statement.{statement}
 use Rattle.wav.proofs.level.count_faults.Tie as tie

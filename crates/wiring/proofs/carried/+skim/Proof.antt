@@ -21,7 +21,7 @@ use Rattle.wiring.proofs.carried.skim.Reads as skim
 use Rattle.wiring.proofs.carried.skim.Kinds as skim-kinds
 use Rattle.wiring.proofs.carried.+skim.Lts-skim as skim-lts
 use Rattle.wiring.proofs.carried.lay_part.Reads as lay-part-reads
-use Rattle.leaves.proofs.bytes.wide.Reads as wide-reads
+use Rattle.values.proofs.bytes.wide.Reads as wide-reads
 use Rattle.wiring.proofs.carried.+skim.{statement}
 use Rattle.wiring.proofs.carried.+skim.Tie.{close}
 

@@ -7,7 +7,7 @@ use borrow.Author.Needs.{needs}
 use borrow.Author.Tests.{ltb-false}
 use lib.ListN.{length, take}
 use lib.Seq.{length-take-le}
-use Rattle.leaves.specs.Words.{Bytes}
+use Rattle.values.specs.Words.{Bytes}
 use Rattle.boards.specs.Board.{Parsed, whole}
 use Rattle.boards.specs.Judge.{readBoard}
 use Rattle.records.proofs.RoundBytes.{bytes-front}

@@ -8,7 +8,7 @@ use native.Mathlib.Omega.{arith}
 use borrow.Author.Needs.{needs}
 use borrow.Author.Tests.{not-true, not-false}
 use lib.ListN.{length, getD}
-use Rattle.leaves.specs.Words.{Bytes}
+use Rattle.values.specs.Words.{Bytes}
 use Rattle.reading.specs.Order.{Wire}
 use Rattle.boards.specs.Read.{parsedOf}
 use Rattle.graph.specs.Visit.{visitingList, Lists}

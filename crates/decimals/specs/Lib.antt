@@ -1,0 +1,4 @@
+-- What the contracts of `decimals` cite.
+pub mod Decimal
+pub mod Number
+pub mod Big
