@@ -118,6 +118,16 @@ for out in copy link nowhere; do
 done
 [ -L "$work/link.wav" ] && [ -L "$work/folder/near.wav" ] && [ -L "$work/nowhere.wav" ] && [ -f "$work/new.wav" ] || fail "a link is replaced"
 ! cmp -s "$work/in.wav" "$work/copy.wav" || fail "a copy of the input is not written"
+mkfifo "$work/pipe"
+cat "$work/pipe" >"$work/piped.wav" &
+"$bin/render" "$work/in.wav" "$work/pipe" plate 0.5 2>"$work/err"
+wait
+"$bin/render" "$work/in.wav" /dev/stdout plate 0.5 2>"$work/err" | cat >"$work/passed.wav"
+"$bin/render" "$work/in.wav" >(cat >"$work/substituted.wav") plate 0.5 2>"$work/err"
+for out in piped passed substituted; do
+    for try in 1 2 3 4 5 6 7 8 9; do cmp -s "$work/copy.wav" "$work/$out.wav" && break || sleep 0.2; done
+    cmp -s "$work/copy.wav" "$work/$out.wav" || fail "$out.wav: another sound through a pipe: $(cat "$work/err")"
+done
 "$bin/render" "$work/in.wav" "$work/round.wav" plate 0.5 2>"$work/err"
 grep -q 'links without an end' "$work/err" && [ -L "$work/round.wav" ] || fail "round.wav: $(cat "$work/err")"
 cmp -s examples/sound.wav "$work/in.wav" || fail "a render writes over what it reads"

@@ -6,7 +6,7 @@ ghost use Prim.Native.Nat.{_+_, _≤_};
 ghost use lib.ListN.{length};
 ghost use Rattle.libc.specs.Io.{Ended};
 ghost use Rattle.io.specs.Counts.{Counts};
-use crate::identify;
+use crate::is_open_file;
 
 // How an output is written: straight to what is there, or beside it first; or it cannot be.
 pub enum Way {
@@ -137,19 +137,20 @@ pub fn led_to(output: &[u8], name: &mut [u8]) -> usize
     0
 }
 
-// What is no regular file, as a pipe or /dev/null, is written straight. A file that may not be written
-// is not replaced either. Opening it for reading and writing neither waits nor changes it.
-pub fn way_of(file: &[u8]) -> Way {
-    let old = os::open_update(file);
+// The way of an output whose links lead to `file`. What is no regular file, as a pipe or /dev/null, is
+// written straight, and so is one that the links do not name, as those of /dev/fd. A file that may not
+// be written is not replaced either. Opening it for reading and writing neither waits nor changes it.
+pub fn way_of(output: &[u8], file: &[u8]) -> Way {
+    let old = os::open_update(output);
     if old < 0 {
         if os::errno() == libc::ENOENT {
             return Way::Beside;
         }
         return Way::Closed;
     }
-    let told = identify(old);
+    let named = is_open_file(old, file);
     libc::close(old);
-    if told.regular {
+    if named {
         return Way::Beside;
     }
     Way::Straight

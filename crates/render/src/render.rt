@@ -235,7 +235,7 @@ fn to_output(to: i32, run: Run, board: &[u8], mixed: bool, input: &[u8], output:
         return;
     }
     let file = &name[..n];
-    match way_of(file) {
+    match way_of(output, file) {
         Way::Straight => straight(to, run, board, mixed, input, output),
         Way::Beside => beside(to, run, board, mixed, input, output, file),
         Way::Closed => say::failed(to, output, b"cannot be opened for writing"),
