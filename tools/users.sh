@@ -119,7 +119,7 @@ done
 [ -L "$work/link.wav" ] && [ -L "$work/folder/near.wav" ] && [ -L "$work/nowhere.wav" ] && [ -f "$work/new.wav" ] || fail "a link is replaced"
 ! cmp -s "$work/in.wav" "$work/copy.wav" || fail "a copy of the input is not written"
 mkfifo "$work/pipe"
-cat "$work/pipe" >"$work/piped.wav" &
+timeout 20 cat "$work/pipe" >"$work/piped.wav" &
 "$bin/render" "$work/in.wav" "$work/pipe" plate 0.5 2>"$work/err"
 wait
 "$bin/render" "$work/in.wav" /dev/stdout plate 0.5 2>"$work/err" | cat >"$work/passed.wav"
