@@ -1,2 +1,3 @@
 -- Laws of positions split in a loop.
+pub mod Positions
 pub mod Splits

@@ -220,7 +220,7 @@ pub fn why(s: &[u8], number: u32, place: u32, out: &mut [u8], at: usize) -> usiz
 }
 
 // Where a line stands in a text: its number, from 1, and its bytes; 0 where it is not found.
-#[derive(Drop)]
+#[derive(Clone, Copy)]
 struct Spot {
     line: usize,
     from: usize,

@@ -62,7 +62,7 @@ const INPUT_WIRED: usize = 22;
 
 // A rule that is broken; one that names a node; or a node's sources, with the fewest and the most that it
 // takes.
-#[derive(Drop)]
+#[derive(Clone, Copy)]
 pub enum Fault {
     Rule(usize),
     Node(usize, u32),
@@ -70,7 +70,7 @@ pub enum Fault {
 }
 
 // A node record's fields.
-#[derive(Drop)]
+#[derive(Clone, Copy)]
 pub struct Fields {
     pub t: u16,
     pub n: u32,
@@ -93,7 +93,7 @@ pub fn fields_at(s: &[u8], at: usize) -> Fields {
 }
 
 // The two numbers of the head at 0 or of the wire record at `at`; zeros where there is none.
-#[derive(Drop)]
+#[derive(Clone, Copy)]
 pub struct Ends {
     pub first: u16,
     pub second: u16,

@@ -14,7 +14,7 @@ use Rattle.kinds.specs.declared.kind.NodeRecord.{NodeRecord}
 use Rattle.reading.specs.Order.{Wire}
 use Rattle.records.specs.Answer.{answer}
 use Rattle.records.specs.Record.{found_at}
-use Rattle.boards.specs.Board.{Parsed, going, refused, blank, headed, lines_of, cells_of, step_of, run}
+use Rattle.boards.specs.Board.{Parsed, going, blank, headed, lines_of, cells_of, step_of, run}
 use Rattle.boards.specs.Wires.{Within, wires_of}
 use Rattle.boards.specs.BoardParts.{noded, wired, node_read, Bounds, NodesRead, WiresRead}
 use Rattle.records.specs.declared.answer.Answer.{Answer}

@@ -23,7 +23,7 @@ use Rattle.boards.proofs.RoundSources.{once_distinct, distinct_leads, sources_co
 
 pub records_length : (N at : ℕ) (ds : List NodeCard) → length (records_from N at ds) ≡ length ds
 records_length N at [] = refl
-records_length N at (d ∷ ds) = ap suc (records_length N _ ds)
+records_length N at (d ∷ ds) = ap suc (records_length N (at + cell_size N (kind_of d)) ds)
 
 -- ---- the input node
 

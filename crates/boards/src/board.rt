@@ -20,7 +20,7 @@ use sources::sources::{add_source, second};
 use values::bytes::{u16_at, u32_at, wide};
 
 // The head: block size and input node.
-#[derive(Drop)]
+#[derive(Clone, Copy)]
 pub struct Head {
     pub refused: Answer,
     pub size: usize,
@@ -29,7 +29,7 @@ pub struct Head {
 
 // The nodes: how many, each as read, the bounds of its sources' number, the values of their cells
 // together, and the next offset.
-#[derive(Drop)]
+#[derive(Clone, Copy)]
 pub struct Nodes {
     pub refused: Answer,
     pub count: usize,
@@ -40,7 +40,7 @@ pub struct Nodes {
 }
 
 // The wires: how many, and the next offset.
-#[derive(Drop)]
+#[derive(Clone, Copy)]
 pub struct Wires {
     pub refused: Answer,
     pub count: usize,
@@ -49,7 +49,7 @@ pub struct Wires {
 
 // The board as read. Where its head or a node is refused there are no nodes and no wires. `values` are
 // those of all cells; counts, lists and seconds are the table of sources.
-#[derive(Drop)]
+#[derive(Clone, Copy)]
 pub struct Board {
     pub refused: Answer,
     pub size: usize,
@@ -67,7 +67,7 @@ pub struct Board {
 
 // One record of the nodes: what it says, or the number that ends the part, 0 where another kind
 // follows and else the refusal's.
-#[derive(Drop)]
+#[derive(Clone, Copy)]
 pub enum NodeRead {
     Is(NodeKind),
     Ends(u32),

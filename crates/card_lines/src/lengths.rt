@@ -9,7 +9,7 @@ use leaves::lengths::{Length, all_pass_length, delay_length};
 use values::float::of_bits;
 
 // A length in samples; or what is wrong with the word.
-#[derive(Drop)]
+#[derive(Clone, Copy)]
 pub enum Samples {
     Is(u32),
     Bad(Reason),

@@ -17,7 +17,7 @@ use decimals::number::{Float, float_of, whole_of};
 use text::words::{word_at, word_count};
 
 // What a line says. A node has its type, its whole number and its float's bits.
-#[derive(Drop)]
+#[derive(Clone, Copy)]
 pub enum Line {
     Blank,
     Head(u16, u16),

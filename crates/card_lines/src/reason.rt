@@ -1,5 +1,5 @@
 // What is wrong with a line of a card.
-#[derive(Drop)]
+#[derive(Clone, Copy)]
 pub enum Reason {
     // No line starts with this word; or the head has no `input`.
     Name,

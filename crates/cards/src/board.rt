@@ -15,7 +15,7 @@ use records::writer::{put_end, put_head, put_node, put_wire};
 use text::words::{Stop, find};
 
 // How far a board is written: its bytes, its nodes and its wires.
-#[derive(Drop)]
+#[derive(Clone, Copy)]
 pub struct Written {
     pub at: usize,
     pub nodes: usize,
@@ -23,14 +23,14 @@ pub struct Written {
 }
 
 // A line's record written; or what is wrong with the line.
-#[derive(Drop)]
+#[derive(Clone, Copy)]
 pub enum Step {
     On(Written),
     Bad(Reason),
 }
 
 // A board of so many bytes that the judge accepts; or its refusal; or a bad line.
-#[derive(Drop)]
+#[derive(Clone, Copy)]
 pub enum Made {
     Board(usize),
     Refused(u32, u32),

@@ -10,7 +10,7 @@ use values::bytes::wide;
 
 // Where a carried walk stands: how many nodes are listed, and from which place on the old list is still
 // to come.
-#[derive(Drop)]
+#[derive(Clone, Copy)]
 pub struct Stand {
     pub count: usize,
     pub at: usize,

@@ -2,7 +2,7 @@
 --     words-paste       the words of bytes with a part replaced
 --     Checked           what the checks behind 6 say where they pass
 --     board_table, board_gathered    the sources as the visiting list asks for them
---     AcceptedRun       an accepted call; few_bytes, input_room, output-room: its memory is small, and the blocks lie within it
+--     AcceptedRun       an accepted call; few_bytes, input_room, output_room: its memory is small, and the blocks lie within it
 --     input_put, input_runs    the input block put, and what the run of the listed nodes then asks
 -- Assumes nothing.
 use Prim.Native.Nat.{ℕ, ◌+◌, ◌*◌, ◌≤◌, ◌<◌}
@@ -27,7 +27,7 @@ use Rattle.memory.specs.Fine.{Fine}
 use Rattle.running.specs.Lent.{Runs}
 use Rattle.boards.specs.declared.board.Board.{Board}
 use Rattle.graph.specs.declared.graph.Order.{Order}
-use Rattle.memory.proofs.CallCells.{cell_in, node_in, count_nodes}
+use Rattle.memory.proofs.CallCells.{cell_in, node_in_lem, count_nodes}
 use Rattle.context.proofs.BlockChecks.{sizes_accepted}
 use Rattle.memory.proofs.CallChecks.{then_both}
 use Rattle.memory.proofs.CallLaws.{Whole, Judged, judged_passed}
@@ -94,7 +94,7 @@ module _ {m x l r : List ℕ} {b : Board} (run : AcceptedRun m x l r b) where
       omega (arith, cell_in (parsed_of b) run.fine b.input run.fine.input_there)
 
   start_is : (node_at (parsed_of b) b.input).cell + 3 ≡ start
-  start_is = ap (λ (n : NodeRecord). n.cell + 3) (node_in b run.sound b.input there)
+  start_is = ap (λ (n : NodeRecord). n.cell + 3) (node_in_lem b run.sound b.input there)
 
   pub input_room : 4 * ((node_in b.nodes b.input).cell + 3) + 4 * b.size ≤ length m
   input_room = omega (arith, input_cell, start_is, checked.long)

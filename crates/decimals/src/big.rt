@@ -3,13 +3,13 @@ ghost use Rattle.std.specs.Prelude.{◌≡◌, ◌+◌, ◌*◌, ◌^◌, ◌<�
 ghost use Rattle.decimals.specs.Big.{value_of, limit};
 
 // A number in words of 32 bits, the lowest first.
-#[derive(Drop)]
+#[derive(Clone, Copy)]
 pub struct Big {
     pub words: [u32; 16],
 }
 
 // Two numbers compared, and what is left of the first where it is not the less.
-#[derive(Drop)]
+#[derive(Clone, Copy)]
 pub struct Difference {
     pub rest: Big,
     pub less: bool,

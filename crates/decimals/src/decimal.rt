@@ -7,7 +7,7 @@ ghost use Rattle.decimals.specs.Decimal.{over, Prints};
 use values::float::to_bits;
 
 // A decimal: its digits as a whole number, over ten to `places`; or none that gives the float.
-#[derive(Drop)]
+#[derive(Clone, Copy)]
 pub enum Decimal {
     Is(u32, u32),
     Nothing,

@@ -1,4 +1,6 @@
 // Numbers in text: whole numbers, decimals and the floats nearest to them, read from words.
+#![tactic(auto)]
+
 pub mod big;
 pub mod decimal;
 pub mod nearest;

@@ -12,14 +12,14 @@ ghost use Rattle.decimals.specs.Decimal.{nearest_to};
 use crate::big::{Big, minus, raised, small, times};
 
 // 2^24 units, which are 2^k smallest floats each.
-#[derive(Drop)]
+#[derive(Clone, Copy)]
 struct Scale {
     unit: Big,
     k: u32,
 }
 
 // The whole part of a quotient, and what is left.
-#[derive(Drop)]
+#[derive(Clone, Copy)]
 struct Quotient {
     whole: u32,
     rest: Big,

@@ -7,7 +7,7 @@ use crate::big::{Big, small, times};
 use crate::nearest::nearest;
 
 // A run of digits: its value, and the place after it.
-#[derive(Drop)]
+#[derive(Clone, Copy)]
 pub struct Run {
     pub value: u64,
     pub next: usize,
@@ -15,7 +15,7 @@ pub struct Run {
 
 // The digits of a decimal: those up to `point`, and those from `after` up to `next`, with a point
 // between if there is one.
-#[derive(Drop)]
+#[derive(Clone, Copy)]
 pub struct Digits {
     pub point: usize,
     pub after: usize,
@@ -23,7 +23,7 @@ pub struct Digits {
 }
 
 // The power of ten at the end of a decimal, if it is one: times ten to `up`, or over ten to `down`.
-#[derive(Drop)]
+#[derive(Clone, Copy)]
 pub struct Power {
     pub up: u64,
     pub down: u64,
@@ -39,14 +39,14 @@ impl Power {
 }
 
 // A whole number, if it is one.
-#[derive(Drop)]
+#[derive(Clone, Copy)]
 pub struct Whole {
     pub value: u64,
     pub good: bool,
 }
 
 // The bits of a float; or a word that is no float; or a decimal that is too long.
-#[derive(Drop)]
+#[derive(Clone, Copy)]
 pub enum Float {
     Is(u32),
     Bad,

@@ -28,7 +28,7 @@ use Rattle.samples.proofs.Lawful.{Setting}
 use Rattle.samples.proofs.DemandOn as theorem
 use Rattle.samples.proofs.Demand.{fresh_call}
 use Rattle.samples.proofs.Demand as without
-use Rattle.demand.specs.Requests.{Lent, board_in, wires_on, Request, effects_of, said_to, requested, IsRewired, memory_then}
+use Rattle.demand.specs.Requests.{Lent, board_in, wires_on, Request, effects_of, said_to, requested, IsRewired}
 use Rattle.demand.specs.Instance.{Plays}
 use Rattle.demand.specs.Claim.{request_in, AsRewired, Orders, RewiredClaim, RewiredDemand}
 use Rattle.demand.proofs.Lends.{plays, board_bytes, plays_fine, request_leaves, request_fits}

@@ -21,7 +21,6 @@ use Rattle.wiring.proofs.Answered.{lent_refused}
 use Rattle.wiring.specs.declared.rewire.Wiring.{Wiring}
 use Rattle.memory.specs.Memory.{kind_at}
 use Rattle.samples.specs.Reading.{Call, effects, silence}
-use Rattle.samples.specs.Claim.{call_in}
 use Rattle.samples.specs.Instance.{Cells, board_with, memory_with, Held, memory_of}
 use Rattle.samples.proofs.ShownBlock.{reordered}
 use Rattle.samples.proofs.ShownCall.{doing, effects-wiring, call_shown}

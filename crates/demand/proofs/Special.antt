@@ -35,7 +35,7 @@ use Rattle.memory.proofs.FineBoard.{fine_board, lists}
 use Rattle.samples.proofs.ShownCall.{effects-wiring}
 use Rattle.samples.proofs.DemandReading as full
 use Rattle.samples.proofs.DemandAfter.{accepted-whole, memory_shown, replies_same}
-use Rattle.demand.specs.Requests.{Lent, board_in, wires_read, wires_on, call, effects_of, requested, board_at, IsRewired, memory_then, Said, replied, wired, said_by}
+use Rattle.demand.specs.Requests.{Lent, board_in, wires_read, wires_on, call, effects_of, board_at, IsRewired, Said, replied, wired, said_by}
 use Rattle.demand.specs.Claim.{request_in, Orders, RewiredClaim, RewiredDemand}
 use Rattle.records.proofs.RoundBytes.{bytes_front}
 use Rattle.demand.proofs.Claim.{own_order}

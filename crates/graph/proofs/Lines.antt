@@ -87,9 +87,9 @@ module _ (p : Parsed) (ns : List NodeRecord) (n : ℕ) (front : take n ns ≡ p.
   listed_below k e = (lists_reached p.wires (λ j s m. le_trans (below j s m) few)).below n pos below k e
 
   -- the tail over the array is the board's
-  pub tail_of : tail_by ns p.wires (visiting_list p.wires) ≡ tail_of p
+  pub tail_of_lem : tail_by ns p.wires (visiting_list p.wires) ≡ tail_of p
   unfolding tail_by tail_of
-  tail_of =
+  tail_of_lem =
       let l = visiting_list p.wires in
       ap₂ (λ (b : Bool) (m : ℕ). cond (eqb (length (late_wires l p.wires)) 0 && b) m endless) (sym (only_front ns n l listed_below)) (sym (lines_front ns n l listed_below))
       ∙ ap (λ (ms : List NodeRecord). cond (eqb (length (late_wires l p.wires)) 0 && only_delays ms l) (listed_lines ms l) endless) front

@@ -17,7 +17,7 @@ use Rattle.graph.specs.Tail.{tail_by, tail_of, LinesFit}
 use Rattle.boards.specs.declared.board.Board.{Board}
 use Rattle.graph.proofs.Accepted.{joins_below, accepted_formed, count_is, table_at}
 use Rattle.graph.proofs.Listed.{listed-within}
-use Rattle.graph.proofs.Lines.{tail_of, lines_fit}
+use Rattle.graph.proofs.Lines.{tail_of_lem, lines_fit}
 
 -- wires in arrays, with every source below m
 each_below : (ss ts : List ℕ) (m n i : ℕ) → ((j : ℕ) → j < i + n → get_or ss j 0 < m) → Each (λ w. w.source < m) (wires_from ss ts i n)
@@ -66,4 +66,4 @@ module _ (s : List ℕ) (b : Board) (read : Read (read_board s) b) (accepted : b
     lines_listed = lines_fit (parsed_of b) b.nodes b.count refl some_nodes read.sound.few_nodes sources_below (accepted_formed s b read accepted).few_lines nodes count listed_in
 
   pub board_tail : tail_by b.nodes (wires_in b) (visiting_list (wires_in b)) ≡ tail_of (parsed_of b)
-  board_tail = tail_of (parsed_of b) b.nodes b.count refl some_nodes read.sound.few_nodes sources_below
+  board_tail = tail_of_lem (parsed_of b) b.nodes b.count refl some_nodes read.sound.few_nodes sources_below

@@ -38,7 +38,7 @@ fn visit(
 }
 
 // A visiting list: the first `count` entries of `nodes`.
-#[derive(Drop)]
+#[derive(Clone, Copy)]
 pub struct Order {
     pub nodes: [u8; 64],
     pub count: usize,

@@ -8,7 +8,7 @@ use values::bytes::wide;
 use values::float::{SAMPLE_RATE, finite_bits, of_bits, within};
 
 // A node's type, with its line length and its number, coefficient or frequency.
-#[derive(Drop)]
+#[derive(Clone, Copy)]
 pub enum NodeKind {
     Pass,
     Sum,
@@ -24,7 +24,7 @@ pub enum NodeKind {
 
 // A node record as read: its type, its channel count and where its cell starts in the memory,
 // counted in values of 4 bytes.
-#[derive(Drop)]
+#[derive(Clone, Copy)]
 pub struct NodeRecord {
     pub kind: NodeKind,
     pub channels: u8,
@@ -32,7 +32,7 @@ pub struct NodeRecord {
 }
 
 // What the fields of a node record say.
-#[derive(Drop)]
+#[derive(Clone, Copy)]
 pub enum Fields {
     Is(NodeKind),
     Broken,

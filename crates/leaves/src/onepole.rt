@@ -7,7 +7,7 @@ pub const B_SEVEN_FIFTHS: u32 = 0x3c49_8223;
 
 pub const B_ONE_FIFTH: u32 = 0x3f08_92ad;
 
-#[derive(Drop)]
+#[derive(Clone, Copy)]
 pub struct OnePole {
     pub a: f32,
     pub b: f32,

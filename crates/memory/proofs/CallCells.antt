@@ -35,15 +35,15 @@ module _ (p : Parsed) (fine : Fine p) where
 -- ---- in the code's arrays
 
 module _ (b : Board) (sound : Sound b) where
-  pub node_in : (k : ℕ) → k < b.count → node_at (parsed_of b) k ≡ node_in b.nodes k
-  node_in k h = get_or-take b.count b.nodes k blank h
+  pub node_in_lem : (k : ℕ) → k < b.count → node_at (parsed_of b) k ≡ node_in b.nodes k
+  node_in_lem k h = get_or-take b.count b.nodes k blank h
 
   pub count_nodes : length (parsed_of b).nodes ≡ b.count
   count_nodes = counted b.nodes b.count (omega (arith, sound.nodes_long, sound.few_nodes))
 
   pub cells_fit : Fine (parsed_of b) → CellsIn b.nodes b.count (4 * b.values)
   cells_fit fine k h =
-      let at : (node_at (parsed_of b) k).cell ≡ (node_in b.nodes k).cell = ap (λ (r : NodeRecord). r.cell) (node_in k h) in
+      let at : (node_at (parsed_of b) k).cell ≡ (node_in b.nodes k).cell = ap (λ (r : NodeRecord). r.cell) (node_in_lem k h) in
       omega (arith, cell_in (parsed_of b) fine k (omega (arith, count_nodes)), sound.values_sum)
 
   pub cells_in : Fine (parsed_of b) → (m : List ℕ) → length m ≡ 4 * b.values → CellsIn b.nodes b.count (length m)

@@ -31,7 +31,7 @@ use Rattle.boards.specs.Read.{parsed_of, Sound}
 use Rattle.memory.specs.Fine.{Fine}
 use Rattle.records.specs.declared.answer.Answer.{Answer}
 use Rattle.boards.specs.declared.board.Board.{Board}
-use Rattle.memory.proofs.CallCells.{node_in, count_nodes, cell_in}
+use Rattle.memory.proofs.CallCells.{node_in_lem, count_nodes, cell_in}
 use Rattle.memory.proofs.CallChecks.{passes}
 use Rattle.memory.proofs.CallLaws.{cell_at, Whole, Judged, paste_other}
 use Rattle.reading.proofs.Choice.{both}
@@ -56,7 +56,7 @@ module _ (b : Board) (sound : Sound b) (k : ℕ) (x : Float) where
     there = lt-ltb k (length p.nodes) (omega (arith, count_nodes b sound))
 
     same : {A : Type 0} (f : NodeKind → A) {r : A} → f (node_in b.nodes k).kind ≡ r → f (kind_at p k) ≡ r
-    same f e = ap (λ (n : NodeRecord). f n.kind) (node_in b sound k here) ∙ e
+    same f e = ap (λ (n : NodeRecord). f n.kind) (node_in_lem b sound k here) ∙ e
 
     -- by what the node's kind says
     pub number_there : {t f : Bool} → takes_number (node_in b.nodes k).kind ≡ t → value_fits (node_in b.nodes k).kind x ≡ f

@@ -18,7 +18,7 @@ use Rattle.memory.specs.Memory.{node_in, passed, kind_at}
 use Rattle.memory.specs.Calls.{and_then}
 use Rattle.boards.specs.Read.{parsed_of, Sound}
 use Rattle.boards.specs.declared.board.Board.{Board}
-use Rattle.memory.proofs.CallCells.{node_in, count_nodes}
+use Rattle.memory.proofs.CallCells.{node_in_lem, count_nodes}
 use Rattle.reading.proofs.Choice.{both}
 use Rattle.memory.proofs.CallChecks.{passes, then_both}
 use Rattle.mixing.specs.Mix.{is_mul, check_mul, check_finite, check_mix}
@@ -37,7 +37,7 @@ module _ (b : Board) (sound : Sound b) (k : ℕ) where
   pub mul_there : k < b.count → {t : Bool} → is_mul (node_in b.nodes k).kind ≡ t → check_mul p k ≡ cond t passed (answer 11 k)
   mul_there h e =
       let there : ltb k (length p.nodes) ≡ true = lt-ltb k (length p.nodes) (omega (arith, count_nodes b sound)) in
-      let same = ap (λ (n : NodeRecord). is_mul n.kind) (node_in b sound k h) ∙ e in
+      let same = ap (λ (n : NodeRecord). is_mul n.kind) (node_in_lem b sound k h) ∙ e in
       λ i. cond (there i && same i) passed (answer 11 k)
 
 -- ---- where the checks pass

@@ -1,2 +1,4 @@
 // The mix message of the plate.
+#![tactic(auto)]
+
 pub mod mix;

@@ -16,7 +16,7 @@ use leaves::sine::{phase_units, sine};
 use values::float::{load, store};
 
 // The place of the next sample, and its phase.
-#[derive(Drop)]
+#[derive(Clone, Copy)]
 struct Climbed {
     next: usize,
     phase: f32,
@@ -74,7 +74,7 @@ fn sines(cell: &mut [u8], size: usize, units: &[u32; 128])
 
 pub fn sin_osc(cell: &mut [u8], size: usize)
     requires size_nonzero { (0 < size) × (size ≤ 128) × (length cell.old ≡ 4 * (samples_from + size)) }
-    requires t { (T (within f44100 (float_at (words cell.old) number_index))) × (T (within f1 (float_at (words cell.old) carry_index))) }
+    requires in_band { (T (within f44100 (float_at (words cell.old) number_index))) × (T (within f1 (float_at (words cell.old) carry_index))) }
     ensures { (f : Float) → words cell.new ≡ run_values (NodeKind.Sine f) size nothing (words cell.old) }
 {
     let by = increment(load(cell, NUMBER));

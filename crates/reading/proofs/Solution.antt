@@ -11,7 +11,7 @@ use native.Mathlib.Numerals.{add-one}
 use native.Mathlib.Omega.{arith}
 use native.Mathlib.Decide.{dec_le}
 use mathlib.Core.Bool.{Bool, cond}
-use mathlib.Core.List.{List, [], ◌∷◌, map}
+use mathlib.Core.List.{List, [], ◌∷◌}
 use lib.ListN.{get_or}
 use lib.Dec.{leb, eqb}
 use lib.Arith.{digits_lt, digits_div, digits_mod}
@@ -19,9 +19,9 @@ use borrow.Author.Tests.{le-leb, lt-leb, eq-eqb, ne_eqb}
 use Rattle.reading.specs.Table.{tab}
 use Rattle.reading.specs.Effect.{Effect, inputs, blocks, wiring_after, wiring_in, told, heard}
 use Rattle.reading.specs.Calls.{after_calls, replies}
-use Rattle.reading.specs.Board.{Rules, Board, Proper, Orders, silent, at, entered}
-use Rattle.reading.specs.Blocks.{Cells, run_call, fresh_cells}
-use Rattle.reading.specs.Past.{Past, cells_read, read_call, start}
+use Rattle.reading.specs.Board.{Rules, Board, Proper, Orders, silent, entered}
+use Rattle.reading.specs.Blocks.{run_call, fresh_cells}
+use Rattle.reading.specs.Past.{start}
 use Rattle.reading.specs.Time.{Timed, block_ago, last_block}
 use Rattle.reading.specs.Solution.{end, in_force, told_at, row, IsSolution, cells_after, outputs_by}
 use Rattle.reading.proofs.Table.{tab_agree}

@@ -1,6 +1,5 @@
 -- Laws that the proofs of `records` cite, and some for its callers.
 pub mod Stores
-pub mod Lending
 pub mod RoundBytes
 pub mod RoundRecords
 pub mod Found

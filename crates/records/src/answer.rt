@@ -4,7 +4,7 @@ ghost use Rattle.records.specs.Answer.{answer};
 
 // A number, 0 for success, and a place (document 01, "Answers by number").
 #[repr(C)]
-#[derive(Drop)]
+#[derive(Clone, Copy)]
 pub struct Answer {
     pub number: u32,
     pub place: u32,

@@ -1,6 +1,6 @@
 // The record reader: it lends the board's bytes and remembers the offset of the next record. Each
-// function over it is thin, and proved by a walk by hand; the work is `record::found_at`'s, which takes
-// a plain slice. Callers that hold a plain slice and an offset use `read_record`.
+// function over it is thin; the work is `record::found_at`'s, which takes a plain slice. Callers that
+// hold a plain slice and an offset use `read_record`.
 ghost use Rattle.std.specs.Prelude.{◌≡◌, ◌+◌};
 ghost use Rattle.records.specs.Record.{found_at, length_of, passed};
 

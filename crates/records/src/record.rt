@@ -6,7 +6,7 @@ ghost use Rattle.records.specs.Record.{in_order, sized, found_of, found_at, leng
 use values::bytes::u16_at;
 
 // A whole record of a kind that may stand there, of the kind's length; or why not, by number.
-#[derive(Drop)]
+#[derive(Clone, Copy)]
 pub enum Found {
     Head,
     Node,

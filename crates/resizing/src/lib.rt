@@ -1,2 +1,4 @@
 // A board carried to another block size.
+#![tactic(auto)]
+
 pub mod resize;

@@ -16,7 +16,7 @@ use kinds::kind::{NodeKind, line_of};
 use values::bytes::{put_u16, put_u32, wide};
 
 // Why a board is not carried to another block size.
-#[derive(Drop)]
+#[derive(Clone, Copy)]
 pub enum Reason {
     // The judge refuses it: number and place.
     Refused(u32, u32),
@@ -35,7 +35,7 @@ pub enum Reason {
 }
 
 // What became of a board that was to be at another block size.
-#[derive(Drop)]
+#[derive(Clone, Copy)]
 pub enum Resized {
     // It is at that size already.
     Same,
@@ -74,7 +74,7 @@ fn lines_of(board: Board) -> usize
 }
 
 // The late wires: how many there are, and the last one's target.
-#[derive(Drop)]
+#[derive(Clone, Copy)]
 struct Late {
     count: u32,
     target: usize,

@@ -41,7 +41,7 @@ use Rattle.graph.specs.declared.graph.Order.{Order}
 use Rattle.graph.proofs.Listed.{listed-within}
 use Rattle.boards.proofs.RoundSources.{mem_distinct}
 use Rattle.memory.proofs.FineBoard.{lists, source_there}
-use Rattle.memory.proofs.CallCells.{cell_in, node_in, count_nodes}
+use Rattle.memory.proofs.CallCells.{cell_in, node_in_lem, count_nodes}
 use Rattle.running.proofs.CallStarts.{mapped_at}
 use Rattle.memory.proofs.CallLaws.{Judged, passed_judged}
 use Rattle.running.proofs.RunLaws.{node_judged}
@@ -88,7 +88,7 @@ module _ (b : Board) (sound : Sound b) (fine : Fine (parsed_of b)) where
   starts_fit k h =
       let there = node_there k h in
       let w = samples_within N (kind_at p k) in
-      subst StartFits (node_in b sound k h) (record {
+      subst StartFits (node_in_lem b sound k h) (record {
         some_channel = omega (arith, (fine.nodes k there).channels, w.some);
         few_channels = omega (arith, (fine.nodes k there).channels, w.few);
         cell_in = omega (arith, cell_in p fine k there, sound.values_sum, sound.few_values);
@@ -181,7 +181,7 @@ module _ (b : Board) (sound : Sound b) (fine : Fine (parsed_of b)) where
                 right = samples_same (right_start N) at₁ right_starts (words m) i j;
                 second = float_at (words m) (start_same left_start at₀ left_starts (second_source p.wires k) second_there j + i);
               } in
-              ap (λ (n : NodeRecord). node_run n.kind N n.cell (bring list second) (words m)) (sym (node_in b sound k here))
+              ap (λ (n : NodeRecord). node_run n.kind N n.cell (bring list second) (words m)) (sym (node_in_lem b sound k here))
               ∙ ap (λ (bs : ℕ → Brought). node_run (kind_at p k) N (node_at p k).cell bs (words m)) (listed_same ∙ started-same)
 
           pub turn_ready : length m ≡ 4 * cells_of b.size p.nodes → Judged (parsed_of b) (words m)
@@ -189,7 +189,7 @@ module _ (b : Board) (sound : Sound b) (fine : Fine (parsed_of b)) where
           turn_ready long judged =
               let there = node_there k here in
               let length-same : length (distinct_sources p.wires k) ≡ length list = ap length (sym list_is) in
-              subst (λ (n : NodeRecord). Ready m n.kind N n.cell list at₀ at₁ second) (node_in b sound k here) (record {
+              subst (λ (n : NodeRecord). Ready m n.kind N n.cell list at₀ at₁ second) (node_in_lem b sound k here) (record {
                 above = fine.least_size;
                 small = fine.most_size;
                 line = (fine.nodes k there).line;

@@ -1,2 +1,4 @@
 // The stages of a block run, of which the calls that run blocks are made.
+#![tactic(auto)]
+
 pub mod run;

@@ -5,7 +5,7 @@
 -- Assumes nothing.
 use Prim.Native.Nat.{ℕ, zero, suc, ◌+◌, ◌-◌, ◌*◌, ◌/◌, ◌%◌, ◌<◌}
 use mathlib.Core.Path.{◌≡◌, refl, sym, ap, ◌∙◌}
-use mathlib.Core.List.{List, [], ◌∷◌, ◌++◌, map}
+use mathlib.Core.List.{List, [], ◌∷◌, ◌++◌}
 use mathlib.Core.Bool.{Bool, true, false, cond}
 use native.Mathlib.Nat.{mul-div_cancel}
 use native.Mathlib.Omega.{arith}
@@ -13,12 +13,11 @@ use borrow.Author.Tests.{eqb-true, leb-true, le-leb, lt-leb}
 use lib.Dec.{eqb, leb}
 use lib.Arith.{digits_div, digits_mod}
 use lib.ListN.{length, get_or, replicate, length-replicate}
-use lib.Ieee.{binary32, to_bits}
 use lib.Seq.{ext_get_or}
 use Rattle.values.specs.Words.{unwords}
 use Rattle.kinds.specs.Kind.{channels_of}
 use Rattle.kinds.specs.Rule.{Frame, State, with_number}
-use Rattle.kinds.specs.Cell.{Cell, values_of, number_of, fresh_cell}
+use Rattle.kinds.specs.Cell.{Cell, values_of, fresh_cell}
 use Rattle.kinds.specs.History.{Heard, fresh_heard, set_number, state_of}
 use Rattle.kinds.proofs.HistoryFrames.{map_tab}
 use Rattle.reading.specs.Table.{tab, joined, All}
@@ -35,7 +34,7 @@ use Rattle.memory.specs.Fine.{Fine}
 use Rattle.samples.proofs.Lawful.{encodes}
 use Rattle.samples.proofs.ShownCall.{NumberFits, Whole, effects_fit, effects-whole}
 use Rattle.samples.proofs.ShownFresh.{fresh_cell_lem}
-use Rattle.samples.proofs.DemandReading.{still, whole, whole_reached, whole_other, ago_reached, input_whole, before}
+use Rattle.samples.proofs.DemandReading.{still, whole, whole_other, ago_reached, input_whole, before}
 
 -- ---- the last block
 

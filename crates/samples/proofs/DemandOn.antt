@@ -11,23 +11,22 @@ use mathlib.Core.Path.{◌≡◌, refl, sym, ap, ◌∙◌}
 use mathlib.Core.List.{List, map}
 use mathlib.Core.Bool.{Bool, true, false, cond}
 use borrow.Author.Tests.{ltb-true, eq-eqb}
-use lib.Dec.{eqb, ltb}
+use lib.Dec.{ltb}
 use lib.ListN.{length, length-map}
 use lib.Ieee.{Float, nan, binary32, of_bits, to_bits}
 use Rattle.kinds.specs.Kind.{sources_fit}
 use Rattle.kinds.specs.declared.kind.NodeKind.{NodeKind}
-use Rattle.kinds.specs.Rule.{Frame, State, right_of, keeps}
-use Rattle.kinds.specs.History.{Heard, set_number, left_heard, sample_heard, heard_after, state_of}
+use Rattle.kinds.specs.Rule.{Frame, right_of, keeps}
+use Rattle.kinds.specs.History.{Heard, left_heard, sample_heard, heard_after, state_of}
 use Rattle.kinds.proofs.Unread.{unread, heard_sample_unread, heard_unread}
 use Rattle.reading.specs.Table.{mem}
 use Rattle.reading.specs.Order.{Wire, sources, Reorders}
-use Rattle.reading.specs.Effect.{Effect, wiring_after, wiring_in, told, heard}
+use Rattle.reading.specs.Effect.{Effect, wiring_after, wiring_in, heard}
 use Rattle.reading.specs.Time.{Timed}
 use Rattle.reading.specs.Calls.{replies, after_calls}
 use Rattle.reading.specs.Board.{Board}
 use Rattle.reading.specs.Encode.{enc_cells}
 use Rattle.reading.specs.Solution.{IsSolution, row, cells_after, outputs_by}
-use Rattle.reading.specs.Solution as theory
 use Rattle.reading.specs.Memory.{answers, KeepsPromise}
 use Rattle.reading.proofs.Table.{map_agree}
 use Rattle.reading.proofs.Calls.{wiring_ok}
@@ -38,7 +37,7 @@ use Rattle.boards.specs.Board.{blank, Parsed}
 use Rattle.boards.specs.BoardParts.{wired as with_wires}
 use Rattle.graph.specs.Visit.{visiting_list}
 use Rattle.memory.specs.Memory.{kind_at}
-use Rattle.samples.specs.Reading.{reached, right_sample, brought_of, end, told_at, brings, brought_to, held_at, IsReadingOn}
+use Rattle.samples.specs.Reading.{reached, right_sample, brought_of, told_at, brings, brought_to, held_at, IsReadingOn}
 use Rattle.samples.specs.Instance.{Cells, board_with, frame_of, brought_from, memory_rules, memory_with, reading_rules, reading_with, Held, fresh_cells}
 use Rattle.memory.specs.Fine.{Fine}
 use Rattle.boards.proofs.RoundSources.{mem_distinct}

@@ -1,11 +1,11 @@
 -- In every reading of accepted calls a node of type 1 to 5 or 7 without late wires in turns zero at most its line's length after its sources
 -- and the input have.
---     number_fits     a node's number is in range all along
+--     number_fits_lem a node's number is in range all along
 --     past_zero       what its line holds, once its sources are zero
 --     node_lags       the node
 --     sink_silent     a destination is then +0
 -- Assumes nothing.
-use Prim.Native.Nat.{ℕ, zero, suc, ◌+◌, ◌-◌, ◌/◌, ◌%◌, ◌≤◌, ◌<◌}
+use Prim.Native.Nat.{ℕ, zero, suc, ◌+◌, ◌-◌, ◌%◌, ◌≤◌, ◌<◌}
 use mathlib.Core.Path.{◌≡◌, refl, sym, ap, ◌∙◌}
 use mathlib.Core.Logic.{◌≢◌, inl}
 use mathlib.Core.Bool.{Bool, true, false, cond, false≢true}
@@ -75,11 +75,11 @@ module _ (p : Parsed) (fine : Fine p) (es : List (Effect Fixed ℕ ℕ)) (fit : 
   inside = listed_there p fine k there
 
   -- the number is in range all along
-  number_fits : (t : ℕ) → t ≤ end p es → number_fits kind (u t k).number ≡ true
+  number_fits_lem : (t : ℕ) → t ≤ end p es → number_fits kind (u t k).number ≡ true
   unfolding fresh_heard heard_after
-  number_fits zero h = rw (reads.first k there) (told_fits p es fit 0 k (fresh_heard kind) (fine.nodes k inside).number)
-  number_fits (suc t) h =
-      rw (reads.next t k h there) (told_at_fits p es (suc t) k (heard_after kind (u t k) (brought_to p s t k)) fit (number_fits t (omega arith)))
+  number_fits_lem zero h = rw (reads.first k there) (told_fits p es fit 0 k (fresh_heard kind) (fine.nodes k inside).number)
+  number_fits_lem (suc t) h =
+      rw (reads.next t k h there) (told_at_fits p es (suc t) k (heard_after kind (u t k) (brought_to p s t k)) fit (number_fits_lem t (omega arith)))
 
   -- what the node took
   xs_first : xs (u 0 k) ≡ []
@@ -175,7 +175,7 @@ module _ (p : Parsed) (fine : Fine p) (es : List (Effect Fixed ℕ ℕ)) (fit : 
           only = only;
           line = (fine.nodes k inside).line;
           sources = ap (sources_fit kind) (length-map (distinct_sources p.wires k) _) ∙ fine.formed.sources_fit_lem blank k inside;
-          number = number_fits t (omega arith);
+          number = number_fits_lem t (omega arith);
           brought = brought_zero t after h;
           oldest = λ pos. oldest_zero pos t (omega arith) h;
         })

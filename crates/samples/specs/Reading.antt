@@ -7,7 +7,7 @@ use Rattle.std.specs.Float.{binary32}
 use Rattle.std.specs.Float.Ieee.{of_bits, to_bits}
 use Rattle.values.specs.Words.{words, unwords}
 use Rattle.kinds.specs.Kind.{channels_of}
-use Rattle.kinds.specs.Rule.{Brought, Frame, State, with_number}
+use Rattle.kinds.specs.Rule.{Brought, Frame, with_number}
 use Rattle.kinds.specs.Cell.{Cell, values_of, number_of, fresh_cell}
 use Rattle.kinds.specs.History.{Heard, fresh_heard, set_number, sample_heard, heard_after, state_of}
 use Rattle.reading.specs.Table.{mem, joined}

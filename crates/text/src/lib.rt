@@ -1,4 +1,6 @@
 // Text in lent bytes: the words of a line, numbers and floats written.
+#![tactic(auto)]
+
 pub mod float;
 pub mod words;
 pub mod written;

@@ -3,7 +3,7 @@ ghost use Rattle.std.specs.Prelude.{◌≡◌, ◌+◌, ◌≤◌, length, drop}
 ghost use Rattle.text.specs.Words.{is_space, stops_at, ahead, next_word, word_at, begins, word_count};
 
 // What a place is looked for by: a byte, any space, or anything else.
-#[derive(Drop)]
+#[derive(Clone, Copy)]
 pub enum Stop {
     Byte(u8),
     Space,
@@ -11,7 +11,7 @@ pub enum Stop {
 }
 
 // A word of a line: where it starts and where it ends.
-#[derive(Drop)]
+#[derive(Clone, Copy)]
 pub struct Word {
     pub from: usize,
     pub to: usize,

@@ -3,22 +3,22 @@
 use mathlib.Core.Path.{◌≡◌, refl, sym, ap, ◌∙◌}
 use mathlib.Core.Bool.{Bool, true, false, cond, not}
 use Prim.Native.Nat.{ℕ, zero, suc, ◌+◌, ◌-◌, ◌*◌, ◌/◌, ◌%◌, ◌^◌, ◌≤◌, ◌<◌}
-use native.Mathlib.Nat.{mul_assoc, mul_comm, mul-pos, lt_of_lt_of_le}
+use native.Mathlib.Nat.{mul_assoc, mul-pos, lt_of_lt_of_le}
 use native.Mathlib.Omega.{arith}
 use borrow.Author.Tests.{ltb-true, ltb-false, lt-ltb, le-ltb}
-use lib.Dec.{T, ltb, lit<, lit≤}
+use lib.Dec.{ltb, lit<, lit≤}
 use lib.IntN.{pos}
 use lib.Pow.{shl_lt, pow_pos}
-use lib.Ieee.{Float, Format, nan, inf, fin, binary32, up, down, neg, add, div, of_int, in_float, sum, odd, units, round, low, prec, emax}
+use lib.Ieee.{Float, Format, nan, inf, fin, binary32, up, down, neg, add, div, of_int, sum, odd, units, round, low, prec, emax}
 use lib.Ieee.Exact.{HasValue, round_exact}
 use lib.Ieee.Back.{round_whole}
-use lib.Ieee.Fits.{down_pos, core, round_is}
+use lib.Ieee.Fits.{down_pos, round_is}
 use lib.Ieee.Scale.{round_same}
 use Rattle.values.specs.Floors.{whole}
 use Rattle.leaves.specs.Sine.{over23}
 use Rattle.values.proofs.Floors.{plain_sign}
 use Rattle.wav.specs.Frames.{whole_of, byte_of, long_of}
-use Rattle.wav.proofs.Exact.{small, size_of, minus, negated}
+use Rattle.wav.proofs.Exact.{size_of, minus, negated}
 
 -- ---- a whole number over a power of two
 

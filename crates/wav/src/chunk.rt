@@ -6,7 +6,7 @@ ghost use Rattle.wav.specs.Chunk.{is_wave, chunk_of, passed};
 use values::bytes::u32_at;
 
 // A chunk by its name, with its length.
-#[derive(Drop)]
+#[derive(Clone, Copy)]
 pub enum Chunk {
     Format(u32),
     Data(u32),

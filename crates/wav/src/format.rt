@@ -5,7 +5,7 @@ ghost use Rattle.wav.specs.Format.{width_of, frame_of, whole_coded, coded_of, ju
 use values::bytes::{u16_at, u32_at};
 
 // How a sample is coded: a whole number of 8, 16, 24 or 32 bits, or a float of 32.
-#[derive(Drop)]
+#[derive(Clone, Copy)]
 pub enum Coding {
     Whole8,
     Whole16,
@@ -15,7 +15,7 @@ pub enum Coding {
 }
 
 // What a frame of two samples is taken as: the mean of both, or one of them alone.
-#[derive(Drop)]
+#[derive(Clone, Copy)]
 pub enum Taken {
     Mean,
     Left,
@@ -23,7 +23,7 @@ pub enum Taken {
 }
 
 // Frames of one sample, or of two, left and right, which are taken as one.
-#[derive(Drop)]
+#[derive(Clone, Copy)]
 pub struct Format {
     pub coding: Coding,
     pub stereo: bool,
@@ -32,7 +32,7 @@ pub struct Format {
 
 // What a fmt chunk says. Or it is too short, or names a format, a number of channels, a rate, a number
 // of bits or a number of bytes in a frame that is not read.
-#[derive(Drop)]
+#[derive(Clone, Copy)]
 pub enum FormatRead {
     Is(Format),
     Short,
@@ -44,7 +44,7 @@ pub enum FormatRead {
 }
 
 // A coding, or which of tag and bits is not read.
-#[derive(Drop)]
+#[derive(Clone, Copy)]
 pub enum Coded {
     As(Coding),
     NoTag,

@@ -7,14 +7,14 @@ ghost use Rattle.wav.specs.Level.{loud_f, faulty_f, more, counted};
 use values::float::{finite, load};
 
 // What is counted: samples that are infinite or NaN; or finite ones above 1 or below -1.
-#[derive(Drop)]
+#[derive(Clone, Copy)]
 pub enum Fault {
     NotFinite,
     Loud,
 }
 
 // How many samples were found, and the place of the first; no place counts where none was.
-#[derive(Drop)]
+#[derive(Clone, Copy)]
 pub struct Count {
     pub count: usize,
     pub first: usize,

@@ -19,7 +19,7 @@ use values::bytes::wide;
 // What a change of wires gives back: number and place as every call, and the new board's visiting list,
 // the first `count` bytes of `listed`, with zeros behind them. A refusal's list is empty.
 #[repr(C)]
-#[derive(Drop)]
+#[derive(Clone, Copy)]
 pub struct Wiring {
     pub number: u32,
     pub place: u32,
@@ -139,7 +139,7 @@ fn added(s: &[u8], source: u16, target: u16) -> Wiring
 }
 
 // The answer of a wire pulled from a board, and where its record stands if it is 0.
-#[derive(Drop)]
+#[derive(Clone, Copy)]
 struct Pull {
     answer: Wiring,
     at: usize,

@@ -1,0 +1,15 @@
+-- `boards::board::node_at` meets its contract: a node that is known by its first four bytes is the one found. Assumes nothing.
+use mathlib.Core.Path.{sym, ap, ◌∙◌}
+use Rattle.boards.specs.BoardParts.{node_read}
+use Rattle.boards.proofs.Parts.{starts_node, starts_no_node}
+use Rattle.boards.proofs.board.node_at.Goals as goal
+
+pub returns-then-starts_with : goal.returns-then-starts_with
+returns-then-starts_with c =
+    let a = c.args in
+    c.node_body.ensures ∙ sym (ap (node_read a.s.now a.at a.i a.lines) (starts_node a.s.now a.at (sym c.starts_with.ensures ∙ c.if-starts_with.true)))
+
+pub returns-else-starts_with : goal.returns-else-starts_with
+returns-else-starts_with c =
+    let a = c.args in
+    rw c.part_end.ensures (sym (starts_no_node a.s.now a.at a.i a.lines (sym c.starts_with.ensures ∙ c.if-starts_with.false)))

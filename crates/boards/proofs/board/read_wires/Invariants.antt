@@ -1,0 +1,13 @@
+use Prim.Native.Nat.{◌-◌}
+use lib.ListN.{length}
+use Rattle.boards.specs.Wires.{wires_of}
+use Rattle.sources.proofs.Tabling.{Tabling}
+use Rattle.boards.proofs.Loops.{WiresSoFar}
+use Rattle.boards.proofs.board.read_wires.Given as goal
+
+abbrev pub invariant-loop-ins : goal.invariant-loop-ins
+invariant-loop-ins l =
+    WiresSoFar l.s l.start l.i l.sources l.targets l.count l.next × Tabling (wires_of l.sources l.targets l.count) l.counts l.lists l.seconds l.ins
+
+abbrev pub decreases-loop-ins : goal.decreases-loop-ins
+decreases-loop-ins l = length l.s - l.next

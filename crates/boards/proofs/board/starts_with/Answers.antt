@@ -1,0 +1,29 @@
+-- `boards::board::starts_with` meets its contract: two 2-byte numbers are compared as one. Assumes nothing.
+use Prim.Native.Nat.{ℕ, ◌+◌, ◌*◌, ◌<◌}
+use lib.ListN.{length}
+use mathlib.Core.Path.{◌≡◌, refl}
+use mathlib.Core.Bool.{Bool, true, false, ◌&&◌}
+use native.Mathlib.Omega.{arith}
+use borrow.Author.Rules.{rules}
+use borrow.Author.Tests.{lt-leb, le-leb, eq-eqb, ne_eqb, eqb-true, eqb-false}
+use lib.Dec.{eqb}
+use Rattle.boards.proofs.board.starts_with.Goals as goal
+
+-- below 2^16 both halves are the same where the numbers are
+halves : (a b z k : ℕ) → a < 65536 → z < 65536 → eqb (a + b * 65536) (z + k * 65536) ≡ eqb a z && eqb b k
+halves a b z k l m = go (eqb a z) refl (eqb b k) refl
+  where
+    go : (t : Bool) → eqb a z ≡ t → (u : Bool) → eqb b k ≡ u → eqb (a + b * 65536) (z + k * 65536) ≡ eqb a z && eqb b k
+    go true e true f = rw (e, f, eq-eqb (a + b * 65536) (z + k * 65536) (omega (arith, eqb-true a z e, eqb-true b k f)))
+    go true e false f = rw (e, f, ne_eqb (a + b * 65536) (z + k * 65536) (λ q. eqb-false b k f (omega (arith, eqb-true a z e))))
+    go false e u f = rw (e, ne_eqb (a + b * 65536) (z + k * 65536) (λ q. eqb-false a z e (omega arith)))
+
+pub returns-then-s-at : goal.returns-then-s-at
+returns-then-s-at c = let a = c.args in
+    rw (lt-leb (a.at + a.size) (length a.s.now) (omega arith))
+
+pub returns : goal.returns
+returns c =
+    let a = c.args in
+    rw (le-leb (a.at + a.size) (length a.s.now) (omega arith), ← c.u16_at.ensures, ← c.u16_at-2.ensures)
+    (halves c.u16_at.result c.u16_at-2.result a.size a.kind (search rules) (search rules))

@@ -1,0 +1,36 @@
+-- `packed::block24::give_words` meets its contract: after i turns the first i words stand in the packed block. Assumes nothing.
+use Prim.Native.Nat.{ℕ, ◌*◌}
+use mathlib.Core.Path.{◌≡◌, refl, ap, ◌∙◌}
+use native.Mathlib.Omega.{arith}
+use lib.Seq.{sets}
+use Rattle.values.specs.Words.{words, length-words}
+use Rattle.values.specs.Bytes.{u24_bytes}
+use Rattle.leaves.specs.Converter.{to_word}
+use Rattle.packed.specs.Packed.{words_of}
+use Rattle.packed.proofs.Blocks.{given_next, given_all}
+use Rattle.packed.proofs.block24.give_words.Goals as goal
+
+pub loop-i-init : goal.loop-i-init
+unfolding words_of
+loop-i-init c = (omega arith, refl, refl)
+
+pub to_word-requires : goal.to_word-requires
+to_word-requires c = tt
+
+pub loop-i-preserved : goal.loop-i-preserved
+loop-i-preserved c =
+    let l = c.loop-i in
+    let floats = c.args.floats.now in
+    let word = c.to_word.ensures.0 ∙ ap to_word c.load.ensures in (
+      omega arith,
+      omega arith,
+      given_next (words floats) l.out _ l.i (omega (arith, length-words floats)) (omega arith) l.invariant.2
+          (c.put_u24.ensures ∙ ap (λ (w : ℕ). sets l.out (3 * l.i) (u24_bytes w)) word),
+    )
+
+pub returns : goal.returns
+returns c =
+    let floats = c.args.floats.now in
+    let l = c.loop-i in
+    let all : l.i ≡ c.args.n = omega arith in
+    given_all (words floats) l.out c.args.n (omega (arith, length-words floats)) (omega arith) (rw all at l.invariant.2)

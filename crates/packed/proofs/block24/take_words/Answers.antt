@@ -1,0 +1,43 @@
+-- `packed::block24::take_words` meets its contract: after i turns the first i samples stand in the float block. Assumes nothing.
+use Prim.Native.Nat.{ℕ}
+use mathlib.Core.Path.{◌≡◌, refl, sym, ap, ◌∙◌}
+use native.Mathlib.Omega.{arith}
+use lib.Ieee.{binary32, to_bits}
+use Rattle.values.specs.Words.{words, length-words, unwords, unwords-words}
+use Rattle.values.specs.Floats.{set_float}
+use Rattle.leaves.specs.Converter.{of_word}
+use Rattle.packed.specs.Packed.{triples}
+use Rattle.packed.proofs.Triples.{length-triples, triples_at}
+use Rattle.packed.proofs.Blocks.{taken_next, taken_all}
+use Rattle.packed.proofs.block24.take_words.Goals as goal
+
+-- the pattern of a word's sample
+abbrev pattern : ℕ → ℕ
+pattern u = to_bits binary32 (of_word u)
+
+pub loop-i-init : goal.loop-i-init
+loop-i-init c = (omega arith, refl, (λ k. omega (arith, c.type_inv.floats k)), refl)
+
+pub of_word-requires : goal.of_word-requires
+of_word-requires c = c.u24_at.ensures.1
+
+pub loop-i-preserved : goal.loop-i-preserved
+loop-i-preserved c =
+    let l = c.loop-i in
+    let input = c.args.input.now in
+    let word = c.u24_at.ensures.0 ∙ sym (triples_at input l.i (omega arith)) in (
+      omega arith,
+      omega arith,
+      (λ k. omega (arith, c.type_inv.floats k)),
+      taken_next pattern (triples input) (words l.floats) _ l.i (omega (arith, length-words l.floats)) (omega (arith, length-triples input)) l.invariant.3
+          (c.store.ensures ∙ ap (set_float (words l.floats) l.i) (c.of_word.ensures ∙ ap of_word word)),
+    )
+
+pub returns : goal.returns
+returns c =
+    let input = c.args.input.now in
+    let l = c.loop-i in
+    let all : l.i ≡ c.args.n = omega arith in
+    unwords-words l.floats c.args.n (omega arith) l.invariant.2
+    ∙ ap unwords (taken_all pattern (triples input) (words l.floats) c.args.n (omega (arith, length-words l.floats)) (omega (arith, length-triples input))
+    (rw all at l.invariant.3))

@@ -1,0 +1,11 @@
+-- `values::bytes::put_u16` meets its contract. Assumes nothing.
+use native.Mathlib.Numerals.{add-one}
+use native.Mathlib.Omega.{arith}
+use lib.ListN.{length-set}
+use Rattle.values.proofs.bytes.put_u16.Goals as goal
+
+pub bounds-s-at-2 : goal.bounds-s-at-2
+bounds-s-at-2 c = simp length-set (omega arith)
+
+pub returns : goal.returns
+returns c = rw add-one
