@@ -1,7 +1,6 @@
 // A board as text, a card or a graph for Graphviz: each function writes into `out` from the place `at`
 // on, and returns the place after what it wrote.
-ghost use Rattle.std.specs.Prelude.{◌+◌, ◌<◌, ◌≤◌, length};
-ghost use Rattle.io.specs.Counts.{IsPrefixLen};
+ghost use Rattle.std.specs.Prelude.{◌≡◌, ◌+◌, ◌<◌, ◌≤◌, length, take};
 ghost use Rattle.boards.specs.Read.{Sound};
 ghost use Rattle.card.specs.Board.{Accepted};
 
@@ -16,14 +15,14 @@ use values::bytes::wide;
 // a graph the input stands at the top and the destination at the bottom, a late wire is dashed and does
 // not pull, a node that is not reached is grey, and where a node tells its two sources apart, their
 // wires are marked 1 and 2.
-#[derive(Drop)]
+#[derive(Clone, Copy)]
 pub enum Form {
     Card,
     Graph,
 }
 
 // A node by its type, whole number and float.
-#[derive(Drop)]
+#[derive(Clone, Copy)]
 struct Fields {
     t: usize,
     n: u32,
@@ -290,7 +289,8 @@ fn put_board(out: &mut [u8], board: Board, places: &[u8; 64], count: usize, form
 // The text of a board, in the first bytes of `out`.
 pub fn text_of(board: Board, form: Form, out: &mut [u8]) -> usize
     requires { (24576 ≤ length out.old) × Accepted board }
-    ensures { IsPrefixLen result out.new }
+    ensures in_bounds { result ≤ length out.new }
+    ensures prefix { result ≡ length (take result out.new) }
 {
     let counts = board.counts;
     let lists = board.lists;

@@ -2,17 +2,20 @@
 // its name when all is written: what stood there before stays as it was until then. Links are followed,
 // so that a link stays one and what it leads to is replaced in the same way.
 ghost use Rattle.std.specs.Prelude.{◌≡◌, ◌+◌, ◌≤◌, length};
-ghost use Rattle.libc.specs.Io.{Ended};
 ghost use Rattle.io.specs.Counts.{IsPrefixLen};
 
 use crate::is_open_file;
+use crate::name::{open_update, path_of};
+use std::path::PathBuf;
+use std::rt::Files;
+use std::{fs, io};
 
-// How an output is written: straight to what is there, or beside it first; or it cannot be.
-#[derive(Drop)]
+// How an output is written: straight to what is there, or beside it first; or it cannot be, and why.
+#[derive(Clone, Copy)]
 pub enum Way {
     Straight,
     Beside,
-    Closed,
+    Closed(io::Error),
 }
 
 // Copies bytes to a place in others.
@@ -24,23 +27,6 @@ fn put(from: &[u8], to: &mut [u8], at: usize)
         to[at + i] = from[i];
         i += 1;
     }
-}
-
-// Copies bytes to the start of others, if there is room.
-fn put_whole(from: &[u8], to: &mut [u8]) {
-    if from.len() <= to.len() {
-        put(from, to, 0);
-    }
-}
-
-// A path as C takes it; the empty path where it is too long.
-fn ended(path: &[u8]) -> [u8; 4096]
-    ensures { Ended result }
-{
-    let mut whole = io::buffer();
-    put_whole(path, &mut whole);
-    whole[4095] = 0;
-    whole
 }
 
 // `OUT.part`, and its length; 0 where it is too long for a path.
@@ -71,7 +57,7 @@ fn folder_length(name: &[u8]) -> usize
 }
 
 // Where a name leads: it is no link, or it is one to the name of this length, or to one that is too long.
-#[derive(Drop)]
+#[derive(Clone, Copy)]
 enum Link {
     No,
     To(usize),
@@ -90,24 +76,37 @@ fn put_target(target: &[u8], name: &mut [u8], at: usize) -> Link {
     Link::To(at + target.len())
 }
 
+// What a link says, where the name is one's.
+fn target_of<R: Files + Alloc>(rt: &R, name: &[u8]) -> io::Result<PathBuf<R::A>> {
+    fs::read_link(rt, path_of(name)?)
+}
+
+// What the refusal to read a link means. The system's own says that there is none; any other, that its
+// target cannot be taken as a name, and then it is refused as one that is too long.
+fn no_target(error: io::Error) -> Link {
+    match error.raw_os_error() {
+        Some(_) => Link::No,
+        None => Link::Long,
+    }
+}
+
 // Follows the link that has the name in the first n bytes: its target stands there instead. A target
 // that does not begin at the root begins in the link's folder.
-fn follow(name: &mut [u8], n: usize) -> Link {
+fn follow<R: Files + Alloc>(rt: &R, name: &mut [u8], n: usize) -> Link {
     if name.len() < n {
         return Link::Long;
     }
-    let path = ended(&name[..n]);
-    let mut target = io::buffer();
-    let got = libc::readlink(&path, &mut target);
-    if got < 0 {
-        return Link::No;
+    match target_of(rt, &name[..n]) {
+        Ok(target) => {
+            let at = if target.is_absolute() {
+                0
+            } else {
+                folder_length(&name[..n])
+            };
+            put_target(target.as_str().as_bytes(), name, at)
+        }
+        Err(error) => no_target(error),
     }
-    let m = io::count(got, &target);
-    if target[0] == b'/' {
-        return put_target(&target[..m], name, 0);
-    }
-    let at = folder_length(&name[..n]);
-    put_target(&target[..m], name, at)
 }
 
 // A length that lies within the name's room, or 0.
@@ -119,7 +118,7 @@ fn within(n: usize, name: &[u8]) -> usize
 
 // The name of the file that a path leads to, its links followed, and its length; 0 where they are more
 // than 40, or a name is too long.
-pub fn led_to(output: &[u8], name: &mut [u8]) -> usize
+pub fn led_to<R: Files + Alloc>(rt: &R, output: &[u8], name: &mut [u8]) -> usize
     ensures { IsPrefixLen result name.new }
 {
     let Link::To(length) = put_target(output, name, 0) else {
@@ -128,7 +127,7 @@ pub fn led_to(output: &[u8], name: &mut [u8]) -> usize
     let mut n = length;
     let mut links = 0usize;
     while links < 40 {
-        match follow(name, n) {
+        match follow(rt, name, n) {
             Link::No => return within(n, name),
             Link::To(m) => n = m,
             Link::Long => return 0,
@@ -141,18 +140,18 @@ pub fn led_to(output: &[u8], name: &mut [u8]) -> usize
 // The way of an output whose links lead to `file`. What is no regular file, as a pipe or /dev/null, is
 // written straight, and so is one that the links do not name, as those of /dev/fd. A file that may not
 // be written is not replaced either. Opening it for reading and writing neither waits nor changes it.
-pub fn way_of(output: &[u8], file: &[u8]) -> Way {
-    let old = os::open_update(output);
-    if old < 0 {
-        if os::errno() == libc::ENOENT {
-            return Way::Beside;
+pub fn way_of<R: Files>(rt: &R, output: &[u8], file: &[u8]) -> Way {
+    match open_update(rt, output) {
+        Ok(old) => {
+            if is_open_file(rt, &old, file) {
+                Way::Beside
+            } else {
+                Way::Straight
+            }
         }
-        return Way::Closed;
+        Err(error) => match error.kind() {
+            io::ErrorKind::NotFound => Way::Beside,
+            _ => Way::Closed(error),
+        },
     }
-    let named = is_open_file(old, file);
-    libc::close(old);
-    if named {
-        return Way::Beside;
-    }
-    Way::Straight
 }

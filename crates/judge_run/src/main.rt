@@ -1,33 +1,34 @@
 // Judges the boards on standard input, each after its length in two bytes, and writes number and
 // place of each answer on a line.
+#![tactic(auto)]
+
 use boards::judge::judge;
-use libc::STDOUT_FILENO;
+use input::read_full;
 use records::answer::Answer;
+use std::io;
 use values::bytes::u16_at;
 
-fn show(a: Answer) {
-    io::print_decimal(STDOUT_FILENO, a.number as u64);
-    io::write_all(STDOUT_FILENO, b" ");
-    io::print_decimal(STDOUT_FILENO, a.place as u64);
-    io::write_all(STDOUT_FILENO, b"\n");
+fn show(rt: &impl Print, a: Answer) -> io::Result<()> {
+    println!(rt; "{} {}", a.number, a.place)
 }
 
-fn judge_all(s: &[u8]) {
+fn judge_all(rt: &impl Print, s: &[u8]) -> io::Result<()> {
     let mut at = 0;
     while 2 <= s.len() - at {
         let size = u16_at(s, at) as usize;
         let start = at + 2;
         if s.len() - start < size {
-            return;
+            return Ok(());
         }
         let end = start + size;
-        show(judge(&s[start..end]));
+        show(rt, judge(&s[start..end]))?;
         at = end;
     }
+    Ok(())
 }
 
-fn main() {
-    let mut buffer = io::large_buffer();
-    let n = io::read_full(0, &mut buffer);
-    judge_all(&buffer[..n]);
+fn main(rt: HostRuntime) -> io::Result<()> {
+    let mut boards = [0u8; 65536];
+    let n = read_full(&mut rt.stdin(), &mut boards)?;
+    judge_all(&rt, &boards[..n])
 }

@@ -1,16 +1,19 @@
 // Runs the leaves on the questions on standard input and writes a line with two words for each. A
 // question is four words: which leaf, and what it is asked. `tools/leaves_vectors.py` writes the
 // questions, and the lines by its own reading of document 01.
+#![tactic(auto)]
+
 ghost use Rattle.std.specs.Prelude.{◌+◌, ◌≤◌, length};
 
+use input::read_full;
 use leaves::lengths::Length;
 use leaves::onepole::OnePole;
-use libc::STDOUT_FILENO;
+use std::io;
 use values::bytes::u32_at;
 use values::float::{finite, of_bits, to_bits, within};
 
 // What a line holds.
-#[derive(Drop)]
+#[derive(Clone, Copy)]
 struct Line(u32, u32);
 
 // Where the leaf may not be asked.
@@ -80,11 +83,8 @@ fn answer(leaf: u32, a: u32, b: u32, c: u32) -> Line {
     }
 }
 
-fn show(l: Line) {
-    io::print_hex(STDOUT_FILENO, l.0 as u64, 8);
-    io::write_all(STDOUT_FILENO, b" ");
-    io::print_hex(STDOUT_FILENO, l.1 as u64, 8);
-    io::write_all(STDOUT_FILENO, b"\n");
+fn show(rt: &impl Print, l: Line) -> io::Result<()> {
+    println!(rt; "{:08x} {:08x}", l.0, l.1)
 }
 
 fn answer_at(s: &[u8], at: usize) -> Line
@@ -98,16 +98,17 @@ fn answer_at(s: &[u8], at: usize) -> Line
     )
 }
 
-fn answer_all(s: &[u8]) {
+fn answer_all(rt: &impl Print, s: &[u8]) -> io::Result<()> {
     let mut at = 0;
     while 16 <= s.len() - at {
-        show(answer_at(s, at));
+        show(rt, answer_at(s, at))?;
         at += 16;
     }
+    Ok(())
 }
 
-fn main() {
-    let mut buffer = io::large_buffer();
-    let n = io::read_full(0, &mut buffer);
-    answer_all(&buffer[..n]);
+fn main(rt: HostRuntime) -> io::Result<()> {
+    let mut questions = [0u8; 65536];
+    let n = read_full(&mut rt.stdin(), &mut questions)?;
+    answer_all(&rt, &questions[..n])
 }

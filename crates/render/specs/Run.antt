@@ -14,7 +14,7 @@ pub record Few (samples : ℕ) (l : Levels) : Type 0 where
 abbrev pub Told : ℕ → Went → Type 0
 Told samples (Well l) = Few samples l
 Told samples NotRead = Unit {0}
-Told samples NotWritten = Unit {0}
+Told samples (NotWritten why) = Unit {0}
 Told samples (Refused number place) = Unit {0}
 
 -- the block size is a board's, the memory is as large as any board's at most, the frames fit a WAV file, and what was found is among those that are written

@@ -7,18 +7,22 @@ use answers::answer::{answer_text, refusal_text};
 use cards::board::{Made as Card, board_of as read_card};
 use check::same;
 use decimals::number::{Float, float_of};
+use files::name::open_read;
+use sounds::file::read_full;
 use sounds::say;
+use sounds::say::To;
+use std::rt::Files;
 use values::float::of_bits;
 
 // A board's bytes, so many; or something is wrong, and was told.
-#[derive(Drop)]
+#[derive(Clone, Copy)]
 pub enum Made {
     Bytes(usize),
     Bad,
 }
 
 // The plate's board at blocks of 128 samples.
-fn write_plate(to: i32, mix: &[u8], bits: u32, board: &mut [u8]) -> Made
+fn write_plate(to: To, mix: &[u8], bits: u32, board: &mut [u8]) -> Made
     requires { 1270 ≤ length board.old }
     ensures { Given (length board.new) result }
 {
@@ -31,7 +35,7 @@ fn write_plate(to: i32, mix: &[u8], bits: u32, board: &mut [u8]) -> Made
 }
 
 // The plate with a mix that is written as a number.
-fn plate_of(to: i32, mix: &[u8], board: &mut [u8]) -> Made
+fn plate_of(to: To, mix: &[u8], board: &mut [u8]) -> Made
     requires { 1270 ≤ length board.old }
     ensures { Given (length board.new) result }
 {
@@ -53,35 +57,34 @@ fn plate_of(to: i32, mix: &[u8], board: &mut [u8]) -> Made
 }
 
 // A board's bytes from a file. No byte past the buffer's end can change the judge's answer.
-fn board_of(to: i32, file: &[u8], board: &mut [u8]) -> Made
+fn board_of<R: Files>(rt: &R, to: To, file: &[u8], board: &mut [u8]) -> Made
     ensures { Given (length board.new) result }
 {
-    let fd = os::open_read(file);
-    if fd < 0 {
-        say::failed(to, file, b"cannot be opened");
-        return Made::Bad;
+    match open_read(rt, file) {
+        Ok(mut opened) => Made::Bytes(read_full(&mut opened, board)),
+        Err(why) => {
+            say::failed(to, file, why, b"cannot be opened");
+            Made::Bad
+        }
     }
-    let n = io::read_full(fd, board);
-    libc::close(fd);
-    Made::Bytes(n)
 }
 
 // What is wrong with a card.
-fn tell_card(to: i32, file: &[u8], text: &[u8], board: &[u8], card: Card) {
+fn tell_card(to: To, file: &[u8], text: &[u8], board: &[u8], card: Card) {
     let mut out = [0u8; 512];
     let n = answer_text(text, board, card, &mut out);
     say::answer(to, file, &out[..n]);
 }
 
 // What is wrong with a board, by its refusal.
-pub fn tell_board(to: i32, file: &[u8], board: &[u8], number: u32, place: u32) {
+pub fn tell_board(to: To, file: &[u8], board: &[u8], number: u32, place: u32) {
     let mut out = [0u8; 512];
     let n = refusal_text(board, number, place, &mut out);
     say::answer(to, file, &out[..n]);
 }
 
 // The board that a card's text says.
-fn card_of(to: i32, file: &[u8], text: &[u8], board: &mut [u8]) -> Made
+fn card_of(to: To, file: &[u8], text: &[u8], board: &mut [u8]) -> Made
     requires { 1932 ≤ length board.old }
     ensures { Given (length board.new) result }
 {
@@ -94,18 +97,19 @@ fn card_of(to: i32, file: &[u8], text: &[u8], board: &mut [u8]) -> Made
 }
 
 // The board of a card in a file. A text that fills the buffer may have been cut.
-fn card_in(to: i32, file: &[u8], board: &mut [u8]) -> Made
+fn card_in<R: Files>(rt: &R, to: To, file: &[u8], board: &mut [u8]) -> Made
     requires { 1932 ≤ length board.old }
     ensures { Given (length board.new) result }
 {
-    let fd = os::open_read(file);
-    if fd < 0 {
-        say::failed(to, file, b"cannot be opened");
-        return Made::Bad;
-    }
+    let mut opened = match open_read(rt, file) {
+        Ok(opened) => opened,
+        Err(why) => {
+            say::failed(to, file, why, b"cannot be opened");
+            return Made::Bad;
+        }
+    };
     let mut text = [0u8; 69632];
-    let n = io::read_full(fd, &mut text);
-    libc::close(fd);
+    let n = read_full(&mut opened, &mut text);
     if n == 69632 {
         say::problem(to, file, b"text too long: at most 69631 bytes");
         return Made::Bad;
@@ -114,7 +118,7 @@ fn card_in(to: i32, file: &[u8], board: &mut [u8]) -> Made
 }
 
 // `plate MIX`, `board FILE` or `card FILE`: a form is a word here, and a function that fills the buffer.
-pub fn make(to: i32, form: &[u8], what: &[u8], board: &mut [u8]) -> Made
+pub fn make<R: Files>(rt: &R, to: To, form: &[u8], what: &[u8], board: &mut [u8]) -> Made
     requires { 1932 ≤ length board.old }
     ensures { Given (length board.new) result }
 {
@@ -122,10 +126,10 @@ pub fn make(to: i32, form: &[u8], what: &[u8], board: &mut [u8]) -> Made
         return plate_of(to, what, board);
     }
     if same(form, b"board") {
-        return board_of(to, what, board);
+        return board_of(rt, to, what, board);
     }
     if same(form, b"card") {
-        return card_in(to, what, board);
+        return card_in(rt, to, what, board);
     }
     say::problem(to, form, b"neither plate nor board nor card");
     Made::Bad

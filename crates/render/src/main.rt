@@ -9,20 +9,30 @@
 //
 // A line of a list has the words of one render; `#` starts a comment, and an empty line says nothing.
 // Answers go to standard error; those of `check`, which is `list` otherwise, to standard output.
+#![tactic(auto)]
+
 mod board;
 mod play;
 mod render;
 mod turn;
 mod words;
 
+ghost use Rattle.std.specs.Prelude.{◌≡◌};
+ghost use Rattle.io.specs.Counts.{IsPrefixLen};
+
 use check::same;
-use libc::{STDERR_FILENO, STDOUT_FILENO};
+use files::name::open_read;
 use render::render;
+use sounds::file::read_full;
 use sounds::say;
+use sounds::say::To;
+use std::env::FillError;
+use std::fs::File;
+use std::rt::{Env, Files};
 use text::words::{Stop, find, word_at, word_count};
 use words::{Asked, Understood, nothing, with_word};
 
-fn usage(to: i32) {
+fn usage(to: To) {
     say::text(
         to,
         b"render IN.wav OUT.wav plate MIX [SECONDS] [mono|left|right] [progress]\n",
@@ -52,7 +62,7 @@ fn usage(to: i32) {
 }
 
 // What the words of a line from the fifth on ask for.
-fn line_asks(to: i32, line: &[u8]) -> Understood {
+fn line_asks(to: To, line: &[u8]) -> Understood {
     let count = word_count(line);
     let mut asked = nothing();
     let mut k = 4;
@@ -66,20 +76,48 @@ fn line_asks(to: i32, line: &[u8]) -> Understood {
     Understood::Is(asked)
 }
 
+// Puts an argument at the start of a buffer: so many bytes, and none where it is missing or too long.
+fn arg<R: Env>(rt: &R, i: usize, word: &mut [u8]) -> usize
+    ensures { IsPrefixLen result word.new }
+{
+    match rt.arg(i, word) {
+        Ok(n) => n,
+        Err(_) => 0,
+    }
+}
+
+// Whether there is such an argument.
+fn is_there<R: Env>(rt: &R, i: usize) -> bool {
+    match rt.arg(i, &mut []) {
+        Err(FillError::NotPresent) => false,
+        _ => true,
+    }
+}
+
+// How many arguments there are, the program's name among them.
+fn arg_count<R: Env>(rt: &R) -> usize {
+    for i in 0..usize::MAX {
+        if !is_there(rt, i) {
+            return i;
+        }
+    }
+    usize::MAX
+}
+
 // One more word, which is an argument.
-fn with_arg(asked: Asked, i: usize) -> Understood {
-    let mut word = io::buffer();
-    let n = os::arg(i, &mut word);
-    with_word(STDERR_FILENO, asked, &word[..n])
+fn with_arg<R: Env>(rt: &R, to: To, asked: Asked, i: usize) -> Understood {
+    let mut word = [0u8; 4096];
+    let n = arg(rt, i, &mut word);
+    with_word(to, asked, &word[..n])
 }
 
 // What the arguments from the fifth on ask for.
-fn args_ask() -> Understood {
-    let count = os::arg_count();
+fn args_ask<R: Env>(rt: &R, to: To) -> Understood {
+    let count = arg_count(rt);
     let mut asked = nothing();
     let mut i = 5;
     while i < count {
-        match with_arg(asked, i) {
+        match with_arg(rt, to, asked, i) {
             Understood::Is(next) => asked = next,
             Understood::Bad => return Understood::Bad,
         }
@@ -89,7 +127,7 @@ fn args_ask() -> Understood {
 }
 
 // The render that a line asks for; an empty line asks for none.
-fn line(to: i32, list: &[u8], words: &[u8]) {
+fn line<R: Files<File = File> + Alloc>(rt: &R, to: To, list: &[u8], words: &[u8]) {
     let input = word_at(words, 0);
     if input.len() == 0 {
         return;
@@ -103,6 +141,7 @@ fn line(to: i32, list: &[u8], words: &[u8]) {
         return;
     };
     render(
+        rt,
         to,
         list,
         word_at(words, 2),
@@ -114,13 +153,13 @@ fn line(to: i32, list: &[u8], words: &[u8]) {
 }
 
 // Each line of a list, without its comment.
-fn lines(to: i32, name: &[u8], list: &[u8]) {
+fn lines<R: Files<File = File> + Alloc>(rt: &R, to: To, name: &[u8], list: &[u8]) {
     let mut start = 0;
     while start < list.len() {
         let end = find(list, start, Stop::Byte(b'\n'));
         let whole = &list[start..end];
         let comment = find(whole, 0, Stop::Byte(b'#'));
-        line(to, name, &whole[..comment]);
+        line(rt, to, name, &whole[..comment]);
         if end == list.len() {
             return;
         }
@@ -129,63 +168,63 @@ fn lines(to: i32, name: &[u8], list: &[u8]) {
 }
 
 // The renders that a file lists.
-fn list(to: i32, file: &[u8]) {
-    let fd = os::open_read(file);
-    if fd < 0 {
-        say::failed(to, file, b"cannot be opened");
-        return;
-    }
-    let mut text = io::large_buffer();
-    let n = io::read_full(fd, &mut text);
-    libc::close(fd);
+fn list<R: Files<File = File> + Alloc>(rt: &R, to: To, file: &[u8]) {
+    let mut opened = match open_read(rt, file) {
+        Ok(opened) => opened,
+        Err(why) => {
+            say::failed(to, file, why, b"cannot be opened");
+            return;
+        }
+    };
+    let mut text = [0u8; 65536];
+    let n = read_full(&mut opened, &mut text);
+    drop(opened);
     if n == text.len() {
         say::problem(to, file, b"list too long");
         return;
     }
-    lines(to, file, &text[..n]);
+    lines(rt, to, file, &text[..n]);
 }
 
 // The render that the arguments ask for.
-fn from_args() {
-    let mut a = io::buffer();
-    let mut b = io::buffer();
-    let mut c = io::buffer();
-    let mut d = io::buffer();
-    let i = os::arg(1, &mut a);
-    let j = os::arg(2, &mut b);
-    let k = os::arg(3, &mut c);
-    let l = os::arg(4, &mut d);
-    let Understood::Is(asked) = args_ask() else {
+fn from_args<R: Files<File = File> + Env + Alloc>(rt: &R, to: To) {
+    let mut a = [0u8; 4096];
+    let mut b = [0u8; 4096];
+    let mut c = [0u8; 4096];
+    let mut d = [0u8; 4096];
+    let i = arg(rt, 1, &mut a);
+    let j = arg(rt, 2, &mut b);
+    let k = arg(rt, 3, &mut c);
+    let l = arg(rt, 4, &mut d);
+    let Understood::Is(asked) = args_ask(rt, to) else {
         return;
     };
-    render(
-        STDERR_FILENO,
-        b"",
-        &c[..k],
-        &d[..l],
-        asked,
-        &a[..i],
-        &b[..j],
-    );
+    render(rt, to, b"", &c[..k], &d[..l], asked, &a[..i], &b[..j]);
 }
 
-fn main() {
-    let mut a = io::buffer();
-    let mut b = io::buffer();
-    let i = os::arg(1, &mut a);
-    let j = os::arg(2, &mut b);
-    let count = os::arg_count();
+fn main(rt: HostRuntime) {
+    let to = To {
+        error: rt.stderr(),
+        output: rt.stdout(),
+        checked: false,
+    };
+    let mut a = [0u8; 4096];
+    let mut b = [0u8; 4096];
+    let i = arg(&rt, 1, &mut a);
+    let j = arg(&rt, 2, &mut b);
+    let count = arg_count(&rt);
     if count == 3 && same(&a[..i], b"list") {
-        list(STDERR_FILENO, &b[..j]);
+        list(&rt, to, &b[..j]);
         return;
     }
     if count == 3 && same(&a[..i], b"check") {
-        list(STDOUT_FILENO, &b[..j]);
+        let checked = true;
+        list(&rt, To { checked, ..to }, &b[..j]);
         return;
     }
     if count < 5 {
-        usage(STDERR_FILENO);
+        usage(to);
         return;
     }
-    from_args();
+    from_args(&rt, to);
 }

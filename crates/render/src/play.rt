@@ -5,23 +5,34 @@ ghost use Rattle.render.specs.Run.{Ready, Few, Told};
 use crate::turn::turn;
 use sounds::file::{least, read_some};
 use sounds::say;
+use sounds::say::To;
+use std::fs::File;
+use std::io;
+use std::io::{Stdout, Write};
 use wav::format::{Format, frame_size};
 use wav::level::{Count, Fault, count_faults};
 
 // What was found among the samples that are written: infinite or NaN, and above full scale.
-#[derive(Drop)]
+#[derive(Clone, Copy)]
 pub struct Levels {
     pub bad: Count,
     pub loud: Count,
 }
 
+// Where the frames go: to standard output, or to an open file.
+#[derive(Clone, Copy)]
+pub enum Output<'a> {
+    Standard(Stdout),
+    File(&'a File),
+}
+
 // A rendering: the open files, the format of the input, the board's block size and the bytes of its
 // memory, how many frames are still to be read and to be written, how many are written, what was found
 // in them, and whether progress is shown.
-#[derive(Drop)]
-pub struct Run {
-    pub input: i32,
-    pub output: i32,
+#[derive(Clone, Copy)]
+pub struct Run<'a> {
+    pub input: &'a File,
+    pub output: Output<'a>,
     pub format: Format,
     pub size: usize,
     pub room: usize,
@@ -33,11 +44,11 @@ pub struct Run {
 }
 
 // How it went.
-#[derive(Drop)]
+#[derive(Clone, Copy)]
 pub enum Went {
     Well(Levels),
     NotRead,
-    NotWritten,
+    NotWritten(io::Error),
     Refused(u32, u32),
 }
 
@@ -63,7 +74,7 @@ fn bytes_of(frames: usize, format: Format) -> usize
 // What is found with these frames, which come after those that are written.
 fn heard(run: Run, frames: &[u8]) -> Levels
     requires { Ready run × (length frames.now ≡ 8 * min run.size run.writes) }
-    ensures { Few (2 * (run.done + min run.size run.writes)) result }
+    ensures { Few (2 * (run.entry.done + min run.entry.size run.entry.writes)) result }
 {
     let before = run.levels;
     let bad = before.bad;
@@ -74,17 +85,27 @@ fn heard(run: Run, frames: &[u8]) -> Levels
     Levels { bad, loud }
 }
 
+// Writes all of the bytes, or says why it cannot.
+pub fn write_to(output: Output, bytes: &[u8]) -> io::Result<()> {
+    match output {
+        Output::Standard(stream) => Print::write_all(&stream, bytes),
+        Output::File(file) => {
+            let mut writer = file;
+            writer.write_all(bytes)
+        }
+    }
+}
+
 // Writes the first of a block's frames, those that are still to be written.
 fn write_frames(run: Run, frames: &[u8]) -> Went
     requires { Ready run × (length frames.now ≡ 8 * run.size) }
-    ensures { Told (2 * (run.done + min run.size run.writes)) result }
+    ensures { Told (2 * (run.entry.done + min run.entry.size run.entry.writes)) result }
 {
     let put = 8 * least(run.size, run.writes);
     let part = &frames[..put];
-    if io::write_all(run.output, part) {
-        Went::Well(heard(run, part))
-    } else {
-        Went::NotWritten
+    match write_to(run.output, part) {
+        Ok(()) => Went::Well(heard(run, part)),
+        Err(why) => Went::NotWritten(why),
     }
 }
 
@@ -104,7 +125,7 @@ fn long_room() -> [u8; 1024]
 // Runs the board on the frames that were read, and writes those that come of it.
 fn run_block(run: Run, board: &[u8], memory: &mut [u8], bytes: &[u8]) -> Went
     requires { Ready run }
-    ensures { Told (2 * (run.done + min run.size run.writes)) result }
+    ensures { Told (2 * (run.entry.done + min run.entry.size run.entry.writes)) result }
 {
     let short = 4 * run.size;
     let long = 8 * run.size;
@@ -132,11 +153,12 @@ fn run_block(run: Run, board: &[u8], memory: &mut [u8], bytes: &[u8]) -> Went
 // One block.
 fn one(run: Run, board: &[u8], memory: &mut [u8]) -> Went
     requires { Ready run }
-    ensures { Told (2 * (run.done + min run.size run.writes)) result }
+    ensures { Told (2 * (run.entry.done + min run.entry.size run.entry.writes)) result }
 {
     let mut bytes = long_room();
     let want = bytes_of(least(run.size, run.reads), run.format);
-    let got = read_some(run.input, &mut bytes, want);
+    let mut input = run.input;
+    let got = read_some(&mut input, &mut bytes, want);
     if got < want {
         return Went::NotRead;
     }
@@ -144,9 +166,9 @@ fn one(run: Run, board: &[u8], memory: &mut [u8]) -> Went
 }
 
 // What is left after a block.
-fn after(run: Run, levels: Levels) -> Run
+fn after<'a>(run: Run<'a>, levels: Levels) -> Run<'a>
     requires { Ready run × Few (2 * (run.done + min run.size run.writes)) levels }
-    ensures { Ready result × (result.size ≡ run.size) × (result.writes ≡ run.writes - min run.size run.writes) }
+    ensures { Ready result × (result.size ≡ run.entry.size) × (result.writes ≡ run.entry.writes - min run.entry.size run.entry.writes) }
 {
     let mut next = run;
     let wrote = least(run.size, run.writes);
@@ -169,17 +191,17 @@ fn percent(run: Run) -> usize
 }
 
 // Shows the per cent where they have changed and progress is asked for.
-fn show(before: Run, now: Run)
+fn show(to: To, before: Run, now: Run)
     requires { Ready before × Ready now }
 {
     let p = percent(now);
     if now.progress && p != percent(before) {
-        say::percent(p as u64);
+        say::percent(to, p as u64);
     }
 }
 
 // All blocks.
-pub fn play(start: Run, board: &[u8], memory: &mut [u8]) -> Went
+pub fn play(to: To, start: Run, board: &[u8], memory: &mut [u8]) -> Went
     requires { Ready start }
 {
     let mut run = start;
@@ -188,7 +210,7 @@ pub fn play(start: Run, board: &[u8], memory: &mut [u8]) -> Went
         match went {
             Went::Well(levels) => {
                 let next = after(run, levels);
-                show(run, next);
+                show(to, run, next);
                 run = next;
             }
             _ => return went,

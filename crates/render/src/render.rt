@@ -3,16 +3,21 @@ ghost use Rattle.std.specs.Prelude.{◌≡◌, ◌≤◌, length};
 ghost use Rattle.render.specs.Run.{Ready};
 
 use crate::board::{Made, from_file, make, tell_board};
-use crate::play::{Levels, Run, Went, no_levels, play};
+use crate::play::{Levels, Output, Run, Went, no_levels, play, write_to};
 use crate::words::Asked;
 use boards::judge::read_board;
 use check::same;
+use files::name::{create, open_overwrite, open_read, remove, rename};
 use files::output::{Way, led_to, part_name, way_of};
 use files::{is_file, is_open_file};
 use graph::tail::{ENDLESS, tail_of};
-use libc::STDOUT_FILENO;
 use sounds::say;
+use sounds::say::To;
 use sounds::source::{Surveyed, survey};
+use std::fs::File;
+use std::io;
+use std::io::{Seek, SeekFrom};
+use std::rt::Files;
 use wav::header::{MOST, header};
 
 // The frames that are given where the tail is endless.
@@ -49,40 +54,40 @@ fn lent() -> [u8; 1114880]
 }
 
 // All blocks, from fresh memory.
-fn blocks(run: Run, board: &[u8]) -> Went
+fn blocks(to: To, run: Run, board: &[u8]) -> Went
     requires { Ready run }
 {
     let room = run.room;
     let mut memory = lent();
     memory::fresh::fresh(board, &mut memory[..room]);
-    play(run, board, &mut memory[..room])
+    play(to, run, board, &mut memory[..room])
 }
 
 // The header and then all blocks, into an open file.
-fn write_file(run: Run, board: &[u8]) -> Went
+fn write_file(to: To, run: Run, board: &[u8]) -> Went
     requires { Ready run }
 {
     let head = header(run.writes as u32);
-    if !io::write_all(run.output, &head) {
-        return Went::NotWritten;
+    if let Err(why) = write_to(run.output, &head) {
+        return Went::NotWritten(why);
     }
-    let went = blocks(run, board);
+    let went = blocks(to, run, board);
     if run.progress {
-        say::percent_end();
+        say::percent_end(to);
     }
     went
 }
 
 // What went wrong, with the name of the file that it went wrong with; true if nothing did.
-fn told(to: i32, went: Went, input: &[u8], output: &[u8]) -> bool {
+fn told(to: To, went: Went, input: &[u8], output: &[u8]) -> bool {
     match went {
         Went::Well(_) => true,
         Went::NotRead => {
             say::problem(to, input, b"has changed while it was read");
             false
         }
-        Went::NotWritten => {
-            say::failed(to, output, b"cannot be written");
+        Went::NotWritten(why) => {
+            say::failed(to, output, why, b"cannot be written");
             false
         }
         Went::Refused(number, place) => {
@@ -93,18 +98,18 @@ fn told(to: i32, went: Went, input: &[u8], output: &[u8]) -> bool {
 }
 
 // A run that writes to another file.
-fn with_output(run: Run, fd: i32) -> Run
+fn with_output<'a>(run: Run<'a>, file: &'a File) -> Run<'a>
     requires { Ready run }
     ensures { Ready result }
 {
     let mut next = run;
-    next.output = fd;
+    next.output = Output::File(file);
     next
 }
 
 // What is told of a sound that was written: what its samples are, and that two channels became one where
 // nobody asked for it.
-fn warned(to: i32, went: Went, mixed: bool, input: &[u8], output: &[u8]) {
+fn warned(to: To, went: Went, mixed: bool, input: &[u8], output: &[u8]) {
     if let Went::Well(levels) = went {
         say::level(to, output, levels.bad, b"infinite or NaN");
         say::level(to, output, levels.loud, b"above full scale");
@@ -119,53 +124,65 @@ fn warned(to: i32, went: Went, mixed: bool, input: &[u8], output: &[u8]) {
 }
 
 // The end of a sound that is written whole to a file.
-fn finished(to: i32, run: Run, went: Went, mixed: bool, input: &[u8], output: &[u8]) {
+fn finished(to: To, run: Run, went: Went, mixed: bool, input: &[u8], output: &[u8]) {
     say::done(to, output, run.reads as u64, run.writes as u64);
     warned(to, went, mixed, input, output);
 }
 
 // To standard output.
-fn to_standard(to: i32, run: Run, board: &[u8], mixed: bool, input: &[u8], output: &[u8])
+fn to_standard(to: To, run: Run, board: &[u8], mixed: bool, input: &[u8], output: &[u8])
     requires { Ready run }
 {
-    let went = write_file(run, board);
+    let went = write_file(to, run, board);
     if told(to, went, input, output) {
         warned(to, went, mixed, input, output);
     }
 }
 
 // To what is there, as a pipe.
-fn straight(to: i32, run: Run, board: &[u8], mixed: bool, input: &[u8], output: &[u8])
+fn straight<R: Files<File = File>>(
+    rt: &R,
+    to: To,
+    run: Run,
+    board: &[u8],
+    mixed: bool,
+    input: &[u8],
+    output: &[u8],
+)
     requires { Ready run }
 {
-    let fd = os::open_overwrite(output);
-    if fd < 0 {
-        say::failed(to, output, b"cannot be opened for writing");
-        return;
-    }
-    let went = write_file(with_output(run, fd), board);
-    libc::close(fd);
+    let opened = match open_overwrite(rt, output) {
+        Ok(opened) => opened,
+        Err(why) => {
+            say::failed(to, output, why, b"cannot be opened for writing");
+            return;
+        }
+    };
+    let went = write_file(to, with_output(run, &opened), board);
+    drop(opened);
     if told(to, went, input, output) {
         finished(to, run, went, mixed, input, output);
     }
 }
 
-// Closes what is written and gives it the file's name; true if both went well.
-fn named(to: i32, fd: i32, part: &[u8], file: &[u8]) -> bool {
-    if libc::close(fd) != 0 {
-        say::failed(to, file, b"cannot be written");
+// Closes what is written, once the system has taken all of it, and gives it the file's name; true if both
+// went well. What only closing would tell is lost, so the system is asked before.
+fn named<R: Files<File = File>>(rt: &R, to: To, written: File, part: &[u8], file: &[u8]) -> bool {
+    if let Err(why) = written.sync_all() {
+        say::failed(to, file, why, b"cannot be written");
         return false;
     }
-    if os::rename(part, file) != 0 {
-        say::failed(to, file, b"cannot be written");
+    drop(written);
+    if let Err(why) = rename(rt, part, file) {
+        say::failed(to, file, why, b"cannot be written");
         return false;
     }
     true
 }
 
 // Why what is to be written beside a file cannot be made.
-fn not_made(to: i32, part: &[u8], output: &[u8]) {
-    if os::errno() == libc::EEXIST {
+fn not_made(to: To, part: &[u8], output: &[u8], why: io::Error) {
+    if let io::ErrorKind::AlreadyExists = why.kind() {
         say::problem(
             to,
             part,
@@ -173,44 +190,63 @@ fn not_made(to: i32, part: &[u8], output: &[u8]) {
         );
         return;
     }
-    say::failed(to, output, b"cannot be opened for writing");
+    say::failed(to, output, why, b"cannot be opened for writing");
 }
 
 // To a file beside the one that the output leads to, whose name it then takes.
-fn beside(to: i32, run: Run, board: &[u8], mixed: bool, input: &[u8], output: &[u8], file: &[u8])
+fn beside<R: Files<File = File>>(
+    rt: &R,
+    to: To,
+    run: Run,
+    board: &[u8],
+    mixed: bool,
+    input: &[u8],
+    output: &[u8],
+    file: &[u8],
+)
     requires { Ready run }
 {
-    let mut name = io::buffer();
+    let mut name = [0u8; 4096];
     let n = part_name(file, &mut name);
     let part = &name[..n];
-    let fd = os::create(part);
-    if fd < 0 {
-        not_made(to, part, output);
-        return;
-    }
-    let went = write_file(with_output(run, fd), board);
+    let made = match create(rt, part) {
+        Ok(made) => made,
+        Err(why) => {
+            not_made(to, part, output, why);
+            return;
+        }
+    };
+    let went = write_file(to, with_output(run, &made), board);
     if !told(to, went, input, output) {
-        libc::close(fd);
-        os::unlink(part);
+        drop(made);
+        let _ = remove(rt, part);
         return;
     }
-    if named(to, fd, part, file) {
+    if named(rt, to, made, part, file) {
         finished(to, run, went, mixed, input, output);
     } else {
-        os::unlink(part);
+        let _ = remove(rt, part);
     }
 }
 
 // From an input that is wholly fine, at its data, to the output.
-fn to_output(to: i32, run: Run, board: &[u8], mixed: bool, input: &[u8], output: &[u8])
+fn to_output<R: Files<File = File> + Alloc>(
+    rt: &R,
+    to: To,
+    run: Run,
+    board: &[u8],
+    mixed: bool,
+    input: &[u8],
+    output: &[u8],
+)
     requires { Ready run }
 {
     if same(output, b"-") {
         to_standard(to, run, board, mixed, input, output);
         return;
     }
-    let mut name = io::buffer();
-    let n = led_to(output, &mut name);
+    let mut name = [0u8; 4096];
+    let n = led_to(rt, output, &mut name);
     if n == 0 {
         say::problem(
             to,
@@ -220,24 +256,25 @@ fn to_output(to: i32, run: Run, board: &[u8], mixed: bool, input: &[u8], output:
         return;
     }
     let file = &name[..n];
-    match way_of(output, file) {
-        Way::Straight => straight(to, run, board, mixed, input, output),
-        Way::Beside => beside(to, run, board, mixed, input, output, file),
-        Way::Closed => say::failed(to, output, b"cannot be opened for writing"),
+    match way_of(rt, output, file) {
+        Way::Straight => straight(rt, to, run, board, mixed, input, output),
+        Way::Beside => beside(rt, to, run, board, mixed, input, output, file),
+        Way::Closed(why) => say::failed(to, output, why, b"cannot be opened for writing"),
     }
 }
 
 // The board's block size and the bytes of its memory.
-#[derive(Drop)]
+#[derive(Clone, Copy)]
 struct Needs {
     size: usize,
     room: usize,
 }
 
 // The open input, surveyed, and then played.
-fn from_open(
-    to: i32,
-    fd: i32,
+fn from_open<R: Files<File = File> + Alloc>(
+    rt: &R,
+    to: To,
+    opened: &File,
     needs: Needs,
     asked: Asked,
     board: &[u8],
@@ -247,7 +284,8 @@ fn from_open(
     requires { (1 ≤ needs.size) × (needs.size ≤ 128) × (needs.room ≤ 1114880) }
 {
     let taken = asked.taken;
-    let Surveyed::Frames(format, frames, start) = survey(to, fd, input, taken) else {
+    let mut reader = opened;
+    let Surveyed::Frames(format, frames, start) = survey(to, &mut reader, input, taken) else {
         return;
     };
     let total = frames + frames_after(asked, board);
@@ -255,15 +293,15 @@ fn from_open(
         say::problem(to, input, b"too long: more than 4 GiB would be written");
         return;
     }
-    if is_open_file(fd, output) {
+    if is_open_file(rt, opened, output) {
         say::problem(to, output, b"is the input");
         return;
     }
-    libc::lseek(fd, start, libc::SEEK_SET);
+    let _ = reader.seek(SeekFrom::Start(start));
     let levels = no_levels();
     let run = Run {
-        input: fd,
-        output: STDOUT_FILENO,
+        input: opened,
+        output: Output::Standard(to.output),
         format,
         size: needs.size,
         room: needs.room,
@@ -274,24 +312,37 @@ fn from_open(
         progress: asked.progress,
     };
     let mixed = format.stereo && !asked.picked;
-    to_output(to, run, board, mixed, input, output);
+    to_output(rt, to, run, board, mixed, input, output);
 }
 
 // Through a board that the judge accepts.
-fn through(to: i32, needs: Needs, asked: Asked, board: &[u8], input: &[u8], output: &[u8])
+fn through<R: Files<File = File> + Alloc>(
+    rt: &R,
+    to: To,
+    needs: Needs,
+    asked: Asked,
+    board: &[u8],
+    input: &[u8],
+    output: &[u8],
+)
     requires { (1 ≤ needs.size) × (needs.size ≤ 128) × (needs.room ≤ 1114880) }
 {
-    let fd = os::open_read(input);
-    if fd < 0 {
-        say::failed(to, input, b"cannot be opened");
-        return;
+    match open_read(rt, input) {
+        Ok(opened) => from_open(rt, to, &opened, needs, asked, board, input, output),
+        Err(why) => say::failed(to, input, why, b"cannot be opened"),
     }
-    from_open(to, fd, needs, asked, board, input, output);
-    libc::close(fd);
 }
 
 // Through a board's bytes, once they are judged.
-fn judged(to: i32, board: &[u8], what: &[u8], asked: Asked, input: &[u8], output: &[u8]) {
+fn judged<R: Files<File = File> + Alloc>(
+    rt: &R,
+    to: To,
+    board: &[u8],
+    what: &[u8],
+    asked: Asked,
+    input: &[u8],
+    output: &[u8],
+) {
     let read = read_board(board);
     let refused = read.refused;
     if refused.number != 0 {
@@ -302,25 +353,33 @@ fn judged(to: i32, board: &[u8], what: &[u8], asked: Asked, input: &[u8], output
         size: read.size,
         room: 4 * read.values,
     };
-    through(to, needs, asked, board, input, output);
+    through(rt, to, needs, asked, board, input, output);
 }
 
 // Through the board that is asked for.
-fn through_board(to: i32, form: &[u8], what: &[u8], asked: Asked, input: &[u8], output: &[u8]) {
+fn through_board<R: Files<File = File> + Alloc>(
+    rt: &R,
+    to: To,
+    form: &[u8],
+    what: &[u8],
+    asked: Asked,
+    input: &[u8],
+    output: &[u8],
+) {
     let mut board = [0u8; 69632];
-    match make(to, form, what, &mut board) {
-        Made::Bytes(n) => judged(to, &board[..n], what, asked, input, output),
+    match make(rt, to, form, what, &mut board) {
+        Made::Bytes(n) => judged(rt, to, &board[..n], what, asked, input, output),
         Made::Bad => (),
     }
 }
 
 // Whether to write the output would lose the board's file or the list; that is told.
-fn loses(to: i32, form: &[u8], what: &[u8], list: &[u8], output: &[u8]) -> bool {
-    if from_file(form) && is_file(what, output) {
+fn loses<R: Files>(rt: &R, to: To, form: &[u8], what: &[u8], list: &[u8], output: &[u8]) -> bool {
+    if from_file(form) && is_file(rt, what, output) {
         say::problem(to, output, b"is the board's file");
         return true;
     }
-    if is_file(list, output) {
+    if is_file(rt, list, output) {
         say::problem(to, output, b"is the list");
         return true;
     }
@@ -329,8 +388,9 @@ fn loses(to: i32, form: &[u8], what: &[u8], list: &[u8], output: &[u8]) -> bool 
 
 // IN OUT plate MIX, or IN OUT board FILE, with what the other words ask for; `list` names the list that
 // has these words, or is empty, and `to` is where answers go.
-pub fn render(
-    to: i32,
+pub fn render<R: Files<File = File> + Alloc>(
+    rt: &R,
+    to: To,
     list: &[u8],
     form: &[u8],
     what: &[u8],
@@ -338,8 +398,8 @@ pub fn render(
     input: &[u8],
     output: &[u8],
 ) {
-    if loses(to, form, what, list, output) {
+    if loses(rt, to, form, what, list, output) {
         return;
     }
-    through_board(to, form, what, asked, input, output);
+    through_board(rt, to, form, what, asked, input, output);
 }

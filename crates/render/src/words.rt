@@ -4,10 +4,11 @@
 use check::same;
 use decimals::number::whole_of;
 use sounds::say;
+use sounds::say::To;
 use wav::format::Taken;
 
 // What is asked for; `timed` and `picked` tell whether a word said it.
-#[derive(Drop)]
+#[derive(Clone, Copy)]
 pub struct Asked {
     pub timed: bool,
     pub seconds: u16,
@@ -17,7 +18,7 @@ pub struct Asked {
 }
 
 // What is asked for after one more word; or the word was refused, and that was told.
-#[derive(Drop)]
+#[derive(Clone, Copy)]
 pub enum Understood {
     Is(Asked),
     Bad,
@@ -34,12 +35,12 @@ pub fn nothing() -> Asked {
     }
 }
 
-fn refused(to: i32, word: &[u8], why: &[u8]) -> Understood {
+fn refused(to: To, word: &[u8], why: &[u8]) -> Understood {
     say::problem(to, word, why);
     Understood::Bad
 }
 
-fn with_channel(to: i32, asked: Asked, word: &[u8], taken: Taken) -> Understood {
+fn with_channel(to: To, asked: Asked, word: &[u8], taken: Taken) -> Understood {
     if asked.picked {
         return refused(to, word, b"a channel is named already");
     }
@@ -52,7 +53,7 @@ fn with_channel(to: i32, asked: Asked, word: &[u8], taken: Taken) -> Understood 
     })
 }
 
-fn with_progress(to: i32, asked: Asked, word: &[u8]) -> Understood {
+fn with_progress(to: To, asked: Asked, word: &[u8]) -> Understood {
     if asked.progress {
         return refused(to, word, b"is said already");
     }
@@ -70,7 +71,7 @@ fn numeric(word: &[u8]) -> bool {
     ((48 <= first) & (first <= 57)) | ((first == b'-') | ((first == b'+') | (first == b'.')))
 }
 
-fn with_seconds(to: i32, asked: Asked, word: &[u8]) -> Understood {
+fn with_seconds(to: To, asked: Asked, word: &[u8]) -> Understood {
     let whole = whole_of(word, 600);
     if !whole.good {
         if numeric(word) {
@@ -92,7 +93,7 @@ fn with_seconds(to: i32, asked: Asked, word: &[u8]) -> Understood {
 }
 
 // One more word.
-pub fn with_word(to: i32, asked: Asked, word: &[u8]) -> Understood {
+pub fn with_word(to: To, asked: Asked, word: &[u8]) -> Understood {
     if same(word, b"mono") {
         return with_channel(to, asked, word, Taken::Mean);
     }

@@ -1,12 +1,15 @@
 // Replays the list of answers on standard input (oracle/README.md, "The list of answers") and counts
 // its records and those that the library answers otherwise.
-ghost use Rattle.std.specs.Prelude.{◌+◌, ◌≤◌, ◌≡◌, length};
+#![tactic(auto)]
+
+ghost use Rattle.std.specs.Prelude.{◌+◌, ◌≤◌, ◌≡◌, length, IfOk};
 
 mod hash;
 mod record;
 
-use libc::{STDIN_FILENO, STDOUT_FILENO};
+use input::read_full;
 use record::{Found, answered};
+use std::io;
 use values::bytes::u32_at;
 
 fn found_at(s: &[u8], at: usize) -> Found
@@ -23,28 +26,23 @@ fn same(a: Found, b: Found) -> bool {
     (a.number == b.number) & (a.place == b.place) & (a.check == b.check)
 }
 
-fn show(records: usize, differences: usize) {
-    io::print_decimal(STDOUT_FILENO, records as u64);
-    io::write_all(STDOUT_FILENO, b" records, ");
-    io::print_decimal(STDOUT_FILENO, differences as u64);
-    io::write_all(STDOUT_FILENO, b" differences\n");
+fn show(rt: &impl Print, records: usize, differences: usize) -> io::Result<()> {
+    println!(rt; "{records} records, {differences} differences")
 }
 
 // 1 for a record that is answered otherwise, which is named, and else 0.
-fn judged(record: usize, found: Found, expected: Found) -> usize
-    ensures { result ≤ 1 }
+fn judged(rt: &impl Print, record: usize, found: Found, expected: Found) -> io::Result<usize>
+    ensures { IfOk result (λ n. n ≤ 1) }
 {
     if same(found, expected) {
-        return 0;
+        return Ok(0);
     }
-    io::write_all(STDOUT_FILENO, b"record ");
-    io::print_decimal(STDOUT_FILENO, record as u64);
-    io::write_all(STDOUT_FILENO, b" differs\n");
-    1
+    println!(rt; "record {record} differs")?;
+    Ok(1)
 }
 
 // The last accepted board, from `start` to `end` in the list, and the bytes of its memory.
-#[derive(Drop)]
+#[derive(Clone, Copy)]
 struct Current {
     start: usize,
     end: usize,
@@ -68,7 +66,7 @@ fn after(kind: u32, found: Found, from: usize, to: usize, before: Current) -> Cu
 }
 
 // The records in order, until the end record.
-fn replay(s: &[u8], memory: &mut [u8]) {
+fn replay(rt: &impl Print, s: &[u8], memory: &mut [u8]) -> io::Result<()> {
     let mut current = Current {
         start: 0,
         end: 0,
@@ -83,8 +81,7 @@ fn replay(s: &[u8], memory: &mut [u8]) {
         let expected = found_at(s, at + 8);
         let from = at + 20;
         if kind == 0 && expected.number as usize == records && from == s.len() {
-            show(records, differences);
-            return;
+            return show(rt, records, differences);
         }
         if s.len() - from < size {
             break;
@@ -94,12 +91,12 @@ fn replay(s: &[u8], memory: &mut [u8]) {
         let end = current.end;
         let board = &s[start..end];
         let found = answered(kind, &s[from..to], board, memory, current.room);
-        differences += judged(records, found, expected);
+        differences += judged(rt, records, found, expected)?;
         current = after(kind, found, from, to, current);
         records += 1;
         at = to;
     }
-    io::write_all(STDOUT_FILENO, b"no end record\n");
+    println!(rt; "no end record")
 }
 
 // Room for the list.
@@ -117,9 +114,9 @@ fn lent() -> [u8; 263528]
     [0; 263528]
 }
 
-fn main() {
+fn main(rt: HostRuntime) -> io::Result<()> {
     let mut bytes = list();
     let mut memory = lent();
-    let n = io::read_full(STDIN_FILENO, &mut bytes);
-    replay(&bytes[..n], &mut memory);
+    let n = read_full(&mut rt.stdin(), &mut bytes)?;
+    replay(&rt, &bytes[..n], &mut memory)
 }

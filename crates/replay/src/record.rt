@@ -10,7 +10,7 @@ use values::bytes::{u16_at, u32_at, wide};
 use values::float::of_bits;
 
 // An answer and its check.
-#[derive(Drop)]
+#[derive(Clone, Copy)]
 pub struct Found {
     pub number: u32,
     pub place: u32,

@@ -8,7 +8,7 @@ use text::words::word_at;
 use text::written::put_pair;
 
 // A wire to add, or to pull.
-#[derive(Drop)]
+#[derive(Clone, Copy)]
 pub struct Change {
     pub adding: bool,
     pub source: u16,
@@ -16,7 +16,7 @@ pub struct Change {
 }
 
 // What a line says: nothing, a change, or something else.
-#[derive(Drop)]
+#[derive(Clone, Copy)]
 pub enum Line {
     Empty,
     Says(Change),

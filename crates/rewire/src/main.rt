@@ -5,46 +5,50 @@
 // BOARD is a file with a board's bytes. A line of CHANGES is `+ SOURCE TARGET`, which adds a wire, or
 // `- SOURCE TARGET`, which pulls one; an empty line is passed over. docs/REWIRING.md says what comes of
 // them.
+#![tactic(auto)]
+
 mod change;
 mod step;
 
-ghost use Rattle.std.specs.Prelude.{◌≡◌, true};
+ghost use Rattle.std.specs.Prelude.{◌≡◌, true, IfOk};
 ghost use Rattle.boards.specs.Judge.{judge_of};
 ghost use Rattle.rewire.specs.Step.{made_of, length_after, Plays};
 
 use boards::judge::judge;
 use change::{Change, Line, change_of, change_text};
-use libc::{STDIN_FILENO, STDOUT_FILENO};
+use files::name::open_read;
+use input::read_full;
 use listing::lines::board_text;
+use std::env::{Env, FillError};
+use std::io;
+use std::rt::Files;
 use step::{answer_text, length_after, make};
 use text::words::{Stop, find};
 
 // Makes a change on the board that the first n bytes are, shows it with what came of it, and returns
 // the board's length.
-fn show_change(bytes: &mut [u8], n: usize, change: Change) -> usize
+fn show_change(rt: &impl Print, bytes: &mut [u8], n: usize, change: Change) -> io::Result<usize>
     requires { Plays bytes.old n }
     ensures made { bytes.new ≡ (made_of change bytes.old n).1 }
-    ensures long { result ≡ length_after change n (made_of change bytes.old n).0 }
-    ensures plays { Plays bytes.new result }
+    ensures long { IfOk result (λ m. m ≡ length_after change n (made_of change bytes.old n).0) }
+    ensures plays { IfOk result (λ m. Plays bytes.new m) }
 {
     let mut out = [0u8; 2048];
     let k = change_text(change, &mut out);
-    io::write_all(STDOUT_FILENO, &out[..k]);
     let answer = make(bytes, n, change);
     let after = length_after(n, change, answer);
+    rt.write_all(&out[..k])?;
     let m = answer_text(answer, &bytes[..after], &mut out);
-    io::write_all(STDOUT_FILENO, &out[..m]);
-    after
+    rt.write_all(&out[..m])?;
+    Ok(after)
 }
 
-fn show_bad(line: usize) {
-    io::write_all(STDOUT_FILENO, b"line ");
-    io::print_decimal(STDOUT_FILENO, line as u64);
-    io::write_all(STDOUT_FILENO, b" is no change\n");
+fn show_bad(rt: &impl Print, line: usize) -> io::Result<()> {
+    println!(rt; "line {line} is no change")
 }
 
 // Each change of the text, up to a line that is none, on the board that the first `board` bytes are.
-fn show_changes(bytes: &mut [u8], board: usize, text: &[u8])
+fn show_changes(rt: &impl Print, bytes: &mut [u8], board: usize, text: &[u8]) -> io::Result<()>
     requires { Plays bytes.old board }
 {
     let mut n = board;
@@ -56,58 +60,61 @@ fn show_changes(bytes: &mut [u8], board: usize, text: &[u8])
         match change_of(&text[start..end]) {
             Line::Empty => {}
             Line::Says(change) => {
-                n = show_change(bytes, n, change);
+                n = show_change(rt, bytes, n, change)?;
             }
             Line::Other => {
-                show_bad(line);
-                return;
+                return show_bad(rt, line);
             }
         }
         if end == text.len() {
-            return;
+            return Ok(());
         }
         start = end + 1;
     }
+    Ok(())
 }
 
 // The lines of a board, or its refusal; whether it is one.
-fn show_board(s: &[u8]) -> bool
-    ensures { result ≡ true → (judge_of s.now).number ≡ 0 }
+fn show_board(rt: &impl Print, s: &[u8]) -> io::Result<bool>
+    ensures { IfOk result (λ b. b ≡ true → (judge_of s.now).number ≡ 0) }
 {
     let mut out = [0u8; 2048];
     let m = board_text(s, &mut out);
-    io::write_all(STDOUT_FILENO, &out[..m]);
-    judge(s).number == 0
+    rt.write_all(&out[..m])?;
+    Ok(judge(s).number == 0)
 }
 
 // The board of an open file, and the changes on standard input. As in `order`, no byte past the buffer's
 // end can change an answer; the longest board has 1,932 bytes and so leaves spare ones for a wire.
-fn run(fd: i32) {
+fn run<R: Files + Input + Print>(rt: &R, file: R::File) -> io::Result<()> {
+    let mut file = file;
     let mut bytes = [0u8; 69632];
-    let n = io::read_full(fd, &mut bytes);
-    libc::close(fd);
-    let mut text = io::large_buffer();
-    let m = io::read_full(STDIN_FILENO, &mut text);
+    let n = read_full(&mut file, &mut bytes)?;
+    let mut text = [0u8; 65536];
+    let m = read_full(&mut rt.reader(), &mut text)?;
     if m == text.len() {
-        io::write_all(STDOUT_FILENO, b"text too long\n");
-        return;
+        return rt.write_all(b"text too long\n");
     }
-    if show_board(&bytes[..n]) {
-        show_changes(&mut bytes, n, &text[..m]);
+    if show_board(rt, &bytes[..n])? {
+        return show_changes(rt, &mut bytes, n, &text[..m]);
     }
+    Ok(())
 }
 
-fn main() {
-    let mut name = io::buffer();
-    let k = os::arg(1, &mut name);
-    if os::arg_count() != 2 {
-        io::write_all(STDOUT_FILENO, b"rewire BOARD < CHANGES\n");
-        return;
+// Whether there is a word `i`.
+fn is_word(rt: &impl Env, i: usize) -> bool {
+    let mut none = [0u8; 1];
+    !matches!(rt.arg(i, &mut none), Err(FillError::NotPresent))
+}
+
+fn main(rt: HostRuntime) -> io::Result<()> {
+    if !is_word(&rt, 1) | is_word(&rt, 2) {
+        return rt.write_all(b"rewire BOARD < CHANGES\n");
     }
-    let fd = os::open_read(&name[..k]);
-    if fd < 0 {
-        io::write_all(STDOUT_FILENO, b"the board cannot be opened\n");
-        return;
-    }
-    run(fd);
+    let mut name = [0u8; 4096];
+    let k = rt.arg(1, &mut name).unwrap_or(0);
+    let Ok(file) = open_read(&rt, &name[..k]) else {
+        return rt.write_all(b"the board cannot be opened\n");
+    };
+    run(&rt, file)
 }

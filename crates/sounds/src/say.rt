@@ -1,44 +1,79 @@
 // What the program says: lines on standard error, or on standard output where a list is checked, each
-// with the name of what it speaks of. `to` is where they go.
-use libc::STDERR_FILENO;
+// with the name of what it speaks of. `to` is where they go. One that cannot be written is lost.
+use std::fmt::InlineText;
+use std::io;
+use std::io::{Stderr, Stdout};
 use wav::format::FormatRead;
 use wav::level::Count;
 
-pub fn text(to: i32, words: &[u8]) {
-    io::write_all(to, words);
+// Both streams, and whether the lines go to standard output.
+#[derive(Clone, Copy)]
+pub struct To {
+    pub error: Stderr,
+    pub output: Stdout,
+    pub checked: bool,
 }
 
-pub fn number(to: i32, n: u64) {
-    io::print_decimal(to, n);
+// Standard error, wherever lines go.
+fn error(to: To) -> To {
+    To {
+        checked: false,
+        ..to
+    }
+}
+
+pub fn text(to: To, words: &[u8]) {
+    let _ = if to.checked {
+        to.output.write_all(words)
+    } else {
+        to.error.write_all(words)
+    };
+}
+
+pub fn number(to: To, n: u64) {
+    let _ = if to.checked {
+        to.output.print(n)
+    } else {
+        to.error.print(n)
+    };
 }
 
 // `NAME: `
-fn name(to: i32, name: &[u8]) {
+fn name(to: To, name: &[u8]) {
     text(to, name);
     text(to, b": ");
 }
 
 // `NAME: what is wrong`
-pub fn problem(to: i32, of: &[u8], words: &[u8]) {
+pub fn problem(to: To, of: &[u8], words: &[u8]) {
     name(to, of);
     text(to, words);
     text(to, b"\n");
 }
 
 // `NAME: line`, of a line that has its end.
-pub fn answer(to: i32, of: &[u8], line: &[u8]) {
+pub fn answer(to: To, of: &[u8], line: &[u8]) {
     name(to, of);
     text(to, line);
 }
 
+// The system's reason without its number: `No such file or directory`.
+fn reason(told: &str) -> &str {
+    match told.split_once(" (os error ") {
+        Some((reason, _)) => reason,
+        None => told,
+    }
+}
+
 // A call on a file failed: why, on standard error, and what is wrong.
-pub fn failed(to: i32, file: &[u8], words: &[u8]) {
-    os::fail(file);
+pub fn failed(to: To, file: &[u8], why: io::Error, words: &[u8]) {
+    let told = InlineText::<128>::of(why);
+    problem(error(to), file, reason(told.as_str()).as_bytes());
     problem(to, file, words);
 }
 
 // `NAME: number and words`
-pub fn counted(to: i32, of: &[u8], n: u64, words: &[u8]) {
+pub fn counted(to: To, of: &[u8], n: u64, words: &[u8]) {
     name(to, of);
     number(to, n);
     text(to, words);
@@ -46,7 +81,7 @@ pub fn counted(to: i32, of: &[u8], n: u64, words: &[u8]) {
 }
 
 // `NAME: refused number place`, as document 01 numbers them.
-pub fn refused(to: i32, of: &[u8], kind: u32, place: u32) {
+pub fn refused(to: To, of: &[u8], kind: u32, place: u32) {
     name(to, of);
     text(to, b"refused ");
     number(to, kind as u64);
@@ -56,7 +91,7 @@ pub fn refused(to: i32, of: &[u8], kind: u32, place: u32) {
 }
 
 // `NAME: 100 of 200 bytes of data are there`
-pub fn cut(to: i32, of: &[u8], there: u64, all: u64) {
+pub fn cut(to: To, of: &[u8], there: u64, all: u64) {
     name(to, of);
     text(to, b"cut short: ");
     number(to, there);
@@ -66,7 +101,7 @@ pub fn cut(to: i32, of: &[u8], there: u64, all: u64) {
 }
 
 // `NAME: sample 17 is infinite or NaN`
-pub fn not_finite(to: i32, of: &[u8], sample: u64) {
+pub fn not_finite(to: To, of: &[u8], sample: u64) {
     name(to, of);
     text(to, b"sample ");
     number(to, sample);
@@ -74,7 +109,7 @@ pub fn not_finite(to: i32, of: &[u8], sample: u64) {
 }
 
 // `NAME: 44100 samples in, 220500 out`
-pub fn done(to: i32, of: &[u8], samples: u64, out: u64) {
+pub fn done(to: To, of: &[u8], samples: u64, out: u64) {
     name(to, of);
     number(to, samples);
     text(to, b" samples in, ");
@@ -83,7 +118,7 @@ pub fn done(to: i32, of: &[u8], samples: u64, out: u64) {
 }
 
 // Three digits of a number below a thousand.
-fn three(to: i32, n: u64) {
+fn three(to: To, n: u64) {
     if n < 100 {
         text(to, b"0");
     }
@@ -94,7 +129,7 @@ fn three(to: i32, n: u64) {
 }
 
 // `0.512 s (frame 22579)`; the time is rounded to the nearest millisecond.
-fn time(to: i32, frame: u32) {
+fn time(to: To, frame: u32) {
     let ms = (frame as u64 * 1000 + 22050) / 44100;
     number(to, ms / 1000);
     text(to, b".");
@@ -106,7 +141,7 @@ fn time(to: i32, frame: u32) {
 
 // `NAME: 12 samples above full scale, the first at 0.512 s (frame 22579)`; nothing where none was
 // found. Two samples are a frame.
-pub fn level(to: i32, of: &[u8], found: Count, words: &[u8]) {
+pub fn level(to: To, of: &[u8], found: Count, words: &[u8]) {
     if found.count == 0 {
         return;
     }
@@ -123,7 +158,7 @@ pub fn level(to: i32, of: &[u8], found: Count, words: &[u8]) {
 }
 
 // The line that turns a file into one that is read, as a program that many have takes it.
-fn advice(to: i32, of: &[u8], options: &[u8]) {
+fn advice(to: To, of: &[u8], options: &[u8]) {
     text(to, b"; try: sox ");
     text(to, of);
     text(to, options);
@@ -131,7 +166,7 @@ fn advice(to: i32, of: &[u8], options: &[u8]) {
 }
 
 // `NAME: number and words; try: sox NAME ..`
-fn advised(to: i32, of: &[u8], n: u64, words: &[u8], options: &[u8]) {
+fn advised(to: To, of: &[u8], n: u64, words: &[u8], options: &[u8]) {
     name(to, of);
     number(to, n);
     text(to, words);
@@ -139,7 +174,7 @@ fn advised(to: i32, of: &[u8], n: u64, words: &[u8], options: &[u8]) {
 }
 
 // Why a format is not read.
-pub fn format(to: i32, of: &[u8], read: FormatRead) {
+pub fn format(to: To, of: &[u8], read: FormatRead) {
     match read {
         FormatRead::Is(_) => (),
         FormatRead::Short => problem(to, of, b"fmt chunk cut short"),
@@ -180,14 +215,15 @@ pub fn format(to: i32, of: &[u8], read: FormatRead) {
     }
 }
 
-// The per cent that are written, over the line that was there.
-pub fn percent(n: u64) {
-    text(STDERR_FILENO, b"\r");
-    number(STDERR_FILENO, n);
-    text(STDERR_FILENO, b" %");
+// The per cent that are written, on standard error, over the line that was there.
+pub fn percent(to: To, n: u64) {
+    let to = error(to);
+    text(to, b"\r");
+    number(to, n);
+    text(to, b" %");
 }
 
 // The end of that line.
-pub fn percent_end() {
-    text(STDERR_FILENO, b"\n");
+pub fn percent_end(to: To) {
+    text(error(to), b"\n");
 }

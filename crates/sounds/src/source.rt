@@ -3,14 +3,17 @@
 ghost use Rattle.std.specs.Prelude.{◌≤◌};
 ghost use Rattle.sounds.specs.Source.{PartOf, Short};
 
-use crate::file::{least, read_some};
+use crate::file::{least, read_full, read_some};
 use crate::say;
+use crate::say::To;
+use std::io;
+use std::io::{Read, Seek, SeekFrom};
 use wav::block::first_bad;
 use wav::chunk::{Chunk, chunk_of, is_wave, passed};
 use wav::format::{Format, FormatRead, Taken, format_of, frame_size};
 
 // The format, if a fmt chunk was met.
-#[derive(Drop)]
+#[derive(Clone, Copy)]
 pub enum Known {
     As(Format),
     Nothing,
@@ -18,7 +21,7 @@ pub enum Known {
 
 // After a chunk: go on, with the format as it is known now; or the data starts, so many bytes long; or
 // something is wrong.
-#[derive(Drop)]
+#[derive(Clone, Copy)]
 pub enum Step {
     On(Known),
     Data(Format, u32),
@@ -26,14 +29,14 @@ pub enum Step {
 }
 
 // A sound: its format, its frames, and where in the file they start; or something is wrong.
-#[derive(Drop)]
+#[derive(Clone, Copy)]
 pub enum Surveyed {
-    Frames(Format, usize, i64),
+    Frames(Format, usize, u64),
     Bad,
 }
 
 // Some of the data: so many bytes were fine; or there were only so many; or a sample is not finite.
-#[derive(Drop)]
+#[derive(Clone, Copy)]
 pub enum Part {
     Fine(usize),
     Cut(usize),
@@ -41,9 +44,9 @@ pub enum Part {
 }
 
 // Whether the file begins as a WAV file does.
-fn begins(fd: i32) -> bool {
+fn begins<R: Read>(input: &mut R) -> bool {
     let mut head = [0u8; 12];
-    let n = io::read_full(fd, &mut head);
+    let n = read_full(input, &mut head);
     if n < 12 {
         return false;
     }
@@ -51,40 +54,39 @@ fn begins(fd: i32) -> bool {
 }
 
 // Passes over bytes of the file.
-fn pass_over(fd: i32, bytes: u64)
+fn pass_over<R: Seek>(input: &mut R, bytes: u64)
     requires { bytes ≤ 4294967296 }
 {
-    libc::lseek(fd, bytes as i64, libc::SEEK_CUR);
+    let _ = input.seek(SeekFrom::Current(bytes as i64));
 }
 
 // The longest fmt chunk has 40 bytes; what follows them is passed over.
 const LONGEST: usize = 40;
 
 // The format of a fmt chunk of so many bytes.
-fn read_format(to: i32, fd: i32, file: &[u8], length: u32) -> Step {
-    let mut body = io::buffer();
+fn read_format<R: Read + Seek>(to: To, input: &mut R, file: &[u8], length: u32) -> Step {
+    let mut body = [0u8; 4096];
     let want = least(length as usize, LONGEST);
-    let n = read_some(fd, &mut body, want);
+    let n = read_some(input, &mut body, want);
     let read = format_of(&body[..n]);
     let FormatRead::Is(format) = read else {
         say::format(to, file, read);
         return Step::Bad;
     };
-    pass_over(fd, passed(length) - want as u64);
+    pass_over(input, passed(length) - want as u64);
     Step::On(Known::As(format))
 }
 
-// A number that is not negative, or zero.
-fn size_of(n: i64) -> u64 {
-    if n >= 0 { n as u64 } else { 0 }
+// A place in the file, or zero where it has none.
+fn size_of(place: io::Result<u64>) -> u64 {
+    place.unwrap_or(0)
 }
 
 // The bytes from here to the file's end; none in a pipe.
-fn bytes_left(fd: i32) -> u64 {
-    let at = libc::lseek(fd, 0, libc::SEEK_CUR);
-    let end = size_of(libc::lseek(fd, 0, libc::SEEK_END));
-    libc::lseek(fd, at, libc::SEEK_SET);
-    let here = size_of(at);
+fn bytes_left<R: Seek>(input: &mut R) -> u64 {
+    let here = size_of(input.stream_position());
+    let end = size_of(input.seek(SeekFrom::End(0)));
+    let _ = input.seek(SeekFrom::Start(here));
     if end < here {
         return 0;
     }
@@ -93,20 +95,20 @@ fn bytes_left(fd: i32) -> u64 {
 
 // The bytes of the data: as many as its chunk says; or up to the file's end, which is what the lengths 0
 // and FFFFFFFF mean, that programs write which did not know the length.
-fn data_length(fd: i32, length: u32) -> u64 {
+fn data_length<R: Seek>(input: &mut R, length: u32) -> u64 {
     if length != 0 && length != u32::MAX {
         return length as u64;
     }
-    bytes_left(fd)
+    bytes_left(input)
 }
 
 // The data of a format that must be known by now.
-fn data_of(to: i32, fd: i32, file: &[u8], known: Known, length: u32) -> Step {
+fn data_of<R: Read + Seek>(to: To, input: &mut R, file: &[u8], known: Known, length: u32) -> Step {
     let Known::As(format) = known else {
         say::problem(to, file, b"no fmt chunk before the data");
         return Step::Bad;
     };
-    let bytes = data_length(fd, length);
+    let bytes = data_length(input, length);
     if 4294967295 < bytes {
         say::problem(to, file, b"too long: more than 4 GiB are read");
         return Step::Bad;
@@ -119,18 +121,18 @@ fn data_of(to: i32, fd: i32, file: &[u8], known: Known, length: u32) -> Step {
 }
 
 // The next chunk.
-fn next_chunk(to: i32, fd: i32, file: &[u8], known: Known) -> Step {
+fn next_chunk<R: Read + Seek>(to: To, input: &mut R, file: &[u8], known: Known) -> Step {
     let mut head = [0u8; 8];
-    let n = io::read_full(fd, &mut head);
+    let n = read_full(input, &mut head);
     if n < 8 {
         say::problem(to, file, b"no data chunk");
         return Step::Bad;
     }
     match chunk_of(&head) {
-        Chunk::Format(length) => read_format(to, fd, file, length),
-        Chunk::Data(length) => data_of(to, fd, file, known, length),
+        Chunk::Format(length) => read_format(to, input, file, length),
+        Chunk::Data(length) => data_of(to, input, file, known, length),
         Chunk::Other(length) => {
-            pass_over(fd, passed(length));
+            pass_over(input, passed(length));
             Step::On(known)
         }
     }
@@ -138,11 +140,11 @@ fn next_chunk(to: i32, fd: i32, file: &[u8], known: Known) -> Step {
 
 // The data chunk. A proved loop has to end, and nothing says that a file does: so it counts the chunks
 // down, from a number that no file reaches.
-fn find_data(to: i32, fd: i32, file: &[u8]) -> Step {
+fn find_data<R: Read + Seek>(to: To, input: &mut R, file: &[u8]) -> Step {
     let mut known = Known::Nothing;
     let mut chunks = u32::MAX;
     while 0 < chunks {
-        match next_chunk(to, fd, file, known) {
+        match next_chunk(to, input, file, known) {
             Step::On(next) => known = next,
             Step::Data(format, length) => return Step::Data(format, length),
             Step::Bad => return Step::Bad,
@@ -153,14 +155,14 @@ fn find_data(to: i32, fd: i32, file: &[u8]) -> Step {
 }
 
 // The next 512 frames, or the `left` bytes that are left.
-fn read_part(fd: i32, format: Format, left: usize) -> Part
+fn read_part<R: Read>(input: &mut R, format: Format, left: usize) -> Part
     requires { 1 ≤ left }
     ensures { PartOf left result }
 {
-    let mut bytes = io::buffer();
+    let mut bytes = [0u8; 4096];
     let size = frame_size(format);
     let want = least(left, 512 * size);
-    let n = read_some(fd, &mut bytes, want);
+    let n = read_some(input, &mut bytes, want);
     if n < want {
         return Part::Cut(n);
     }
@@ -172,11 +174,17 @@ fn read_part(fd: i32, format: Format, left: usize) -> Part
 }
 
 // Whether all data is there and finite.
-fn data_fine(to: i32, fd: i32, file: &[u8], format: Format, length: u32) -> bool {
+fn data_fine<R: Read + Seek>(
+    to: To,
+    input: &mut R,
+    file: &[u8],
+    format: Format,
+    length: u32,
+) -> bool {
     let all = length as usize;
     let mut left = all;
     while 0 < left {
-        match read_part(fd, format, left) {
+        match read_part(input, format, left) {
             Part::Fine(n) => left -= n,
             Part::Cut(n) => {
                 say::cut(to, file, (all - left + n) as u64, all as u64);
@@ -193,15 +201,23 @@ fn data_fine(to: i32, fd: i32, file: &[u8], format: Format, length: u32) -> bool
 }
 
 // The data of a file that is open at its data chunk's body.
-fn sound_at(to: i32, fd: i32, file: &[u8], format: Format, length: u32) -> Surveyed
+fn sound_at<R: Read + Seek>(
+    to: To,
+    input: &mut R,
+    file: &[u8],
+    format: Format,
+    length: u32,
+) -> Surveyed
     ensures { Short result }
 {
-    let start = libc::lseek(fd, 0, libc::SEEK_CUR);
-    if start < 0 {
-        say::failed(to, file, b"cannot be read twice");
-        return Surveyed::Bad;
-    }
-    if data_fine(to, fd, file, format, length) {
+    let start = match input.stream_position() {
+        Ok(start) => start,
+        Err(why) => {
+            say::failed(to, file, why, b"cannot be read twice");
+            return Surveyed::Bad;
+        }
+    };
+    if data_fine(to, input, file, format, length) {
         let frames = length as usize / frame_size(format);
         Surveyed::Frames(format, frames, start)
     } else {
@@ -219,7 +235,14 @@ fn alone(taken: Taken) -> bool {
 }
 
 // The data of a format, of which a channel or the mean of both is taken.
-fn sound_of(to: i32, fd: i32, file: &[u8], format: Format, length: u32, taken: Taken) -> Surveyed
+fn sound_of<R: Read + Seek>(
+    to: To,
+    input: &mut R,
+    file: &[u8],
+    format: Format,
+    length: u32,
+    taken: Taken,
+) -> Surveyed
     ensures { Short result }
 {
     if alone(taken) && !format.stereo {
@@ -230,7 +253,7 @@ fn sound_of(to: i32, fd: i32, file: &[u8], format: Format, length: u32, taken: T
     let stereo = format.stereo;
     sound_at(
         to,
-        fd,
+        input,
         file,
         Format {
             coding,
@@ -242,15 +265,15 @@ fn sound_of(to: i32, fd: i32, file: &[u8], format: Format, length: u32, taken: T
 }
 
 // The sound of an open file.
-pub fn survey(to: i32, fd: i32, file: &[u8], taken: Taken) -> Surveyed
+pub fn survey<R: Read + Seek>(to: To, input: &mut R, file: &[u8], taken: Taken) -> Surveyed
     ensures { Short result }
 {
-    if !begins(fd) {
+    if !begins(input) {
         say::problem(to, file, b"not a WAV file");
         return Surveyed::Bad;
     }
-    match find_data(to, fd, file) {
-        Step::Data(format, length) => sound_of(to, fd, file, format, length, taken),
+    match find_data(to, input, file) {
+        Step::Data(format, length) => sound_of(to, input, file, format, length, taken),
         Step::On(_) => Surveyed::Bad,
         Step::Bad => Surveyed::Bad,
     }
