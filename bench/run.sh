@@ -5,7 +5,7 @@ set -eu
 root=$(cd "$(dirname "$0")/.." && pwd -P)
 PLATE_LIB=$(realpath "${PLATE_LIB:-$root/target/staticlib/libplate.a}")
 export PLATE_LIB
-[ -f "$PLATE_LIB" ] || { echo "bench/run.sh: no library $PLATE_LIB: rt staticlib plate, or set PLATE_LIB" >&2; exit 1; }
+[ -f "$PLATE_LIB" ] || { echo "bench/run.sh: no library $PLATE_LIB: tools/build.sh plate_c, or set PLATE_LIB" >&2; exit 1; }
 "$root/oracle/build.sh"
 cd "$root/target/oracle"
 cargo build --quiet --release --offline -p bench

@@ -1,5 +1,5 @@
 /* How much stack each call takes: it is run in a thread whose stack was painted before, on the plate and on a chain of
-   64 nodes, the deepest walk that a board can ask for. Build and run: bench/stack.sh (after rt staticlib plate). */
+   64 nodes, the deepest walk that a board can ask for. Build and run: bench/stack.sh (after tools/build.sh plate_c). */
 #include <pthread.h>
 #include <stdio.h>
 #include <stdlib.h>

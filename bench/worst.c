@@ -1,6 +1,6 @@
 /* What a block costs at worst: boards made to be slow, beside the plate, each at four block sizes; least, median and
    most of many runs, since a deadline looks at the most. Writes the tables of docs/FIRMWARE.md, "Worst case", in
-   Markdown. Build and run: bench/worst.sh [RUNS] (after rt staticlib plate). */
+   Markdown. Build and run: bench/worst.sh [RUNS] (after tools/build.sh plate_c). */
 #define _GNU_SOURCE
 #include <stdio.h>
 #include <stdlib.h>

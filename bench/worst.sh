@@ -5,7 +5,7 @@
 set -eu
 root=$(cd "$(dirname "$0")/.." && pwd -P)
 lib=${PLATE_LIB:-$root/target/staticlib/libplate.a}
-[ -f "$lib" ] || { echo "bench/worst.sh: no library $lib: rt staticlib plate, or set PLATE_LIB" >&2; exit 1; }
+[ -f "$lib" ] || { echo "bench/worst.sh: no library $lib: tools/build.sh plate_c, or set PLATE_LIB" >&2; exit 1; }
 mkdir -p "$root/target/bench"
 cc -std=gnu11 -O2 -Wall -Wextra -Werror -I"$root/include" -I"$root/examples/c" "$root/bench/worst.c" "$lib" -o "$root/target/bench/worst"
 exec "$root/target/bench/worst" "$@"

@@ -1,13 +1,13 @@
 #!/bin/sh
 # Tries tools/install.sh: installs into a folder of its own, moves that folder, and builds and runs the two small projects
-# against it, examples/pkgconfig (C, Makefile) and examples/cmake (C++). Needs the library (rt staticlib plate), and
+# against it, examples/pkgconfig (C, Makefile) and examples/cmake (C++). Needs the library (tools/build.sh plate_c), and
 # pkg-config and cmake, of which it leaves out what is not installed and says so.
 set -eu
 here=$(cd "$(dirname "$0")" && pwd -P)
 work=$(mktemp -d)
 trap 'rm -rf "$work"' EXIT
 
-if PLATE_LIB=$work/none.a "$here/../tools/install.sh" "$work/none" 2>"$work/said" || ! grep -q 'rt staticlib plate' "$work/said"; then
+if PLATE_LIB=$work/none.a "$here/../tools/install.sh" "$work/none" 2>"$work/said" || ! grep -q 'tools/build.sh plate_c' "$work/said"; then
     echo "install.sh does not say that the library is missing"
     exit 1
 fi

@@ -7,7 +7,7 @@ file=$root/crates/replay/stdin
 case ${1:-boards} in boards | plate | seed) ;; *) file=$(realpath "$1") && shift ;; esac
 PLATE_LIB=$(realpath "${PLATE_LIB:-$root/target/staticlib/libplate.a}")
 export PLATE_LIB
-[ -f "$PLATE_LIB" ] || { echo "oracle/record.sh: no library $PLATE_LIB: rt staticlib plate, or set PLATE_LIB" >&2; exit 1; }
+[ -f "$PLATE_LIB" ] || { echo "oracle/record.sh: no library $PLATE_LIB: tools/build.sh plate_c, or set PLATE_LIB" >&2; exit 1; }
 "$root/oracle/build.sh"
 cd "$root/target/oracle"
 cargo build --quiet --release --offline -p programs

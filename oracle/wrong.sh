@@ -22,7 +22,8 @@ try() {
   grep -q DIFFERENCE "$work/$1/said" || [ $status -ge 124 ] || return 2
   return 1
 }
-copy() { rm -rf "$work/$1" && mkdir -p "$work/$1" && cp -r "$sources/crates" "$sources/crates.txt" "$work/$1/"; }
+# without what rt keeps of its checks
+copy() { rm -rf "$work/$1" && mkdir -p "$work/$1" && tar -C "$sources" --exclude=out -cf - crates crates.txt | tar -C "$work/$1" -xf -; }
 
 copy unedited
 try unedited || { echo "wrong.sh: the library without an edit does not pass: $work/unedited/log, said"; exit 1; }

@@ -12,7 +12,7 @@ if [ $# -ne 1 ] || [ -z "$1" ]; then
     exit 2
 fi
 if [ ! -f "$lib" ]; then
-    echo "install.sh: the library is not built yet, $lib is not there: run \`rt staticlib plate\` in $root" >&2
+    echo "install.sh: the library is not built yet, $lib is not there: run tools/build.sh plate_c in $root" >&2
     exit 1
 fi
 to=${DESTDIR:-}$1

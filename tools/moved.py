@@ -8,14 +8,14 @@ What is told apart, crate by crate:
     definitions              abbrev, unfoldable, record and data in specs/, and a plain declaration of a type, number or list
     definitions of proofs    the same in proofs/
     statements, proofs       any other declaration in specs/ and proofs/: its type; and its clauses, with where and unfolding
-                             proofs/F/Proof.antt, of the function F, is one proof
+                             Invariants.antt and Answers.antt (or Proof.antt) in proofs/F, of the function F, are a proof each
     types                    struct, enum, const in src/
     contracts, code          a function's attributes, signature, requires and ensures; and its body
     must-fail                the edits
 
 A declaration's text has the parameters of the sections (module .. where) around it, a method's the head of its impl. Text is
-compared word by word: comments, blank lines, use and mod lines, the order of declarations, line breaks, indentation and commas
-before a closing bracket do not count. So a promise is called the same if its own words are; what they mean, the definitions
+compared word by word: comments, blank lines, use and mod lines, a file's own attributes (#![..]), the order of declarations, line
+breaks, indentation and commas before a closing bracket do not count. So a promise is called the same if its own words are; what they mean, the definitions
 that it names say.
 A name that a file takes from another module than before, though it did not move there, is under "names from elsewhere".
 
@@ -46,6 +46,7 @@ TABLED = ("definitions", "contracts", "code", "statements", "proofs")
 STATES = ("added", "changed", "removed", "renamed", "moved")
 AREAS = {"src": "code", "specs": "specs", "proofs": "proofs"}
 ENDINGS = {"src": ".rt", "specs": ".antt", "proofs": ".antt", "must-fail": ".edit"}
+PROOF = re.compile(r"(?:crates/\w+/)?(proofs/.+)/((?:Proof|Invariants|Answers)\.antt)")
 VALUES = ("Type", "ℕ", "ℤ", "Bool", "List", "Float")
 warnings = []
 
@@ -197,20 +198,22 @@ def is_signature(words, mods):
 
 
 def is_clause(words, name):
-    return words[0] == name or "_" in name and all(part in words for part in name.split("_") if part)
+    return words[0] == name or "◌" in name and all(part in words for part in name.split("◌") if part)
 
 
 def declarations(lines, section, prefix, strays):
     """The declarations of a block of lines of one indentation; section are the words of the sections around it."""
-    found = []
+    found, fixity = [], ()
     for chunk in chunks(lines):
         words = joined(chunk)
         mods = [w for w in words[:2] if w in ("pub", "abbrev", "unfoldable")]
         rest = words[len(mods):] or words
         if chunk[0][1] < lines[0][1]:
             strays += [line[0] for line in chunk]
-        elif rest[0] in ("use", "mod"):
+        elif rest[0] in ("use", "mod", "open"):
             continue
+        elif rest[0] in ("infix", "infixl", "infixr"):
+            fixity = rest  # of the declaration below it
         elif rest[0] == "module":
             head = section_head(chunk)
             inner = joined(chunk[:head])[len(mods) + 1:-1]
@@ -222,7 +225,8 @@ def declarations(lines, section, prefix, strays):
         elif rest[0] == "unfolding" and found:
             found[-1].body += chunk
         elif is_signature(rest, mods):
-            found.append(Declaration(prefix + rest[0], mods, " ".join(m for m in mods if m != "pub"), section, chunk))
+            found.append(Declaration(prefix + rest[0], mods, " ".join(m for m in mods if m != "pub"), section + fixity, chunk))
+            fixity = ()
         else:
             owner = next((d for d in reversed(found) if is_clause(rest, d.name[len(prefix):])), None)
             if owner:
@@ -258,6 +262,8 @@ def antt_item(path, d):
 
 
 def antt_items(path, text, warn):
+    if PROOF.fullmatch(path):
+        return [function_proof(path, antt_lines(text))]
     lines, strays = antt_lines(text), []
     found = declarations(lines, (), "", strays)
     for number in strays:
@@ -265,24 +271,21 @@ def antt_items(path, text, warn):
     for d in found:
         if d.form not in ("record", "data") and not any(line[2].split()[0] != "unfolding" for line in d.body):
             warn(d.head[0][0], f"{d.name} has no clauses")
-    if path.endswith("/Proof.antt"):
-        return [function_proof(path, lines)]
     return [antt_item(path, d) for d in found]
 
 
 def function_proof(path, lines):
-    """proofs/F/Proof.antt as one proof."""
+    """A file of proofs/F as one proof."""
     kept = [line for chunk in chunks(lines) if chunk[0][2].split()[0] != "use" for line in chunk]
-    name = path.split("/")[-2]
-    return Item(path, name, [Half("proofs", {"proof": joined(kept)}, [line[2] for line in kept])], name.replace("_", "-") + "-spec")
+    return Item(path, path.split("/")[-2], [Half("proofs", {"proof": joined(kept)}, [line[2] for line in kept])])
 
 
 # ---- Rattle: tokens, items by their brackets
 
-WHOLE = r"⌜.*?⌝|b?\"(?:\\.|[^\"\\])*\"|b?'(?:\\x..|\\.|[^'\\])'"
+WHOLE = r"b?\"(?:\\.|[^\"\\])*\"|b?'(?:\\x..|\\.|[^'\\])'"
 TOKEN = re.compile(WHOLE + r"|\w+|&&|\|\||->|=>|::|\.\.=?|<<=?|>>=?|[-+*/%^&|=!<>]=|\S", re.S)
 COMMENT = re.compile(f"({WHOLE})" + r"|//[^\n]*|/\*.*?\*/", re.S)
-USE = re.compile(r"^[ \t]*(?:pub )?(?:ghost )?use\b[^;]*;", re.M)
+USE = re.compile(r"^[ \t]*(?:pub )?(?:ghost )?use\b[^;]*;|^#!\[.*\]$", re.M)
 
 
 def spaces(match):
@@ -295,7 +298,7 @@ def rt_code(text):
 
 
 def rt_words(tokens):
-    found = [w for t in tokens for w in (words_of(t.group()) if t.group()[0] == "⌜" else [t.group()])]
+    found = [t.group() for t in tokens]
     return tuple(w for w, then in zip(found, found[1:] + [""]) if not (w == "," and then and then in ")]}>"))
 
 
@@ -515,17 +518,17 @@ def pairs(olds, news, found):
 
 def proof_place(item):
     """Where the proof of a function stands, or a proof that is a file."""
-    if item.file.endswith("/Proof.antt"):
-        return item.crate, item.file.replace("+", "").removesuffix("/Proof.antt")
+    if found := PROOF.fullmatch(item.file):
+        return item.crate, found[1].replace("+", "")
     module = item.file.removeprefix("src/").removesuffix(".rt")
     return item.crate, "/".join(["proofs"] + [module] * (module not in ("lib", "main")) + item.name.split("::"))
 
 
 def proofs_moved(functions, olds, news):
     """The proofs of functions that are at another place or have another name."""
-    before, after = {proof_place(p): p for p in olds}, {proof_place(p): p for p in news}
-    ends = [(proof_place(old), proof_place(new)) for old, new in functions]
-    return [(before[a], after[b]) for a, b in ends if a != b and a in before and b in after]
+    before, after = ({(proof_place(p), PROOF.fullmatch(p.file)[2]): p for p in side} for side in (olds, news))
+    ends = {proof_place(old): proof_place(new) for old, new in functions if proof_place(old) != proof_place(new)}
+    return [(old, after[ends[at], file]) for (at, file), old in before.items() if at in ends and (ends[at], file) in after]
 
 
 def put_names(words, names):
@@ -630,7 +633,7 @@ def taken(text):
 
 def module_file(module, crate, files):
     """The crate and file of a module, as items have them; a library's module as it is."""
-    if match := re.match(r"Rattle·(\w+)(?:·\w+)?\.((?:specs|proofs)\..*)", module):
+    if match := re.match(r"Rattle\.(\w+)\.((?:specs|proofs)\..*)", module):
         file = match.group(2).replace(".", "/")
         declared = re.match(r"specs/declared/(.*?)/[A-Z]", file)
         return match.group(1), f"src/{declared.group(1)}.rt" if declared else f"{file}.antt"
@@ -717,7 +720,7 @@ def behind(event):
 def print_group(kind, at, group):
     """The items of one kind to which the same happened in one file."""
     plus, minus = sum(e.plus for e in group), sum(e.minus for e in group)
-    if group[0].item.file.endswith("/Proof.antt"):
+    if PROOF.fullmatch(group[0].item.file):
         listed(at + behind(group[0]), 1)
     elif kind == "proofs" or group[0].state == "moved":
         names = ", ".join(title(e) for e in group) if len(group) <= 6 or kind != "proofs" else f"{len(group)} {kind}"

@@ -1,7 +1,7 @@
 #!/usr/bin/env python3
 """Tries `card size` on random boards: what it writes and says is what a second reading has, and what it writes sounds the same.
 
-Use: rt check card render; python3 tools/size_trials.py [BOARDS [SEED]]
+Use: tools/build.sh card render; python3 tools/size_trials.py [BOARDS [SEED]]
 
 Of each accepted board, at a random size: the words on standard error and the bytes on standard output are those of `sized` in
 tools/card_vectors.py; the way back gives the board's own bytes; `render` writes the same bytes of both. Where a line was corrected, the board is

@@ -1,5 +1,5 @@
 #!/bin/sh
-# Runs render, card or order and ends with the status that a Rattle program cannot give: 0 where it did what was asked, 1 where it did not.
+# Runs render, card or order and ends with a status that tells what it answered, as its own does not: 0 where it did what was asked, 1 where it did not.
 # Use: tools/status.sh target/bin/render IN.wav OUT.wav plate MIX ..      tools/status.sh target/bin/card bytes < CARD > BOARD
 #
 # render: standard output and standard error go through as they come. It did what was asked if it told of each sound that it is

@@ -20,7 +20,7 @@ quiet() {
 }
 
 for program in card order render; do
-    [ -x "$bin/$program" ] || fail "target/bin/$program is not there: rt check card order render"
+    [ -x "$bin/$program" ] || fail "target/bin/$program is not there: tools/build.sh card order render"
 done
 
 # ---- cards: each of examples/ is accepted, gives a graph and a list, and sounds; the plate's is the plate writer's

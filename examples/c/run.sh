@@ -4,7 +4,7 @@
 # left out, and the last line says so. The archive may need nothing of its host but memcpy, memset and memmove.
 set -eu
 cd "$(dirname "$0")"
-(cd ../.. && rt staticlib plate >/dev/null)
+../../tools/build.sh plate_c >/dev/null
 lib=../../target/staticlib/libplate.a
 out=$(mktemp -d)
 trap 'rm -rf "$out"' EXIT
