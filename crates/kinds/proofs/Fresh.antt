@@ -17,7 +17,7 @@ use Rattle.kinds.specs.Kind.{length_fits, whole_fits, float_fits, fields_fit, ki
 use Rattle.kinds.specs.Cell.{values_of, fresh_cell, start_in, number_of, number_in, carry_in, place_in, number_fits, carry_fits, place_fits, cell_fits}
 use Rattle.kinds.specs.Node.{LengthIn, LineFits}
 use Rattle.kinds.specs.declared.kind.NodeKind.{NodeKind}
-use Rattle.kinds.specs.declared.kind.Fields.TheVariants.{Is}
+use Rattle.std.specs.Prelude.{Some}
 use Rattle.kinds.proofs.Arms.{named}
 use Rattle.kinds.proofs.Cells.{length_values}
 use Rattle.kinds.proofs.Kept.{both, judged_fits}
@@ -66,7 +66,7 @@ start_told (numbered r g) f e h =
     ap (λ (x : Float). in_range r (of_bits binary32 (to_bits binary32 x))) e
     ∙ ap (in_range r) (of_bits-to_bits binary32 (of_bits binary32 f) (of_bits-fits binary32 f)) ∙ h
 
-pub rule_sound : (t n f : ℕ) (k : NodeKind) → rule_of t n f ≡ Is k → FreshFits k
+pub rule_sound : (t n f : ℕ) (k : NodeKind) → rule_of t n f ≡ Some k → FreshFits k
 unfolding rule_of number_of number_fits
 rule_sound t n f k e = go (type_known t && fields_fit kind n f) refl e
   where
@@ -81,7 +81,7 @@ rule_sound t n f k e = go (type_known t && fields_fit kind n f) refl e
           number = start_told (row_of kind).value f (number_is t n (of_bits binary32 f)) s.1;
         }
 
-    go : (b : Bool) → type_known t && fields_fit kind n f ≡ b → is_if b kind ≡ Is k → FreshFits k
+    go : (b : Bool) → type_known t && fields_fit kind n f ≡ b → is_if b kind ≡ Some k → FreshFits k
     go true h q = let s : kind ≡ k = cc in subst FreshFits s (sound h)
     go false h q = let z : ◌≡◌ {A = ℕ} 0 1 = cc in absurd (omega arith)
 

@@ -1,13 +1,11 @@
 -- What the board's reader asks of a node's type (document 01, "Board bytes"): what a node record's type t, whole number n and float bits f
 -- may say, how many sources it takes, its channels and its line. Definitions only.
-use Rattle.std.specs.Prelude.{ℕ, ◌+◌, ◌*◌, Bool, cond, ◌&&◌, leb, eqb, Float}
+use Rattle.std.specs.Prelude.{ℕ, ◌+◌, ◌*◌, Bool, cond, ◌&&◌, leb, eqb, Float, Option, Some, None}
 use Rattle.std.specs.Float.Ieee.{of_bits}
 use Rattle.std.specs.Float.{binary32}
 use Rattle.kinds.specs.Row.{Line, no_line, line_x, line_xy, Value, unused, coefficient, numbered, in_range, Writes, mono, keeping, stereo, row_of}
 use Rattle.kinds.specs.declared.kind.NodeKind.{NodeKind}
 use Rattle.kinds.specs.declared.kind.NodeKind.TheVariants.{Pass, Sum, Destination, Balance, Mul, Add, Delay, AllPass, OnePole, Sine}
-use Rattle.kinds.specs.declared.kind.Fields.{Fields}
-use Rattle.kinds.specs.declared.kind.Fields.TheVariants.{Is, Broken}
 
 -- ---- by number
 
@@ -112,9 +110,9 @@ kind_by t n x =
 abbrev pub type_known : ℕ → Bool
 type_known t = leb 1 t && leb t 10
 
--- what the three fields say
-abbrev pub is_if : Bool → NodeKind → Fields
-is_if ok k = cond ok (Is k) Broken
+-- what the three fields say: nothing where one of them is broken
+abbrev pub is_if : Bool → NodeKind → Option NodeKind
+is_if ok k = cond ok (Some k) None
 
-unfoldable pub rule_of : ℕ → ℕ → ℕ → Fields
+unfoldable pub rule_of : ℕ → ℕ → ℕ → Option NodeKind
 rule_of t n f = let k = kind_by t n (of_bits binary32 f) in is_if (type_known t && fields_fit k n f) k

@@ -9,7 +9,7 @@ use values::bytes::word_at;
 use values::float::{finite, finite_bits, of_bits, within};
 
 // The values of a cell, in order: number, carry, ring place, and from SAMPLES on the samples, then
-// the line.
+// the line. Places in the memory to count on from, so numbers and no enum.
 pub const NUMBER: usize = 0;
 
 pub const CARRY: usize = 1;
@@ -19,29 +19,29 @@ pub const PLACE: usize = 2;
 pub const SAMPLES: usize = 3;
 
 // The number with which a fresh cell starts.
+#[tactic(auto, unfolding(crate::specs::Cell::number_of))]
 pub fn number_of(kind: NodeKind) -> f32
     ensures { result ≡ number_of kind }
 {
     match kind {
-        NodeKind::Mul(f) => f,
-        NodeKind::Add(f) => f,
-        NodeKind::AllPass(_, f) => f,
-        NodeKind::Sine(f) => f,
+        NodeKind::Mul(f) | NodeKind::Add(f) | NodeKind::AllPass(_, f) | NodeKind::Sine(f) => f,
         _ => 0.0,
     }
 }
 
 // Whether a number message may set the number.
+#[tactic(auto, unfolding(crate::specs::Cell::takes_number))]
 pub fn takes_number(kind: NodeKind) -> bool
     ensures { result ≡ takes_number kind }
 {
-    match kind {
-        NodeKind::Mul(_) | NodeKind::Add(_) | NodeKind::AllPass(_, _) | NodeKind::Sine(_) => true,
-        _ => false,
-    }
+    matches!(
+        kind,
+        NodeKind::Mul(_) | NodeKind::Add(_) | NodeKind::AllPass(_, _) | NodeKind::Sine(_)
+    )
 }
 
 // Whether a number message may set the number to x.
+#[tactic(auto, unfolding(crate::specs::Cell::value_fits))]
 pub fn value_fits(kind: NodeKind, x: f32) -> bool
     ensures { result ≡ value_fits kind x }
 {
@@ -54,6 +54,7 @@ pub fn value_fits(kind: NodeKind, x: f32) -> bool
 
 // Whether the judged values, given as patterns, are as they must be. A one-pole's last output may be
 // any float, a sine's phase is from 0 to 1.
+#[tactic(auto, unfolding(crate::specs::Cell::number_fits, crate::specs::Cell::carry_fits, crate::specs::Cell::place_fits))]
 fn values_fit(kind: NodeKind, number: u32, carry: u32, place: u32) -> bool
     ensures { result ≡ number_fits kind number && carry_fits kind carry && place_fits kind place }
 {

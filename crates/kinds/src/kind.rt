@@ -1,10 +1,10 @@
 // The ten node types, and what a node record's three fields may say.
 ghost use Rattle.std.specs.Prelude.{◌≡◌, ◌+◌, ◌*◌, ◌≤◌, ◌<◌};
 ghost use Rattle.kinds.specs.Row.{in_range, frequency};
-ghost use Rattle.kinds.specs.Kind.{length_fits, is_if, rule_of, line_of, channels_of, cell_size, is_destination, is_pass, fewest, most, sources_fit};
+ghost use Rattle.kinds.specs.Kind.{length_fits, rule_of, line_of, channels_of, cell_size, is_destination, is_pass, fewest, most, sources_fit};
 
 use crate::cell::SAMPLES;
-use values::bytes::wide;
+use crate::types::Kind;
 use values::float::{SAMPLE_RATE, finite_bits, of_bits, within};
 
 // A node's type, with its line length and its number, coefficient or frequency.
@@ -31,13 +31,6 @@ pub struct NodeRecord {
     pub cell: u32,
 }
 
-// What the fields of a node record say.
-#[derive(Clone, Copy)]
-pub enum Fields {
-    Is(NodeKind),
-    Broken,
-}
-
 // Whether a line may have n samples.
 pub fn length_fits(n: u32) -> bool
     ensures { result ≡ length_fits n }
@@ -52,35 +45,23 @@ pub fn is_frequency(x: f32) -> bool
     within(x, SAMPLE_RATE)
 }
 
-// What right fields say, or that they are broken.
-fn is_if(ok: bool, k: NodeKind) -> Fields
-    ensures { result ≡ is_if ok k }
-{
-    if ok { Fields::Is(k) } else { Fields::Broken }
-}
-
-// What a node record's type, whole number and float bits say.
-pub fn rule_of(t: u16, n: u32, f: u32) -> Fields
+// What a node record's type, whole number and float bits say; nothing where one of them is broken.
+#[tactic(auto, unfolding(crate::specs::Kind::rule_of))]
+pub fn rule_of(t: u16, n: u32, f: u32) -> Option<NodeKind>
     ensures { result ≡ rule_of t n f }
 {
-    match t {
-        1 => is_if((n == 0) & (f == 0), NodeKind::Pass),
-        2 => is_if((n == 0) & (f == 0), NodeKind::Sum),
-        3 => is_if((n == 0) & (f == 0), NodeKind::Destination),
-        4 => is_if((n == 0) & (f == 0), NodeKind::Balance),
-        5 => is_if((n == 0) & finite_bits(f), NodeKind::Mul(of_bits(f))),
-        6 => is_if((n == 0) & finite_bits(f), NodeKind::Add(of_bits(f))),
-        7 => is_if(length_fits(n) & (f == 0), NodeKind::Delay(n)),
-        8 => is_if(
-            length_fits(n) & finite_bits(f),
-            NodeKind::AllPass(n, of_bits(f)),
-        ),
-        9 => is_if((n == 0) & finite_bits(f), NodeKind::OnePole(of_bits(f))),
-        10 => is_if(
-            (n == 0) & is_frequency(of_bits(f)),
-            NodeKind::Sine(of_bits(f)),
-        ),
-        _ => Fields::Broken,
+    let x = of_bits(f);
+    match Kind::from_number(t)? {
+        Kind::Pass => ((n == 0) & (f == 0)).then_some(NodeKind::Pass),
+        Kind::Sum => ((n == 0) & (f == 0)).then_some(NodeKind::Sum),
+        Kind::Destination => ((n == 0) & (f == 0)).then_some(NodeKind::Destination),
+        Kind::Balance => ((n == 0) & (f == 0)).then_some(NodeKind::Balance),
+        Kind::Mul => ((n == 0) & finite_bits(f)).then_some(NodeKind::Mul(x)),
+        Kind::Add => ((n == 0) & finite_bits(f)).then_some(NodeKind::Add(x)),
+        Kind::Delay => (length_fits(n) & (f == 0)).then_some(NodeKind::Delay(n)),
+        Kind::AllPass => (length_fits(n) & finite_bits(f)).then_some(NodeKind::AllPass(n, x)),
+        Kind::OnePole => ((n == 0) & finite_bits(f)).then_some(NodeKind::OnePole(x)),
+        Kind::Sine => ((n == 0) & is_frequency(x)).then_some(NodeKind::Sine(x)),
     }
 }
 
@@ -110,27 +91,21 @@ pub fn cell_size(size: usize, k: NodeKind) -> usize
     requires { size ≤ 128 }
     ensures { result ≡ cell_size size k }
 {
-    SAMPLES + size * wide(channels_of(k)) + line_of(k)
+    SAMPLES + size * usize::from(channels_of(k)) + line_of(k)
 }
 
 // Whether a node is the destination.
 pub fn is_destination(k: NodeKind) -> bool
     ensures { result ≡ is_destination k }
 {
-    match k {
-        NodeKind::Destination => true,
-        _ => false,
-    }
+    matches!(k, NodeKind::Destination)
 }
 
 // Whether a node is a pass.
 pub fn is_pass(k: NodeKind) -> bool
     ensures { result ≡ is_pass k }
 {
-    match k {
-        NodeKind::Pass => true,
-        _ => false,
-    }
+    matches!(k, NodeKind::Pass)
 }
 
 // The fewest and the most distinct sources that a type takes, as the two digits of a byte: a board's
@@ -152,6 +127,6 @@ pub fn bounds_of(k: NodeKind) -> u8
 pub fn sources_fit(k: NodeKind, n: usize) -> bool
     ensures { result ≡ sources_fit k n }
 {
-    let bounds = wide(bounds_of(k));
+    let bounds = usize::from(bounds_of(k));
     (bounds / 16 <= n) & (n <= bounds % 16)
 }

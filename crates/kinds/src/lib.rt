@@ -4,3 +4,4 @@
 
 pub mod cell;
 pub mod kind;
+pub mod types;

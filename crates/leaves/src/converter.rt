@@ -1,6 +1,6 @@
 // A converter's words of 24 bits: the sample that a word is going in, and the word that a sample is
 // going out. A word is its pattern, a number below 2^24 in which the negative words stand from 2^23 on.
-ghost use Rattle.std.specs.Prelude.{◌≡◌, ◌-◌, ◌<◌, ◌≤◌, ◌^◌, min, T};
+ghost use Rattle.std.specs.Prelude.{◌≡◌, ◌-◌, ◌<◌, ◌≤◌, ◌^◌, T};
 ghost use Rattle.std.specs.Float.Ieee.{le};
 ghost use Rattle.values.specs.Floors.{zero_f};
 ghost use Rattle.leaves.specs.Converter.{as_pattern, of_word, clipped, absolute_of, word_size, to_word};
@@ -28,17 +28,11 @@ fn size_of(x: f32) -> u32
     }
 }
 
+// -0.0 stays -0.0, as the definition says; f32::abs gives 0.0.
 fn absolute(x: f32) -> f32
     ensures { result ≡ absolute_of x }
 {
     if x < 0.0 { -x } else { x }
-}
-
-// A size that is not below zero, held at the largest word.
-fn held(size: u32) -> u32
-    ensures { result ≡ min size (2 ^ 23 - 1) }
-{
-    if size < 0x80_0000 { size } else { 0x7f_ffff }
 }
 
 // The pattern of a size with its sign. Both are worked out and one is picked: no branch waits for the sign
@@ -48,7 +42,7 @@ fn pattern_of(size: u32, below: bool) -> u32
     ensures { (result ≡ as_pattern (clipped below size)) × (result < 2 ^ 24) }
 {
     let minus = (0x100_0000 - size) % 0x100_0000;
-    let plus = held(size);
+    let plus = size.min(0x7f_ffff);
     if below { minus } else { plus }
 }
 

@@ -3,33 +3,14 @@
 ghost use Rattle.std.specs.Prelude.{◌≡◌, ◌+◌, ◌*◌, ◌^◌, ◌≤◌, ◌<◌, length, get_or, set};
 ghost use Rattle.std.proofs.lemmas.List.Edits.{sets};
 ghost use Rattle.values.specs.Bytes.{u16_at, u24_at, u32_at, u16_bytes, u24_bytes, u32_bytes};
-ghost use Rattle.values.specs.Words.{words, word};
-
-// A byte as an index or a count.
-pub fn wide(x: u8) -> usize
-    ensures { result ≡ x }
-{
-    x as usize
-}
-
-fn joined(a: u8, b: u8, c: u8, d: u8) -> u32
-    ensures { result ≡ word a b c d }
-{
-    a as u32 + b as u32 * 256 + c as u32 * 65536 + d as u32 * 16777216
-}
-
-fn paired(a: u8, b: u8) -> u16
-    ensures { result ≡ a + b * 256 }
-{
-    a as u16 + b as u16 * 256
-}
+ghost use Rattle.values.specs.Words.{words};
 
 // The 16-bit number at byte `at`.
 pub fn u16_at(s: &[u8], at: usize) -> u16
     requires { at + 2 ≤ length s.now }
     ensures { result ≡ u16_at s.now at }
 {
-    paired(s[at], s[at + 1])
+    u16::from_le_bytes([s[at], s[at + 1]])
 }
 
 // The 24-bit number at byte `at`.
@@ -37,7 +18,7 @@ pub fn u24_at(s: &[u8], at: usize) -> u32
     requires { at + 3 ≤ length s.now }
     ensures { (result ≡ u24_at s.now at) × (result < 2 ^ 24) }
 {
-    joined(s[at], s[at + 1], s[at + 2], 0)
+    u32::from_le_bytes([s[at], s[at + 1], s[at + 2], 0])
 }
 
 // The 32-bit number at byte `at`.
@@ -45,7 +26,7 @@ pub fn u32_at(s: &[u8], at: usize) -> u32
     requires { at + 4 ≤ length s.now }
     ensures { result ≡ u32_at s.now at }
 {
-    joined(s[at], s[at + 1], s[at + 2], s[at + 3])
+    u32::from_le_bytes([s[at], s[at + 1], s[at + 2], s[at + 3]])
 }
 
 // Stores v in the two bytes at `at`, the lowest first.
@@ -53,8 +34,7 @@ pub fn put_u16(s: &mut [u8], at: usize, v: u16)
     requires { at + 2 ≤ length s.old }
     ensures { s.new ≡ sets s.old at (u16_bytes v) }
 {
-    s[at] = (v % 256) as u8;
-    s[at + 1] = (v / 256 % 256) as u8;
+    s[at..at + 2].copy_from_slice(&v.to_le_bytes());
 }
 
 // Stores v in the three bytes at `at`, the lowest first.
@@ -62,9 +42,7 @@ pub fn put_u24(s: &mut [u8], at: usize, v: u32)
     requires { at + 3 ≤ length s.old }
     ensures { s.new ≡ sets s.old at (u24_bytes v) }
 {
-    s[at] = (v % 256) as u8;
-    s[at + 1] = (v / 256 % 256) as u8;
-    s[at + 2] = (v / 65536 % 256) as u8;
+    s[at..at + 3].copy_from_slice(&v.to_le_bytes()[..3]);
 }
 
 // Stores v in the four bytes at `at`, the lowest first.
@@ -72,10 +50,7 @@ pub fn put_u32(s: &mut [u8], at: usize, v: u32)
     requires { at + 4 ≤ length s.old }
     ensures { s.new ≡ sets s.old at (u32_bytes v) }
 {
-    s[at] = (v % 256) as u8;
-    s[at + 1] = (v / 256 % 256) as u8;
-    s[at + 2] = (v / 65536 % 256) as u8;
-    s[at + 3] = (v / 16777216 % 256) as u8;
+    s[at..at + 4].copy_from_slice(&v.to_le_bytes());
 }
 
 // The word at k, counted in words.

@@ -12,11 +12,12 @@ use crate::bytes::{put_word, word_at};
 // Samples a second.
 pub const SAMPLE_RATE: f32 = 44100.0;
 
+// f32::from_bits and f32::to_bits ask that there is no NaN, so of_bits and to_bits test for it.
 pub fn of_bits(bits: u32) -> f32
     ensures { result ≡ of_bits binary32 bits }
 {
     if bits % 0x8000_0000 > 0x7f80_0000 {
-        0.0 / 0.0
+        f32::NAN
     } else {
         f32::from_bits(bits)
     }
@@ -25,7 +26,7 @@ pub fn of_bits(bits: u32) -> f32
 pub fn to_bits(x: f32) -> u32
     ensures { result ≡ to_bits binary32 x }
 {
-    if x != x { 0x7fc0_0000 } else { f32::to_bits(x) }
+    if x.is_nan() { 0x7fc0_0000 } else { x.to_bits() }
 }
 
 // The pattern of a finite float is below infinity's, the sign's bit aside.
@@ -46,16 +47,17 @@ pub fn finite(x: f32) -> bool
 pub fn within(x: f32, most: f32) -> bool
     ensures { result ≡ within most x }
 {
-    if x >= 0.0 { x <= most } else { false }
+    x >= 0.0 && x <= most
 }
 
-// The floor of an x from 0 to 2^24, off its bits: x is digits × 2^(bits / 2^23 - 150).
+// The floor of an x from 0 to 2^24, off its bits: x is digits × 2^(bits / 2^23 - 150). f32::floor works
+// out floor and ceiling of the size and puts the sign back, where one shift does here.
 pub fn floor(x: f32) -> u32
     requires { Upto (2 ^ 24) x }
     ensures { result ≡ floor_of x }
 {
     if x >= 1.0 {
-        let bits = f32::to_bits(x);
+        let bits = x.to_bits();
         let digits = bits % 0x80_0000 + 0x80_0000;
         (digits * 2) >> (151 - bits / 0x80_0000)
     } else {

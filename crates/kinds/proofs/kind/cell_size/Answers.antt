@@ -18,8 +18,8 @@ channels-two (stereo l r) = omega arith
 room : (k : NodeKind) (size channels : ℕ) → size ≤ 128 → channels ≡ channels_of k → size * channels ≤ 256
 room k size channels h e = mul-le-mul h (subst (λ (n : ℕ). n ≤ 2) (sym e) (channels-two (row_of k).writes))
 
-channels : (c : goal.After-wide) → c.args.size * c.wide.result ≤ 256
-channels c = room c.args.k c.args.size c.wide.result (search rules) (c.wide.ensures ∙ c.channels_of.ensures)
+channels : (c : goal.After-from) → c.args.size * c.from.result ≤ 256
+channels c = room c.args.k c.args.size c.from.result (search rules) (c.from.ensures ∙ c.channels_of.ensures)
 
 pub overflow_mul-result : goal.overflow_mul-result
 overflow_mul-result c = omega (arith, channels c)
@@ -31,4 +31,4 @@ pub overflow_add-result-2 : goal.overflow_add-result-2
 overflow_add-result-2 c = omega (arith, channels c.before)
 
 pub returns : goal.returns
-returns c = simp (c.wide.ensures, c.channels_of.ensures, c.line_of.ensures.0)
+returns c = simp (c.from.ensures, c.channels_of.ensures, c.line_of.ensures.0)

@@ -17,4 +17,4 @@ returns-then-below c =
 pub returns-else-below : goal.returns-else-below
 returns-else-below c =
     let n = c.args.size in
-    (c.held-plus.ensures ∙ ap (λ (b : Bool). as_pattern (clipped b n)) (sym c.if-below.false), omega (arith, c.held-plus.ensures))
+    (c.min-plus.ensures ∙ ap (λ (b : Bool). as_pattern (clipped b n)) (sym c.if-below.false), omega (arith, c.min-plus.ensures))

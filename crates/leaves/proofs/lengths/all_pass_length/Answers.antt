@@ -3,11 +3,12 @@ use borrow.Author.Tests.{eq-eqb, ne_eqb}
 use mathlib.Core.Path.{◌≡◌, sym, ap, ◌∙◌}
 use mathlib.Core.Bool.{Bool, true, false}
 use denote.Floats.{passes}
+use native.Mathlib.Omega.{arith}
 use lib.Dec.{eqb}
 use lib.Ieee.{Float, of_bits, eq}
 use Rattle.values.specs.Floors.{zero_f, f3000, within}
 use Rattle.leaves.specs.Lengths.{all_pass_of, samples_of}
-use Rattle.leaves.specs.declared.lengths.Length.TheVariants.{Samples}
+use Rattle.std.specs.Prelude.{Some}
 use Rattle.leaves.proofs.lengths.all_pass_length.Goals as goal
 
 inside : (x : Float) (b : Bool) → b ≡ within f3000 x → b ≡ true → within f3000 x ≡ true
@@ -23,18 +24,18 @@ returns-then-ms c =
     let e : eq c.args.ms zero_f ≡ true = c.if-ms.true in
     rw (inside c.args.ms _ c.within.ensures c.if-not-within.false, e)
 
-pub samples-n-requires : goal.samples-n-requires
+pub samples-requires : goal.samples-requires
 unfolding of_bits
-samples-n-requires c = passes _ (inside c.args.ms _ c.within.ensures c.if-not-within.false)
+samples-requires c = passes _ (inside c.args.ms _ c.within.ensures c.if-not-within.false)
 
-pub returns-then-n-eq0 : goal.returns-then-n-eq0
+pub returns-in-0 : goal.returns-in-0
 unfolding all_pass_of of_bits
-returns-then-n-eq0 c =
-    let e : eqb (samples_of c.args.ms) 0 ≡ true = eq-eqb _ _ (sym c.samples-n.ensures ∙ c.if-n-eq0.true) in
+returns-in-0 c =
+    let e : eqb (samples_of c.args.ms) 0 ≡ true = eq-eqb _ _ (sym c.samples.ensures ∙ c.in-0.is) in
     rw (inside c.args.ms _ c.within.ensures c.if-not-within.false, c.if-ms.false, e)
 
-pub returns-else-n-eq0 : goal.returns-else-n-eq0
+pub returns-in_default : goal.returns-in_default
 unfolding all_pass_of of_bits
-returns-else-n-eq0 c =
-    let e : eqb (samples_of c.args.ms) 0 ≡ false = ne_eqb _ _ (λ z. c.if-n-eq0.false (c.samples-n.ensures ∙ z)) in
-    rw (inside c.args.ms _ c.within.ensures c.if-not-within.false, c.if-ms.false, e) (ap Samples c.samples-n.ensures)
+returns-in_default c =
+    let e : eqb (samples_of c.args.ms) 0 ≡ false = ne_eqb _ _ (λ z. omega (arith, c.samples.ensures, z)) in
+    rw (inside c.args.ms _ c.within.ensures c.if-not-within.false, c.if-ms.false, e) (ap Some c.samples.ensures)

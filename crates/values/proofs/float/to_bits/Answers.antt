@@ -1,14 +1,15 @@
--- `values::float::to_bits` meets its contract: only the NaN differs from itself. Assumes nothing.
-use mathlib.Core.Path.{sym, ap, subst}
-use lib.Dec.{T}
-use lib.Ieee.{binary32, to_bits}
-use lib.Ieee.Compare.{differs_from_itself}
-use Rattle.values.proofs.Patterns.{same_not_nan}
+-- `values::float::to_bits` meets its contract. Assumes nothing.
+use mathlib.Core.Path.{◌≡◌, refl, sym, ap, ◌∙◌}
+use mathlib.Core.Bool.{true}
+use lib.Ieee.{Float, nan, inf, fin, binary32, is_nan, to_bits}
 use Rattle.values.proofs.float.to_bits.Goals as goal
 
-pub float_to_bits-result : goal.float_to_bits-result
-float_to_bits-result c = same_not_nan _ c.if-x.false
+only_nan : (x : Float) → is_nan x ≡ true → x ≡ nan
+unfolding is_nan
+only_nan nan e = refl
+only_nan (inf s) e = absurd (cc)
+only_nan (fin s m k) e = absurd (cc)
 
-pub returns-then-x : goal.returns-then-x
+pub returns-then-is_nan : goal.returns-then-is_nan
 unfolding to_bits
-returns-then-x c = sym (ap (to_bits binary32) (differs_from_itself _ (subst T (sym c.if-x.true) tt)))
+returns-then-is_nan c = sym (ap (to_bits binary32) (only_nan c.args.x (sym c.is_nan.ensures.value ∙ c.if-is_nan.true)))

@@ -1,5 +1,5 @@
 -- `values::float::within` meets its contract. Assumes nothing.
-use mathlib.Core.Path.{sym, ap}
+use mathlib.Core.Path.{sym, ap, ◌∙◌}
 use mathlib.Core.Bool.{Bool, ◌&&◌}
 use lib.Ieee.{le, of_bits}
 use Rattle.values.specs.Floors.{within}
@@ -11,4 +11,4 @@ returns-then-x c = sym (ap (λ (b : Bool). b && le c.args.x c.args.most) c.if-x.
 
 pub returns-else-x : goal.returns-else-x
 unfolding of_bits within
-returns-else-x c = sym (ap (λ (b : Bool). b && le c.args.x c.args.most) c.if-x.false)
+returns-else-x c = c.if-x.false ∙ sym (ap (λ (b : Bool). b && le c.args.x c.args.most) c.if-x.false)
