@@ -9,13 +9,14 @@ use native.Mathlib.Nat.{le_of_suc-le-suc, eq-or-lt_of_le}
 use native.Mathlib.Omega.{arith}
 use lib.Dec.{ltb}
 use borrow.Author.Tests.{ltb-true, ltb-false}
-use lib.ListN.{length, set, length-set}
+use lib.ListN.{length, set, replicate, length-set, length-replicate, get_or-replicate}
 use lib.Seq.{get_or-set_same, get_or-set_other, ext_get_or}
 use lib.Ieee.{Float, nan, binary32, to_bits}
 use Rattle.values.specs.Words.{words}
 use Rattle.values.specs.Floats.{float_at}
+use Rattle.values.specs.Floors.{zero_f}
 use Rattle.kinds.specs.Iter.{iter}
-use Rattle.effects.specs.Block.{sample, fetched, fetched_if, fill, stored}
+use Rattle.effects.specs.Block.{sample, fetched, fetched_if, quiet, fill, stored}
 use Rattle.kinds.proofs.Iterated.{iter_then}
 
 -- ---- loops that store or fill
@@ -97,6 +98,15 @@ fill-over f g n x long =
         fill_at g n (fill f n x) (omega (arith, length-fill f n x)) i (ltb-true i n e) ∙ sym (fill_at g n x long i (ltb-true i n e))
     at i false e =
         let h : n ≤ i = ltb-false i n e in fill-ahead g n (fill f n x) i h ∙ fill-ahead f n x i h ∙ sym (fill-ahead g n x i h)
+
+-- an array of zeros
+pub quiet_all : {y : List Float} (x : List Float) → y ≡ replicate (length x) zero_f → y ≡ fill quiet (length x) x
+quiet_all {y} x e =
+    ext_get_or nan y (fill quiet (length x) x)
+    (ap length e ∙ length-replicate (length x) zero_f ∙ sym (length-fill quiet (length x) x))
+    (λ i h.
+    let below : i < length x = omega (arith, ap length e, length-replicate {A = Float} (length x) zero_f) in
+    ap (λ (l : List Float). sample l i) e ∙ get_or-replicate (length x) i zero_f nan below ∙ sym (fill_at quiet (length x) x (omega arith) i below))
 
 -- samples that are fetched where they are asked for
 module _ (asked : Bool) (ws : List ℕ) (at n : ℕ) (x y : List Float) where

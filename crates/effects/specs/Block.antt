@@ -1,5 +1,5 @@
 -- Blocks as the loops hold them: arrays of 128 floats, of which the first N count. Definitions only.
-use Rattle.std.specs.Prelude.{ℕ, ◌+◌, ◌≡◌, Bool, cond, List, [], ◌∷◌, get_or, set, Float}
+use Rattle.std.specs.Prelude.{ℕ, ◌+◌, ◌≡◌, Bool, cond, List, [], ◌∷◌, get_or, set, Option, Some, None, Float}
 use Rattle.std.specs.Float.{nan, binary32}
 use Rattle.std.specs.Float.Ieee.{to_bits, add}
 use Rattle.values.specs.Floats.{float_at}
@@ -62,8 +62,9 @@ alone x i = record { left = sample x i ∷ []; right = []; second = nan }
 abbrev pub pair : List Float → List Float → ℕ → Brought
 pair x m i = record { left = sample x i ∷ sample m i ∷ []; right = []; second = sample m i }
 
-abbrev pub given : Bool → List Float → List Float → ℕ → Brought
-given two x m i = cond two (pair x m i) (alone x i)
+abbrev pub given_by : List Float → Option (List Float) → ℕ → Brought
+given_by x None i = alone x i
+given_by x (Some m) i = pair x m i
 
 -- no source at all
 abbrev pub nothing : ℕ → Brought

@@ -31,7 +31,7 @@ pub fn stretch(place: usize, n: usize, left: usize) -> usize
     requires { place < n }
     ensures { (result ≡ stretch_of place n left) × (result ≤ left) × (place + result ≤ n) }
 {
-    if n - place < left { n - place } else { left }
+    left.min(n - place)
 }
 
 // The place after a stretch that ends at `end`, which is not past n.
@@ -41,33 +41,32 @@ pub fn wrap(end: usize, n: usize) -> usize
     if end < n { end } else { 0 }
 }
 
-// The samples from `done` on, `count` of them, from ring place `place` on. The values that they
-// replace there are given, each as the pattern of its float.
-fn push(cell: &mut [u8], size: usize, place: usize, x: &[f32; 128], done: usize, count: usize)
-    requires { (size ≤ 128) × (done + count ≤ size) × (4 * (samples_from + size + (place + count)) ≤ length cell.old) }
-    ensures { (n : ℕ) → length cell.old ≡ 4 * (samples_from + size + n)
-        → words cell.new ≡ stretch_values (NodeKind.Delay n) size (alone x.now) place done count (words cell.old) }
+// The samples x[done..done + count], from ring place `place` on. The values that they replace there
+// are given, each as the pattern of its float.
+fn push(cell: &mut [u8], place: usize, x: &[f32], done: usize, count: usize)
+    requires { (length x.now ≤ 128) × (done + count ≤ length x.now) × (4 * (samples_from + length x.now + (place + count)) ≤ length cell.old) }
+    ensures { (n : ℕ) → length cell.old ≡ 4 * (samples_from + length x.now + n)
+        → words cell.new ≡ stretch_values (NodeKind.Delay n) (length x.now) (alone x.now) place done count (words cell.old) }
 {
-    let at = SAMPLES + size + place;
-    let mut i = 0;
-    while i < count {
+    let at = SAMPLES + x.len() + place;
+    for i in 0..count {
         let old = word_at(cell, at + i);
         store(cell, at + i, x[done + i]);
         put_word(cell, SAMPLES + done + i, canonical(old));
-        i += 1;
     }
 }
 
-// A block through the delay, in stretches up to the ring's end; the place is stored at the end.
-pub fn delay(cell: &mut [u8], n: usize, size: usize, x: &[f32; 128])
-    requires { (size ≤ 128) × (n ≤ 132300) × (length cell.old ≡ 4 * (samples_from + size + n)) × (get_or (words cell.old) place_index 0 < n) }
-    ensures { words cell.new ≡ run_values (NodeKind.Delay n) size (alone x.now) (words cell.old) }
+// A block x through the delay, in stretches up to the ring's end; the place is stored at the end.
+pub fn delay(cell: &mut [u8], n: usize, x: &[f32])
+    requires { (length x.now ≤ 128) × (n ≤ 132300) × (length cell.old ≡ 4 * (samples_from + length x.now + n)) × (get_or (words cell.old) place_index 0 < n) }
+    ensures { words cell.new ≡ run_values (NodeKind.Delay n) (length x.now) (alone x.now) (words cell.old) }
 {
     let mut place = word_at(cell, PLACE) as usize;
     let mut done = 0;
-    while done < size {
-        let count = stretch(place, n, size - done);
-        push(cell, size, place, x, done, count);
+    // A turn is a stretch, of as many samples as go before the ring's end.
+    while done < x.len() {
+        let count = stretch(place, n, x.len() - done);
+        push(cell, place, x, done, count);
         done += count;
         place = wrap(place + count, n);
     }

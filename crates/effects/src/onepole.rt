@@ -10,16 +10,14 @@ use kinds::kind::NodeKind;
 use leaves::onepole::OnePole;
 use values::float::{load, store};
 
-pub fn one_pole(cell: &mut [u8], b: f32, size: usize, x: &[f32; 128])
-    requires { (0 < size) × (size ≤ 128) × (length cell.old ≡ 4 * (samples_from + size)) }
-    ensures { words cell.new ≡ run_values (NodeKind.OnePole b) size (alone x.now) (words cell.old) }
+pub fn one_pole(cell: &mut [u8], b: f32, x: &[f32])
+    requires { (0 < length x.now) × (length x.now ≤ 128) × (length cell.old ≡ 4 * (samples_from + length x.now)) }
+    ensures { words cell.new ≡ run_values (NodeKind.OnePole b) (length x.now) (alone x.now) (words cell.old) }
 {
     let mut pole = OnePole::new(b, load(cell, CARRY));
-    let mut i = 0;
-    while i < size {
-        pole = pole.step(x[i]);
+    for (i, sample) in x.iter().enumerate() {
+        pole = pole.step(*sample);
         store(cell, SAMPLES + i, pole.y1);
-        i += 1;
     }
     store(cell, CARRY, pole.y1);
 }

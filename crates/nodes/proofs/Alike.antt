@@ -1,14 +1,14 @@
 -- A type that reads its first source, and where there are two sources the second, runs alike on all that brings the same of these.
 --     ReadsOperands     such a type; mul_reads, add_reads, delay_reads, all_pass_reads, one_pole_reads, sine_reads
 --     run_alike         the block run
---     alike_given, alike_alone, alike_nothing    blocks of the operands, and what the wires bring
+--     alike_pair, alike_alone, alike_nothing    blocks of the operands, and what the wires bring
 -- Assumes nothing.
 use mathlib.Core.Path.{◌≡◌, refl, sym, ap, subst, ◌∙◌}
 use mathlib.Core.Bool.{Bool, true, false, cond}
 use mathlib.Core.List.{List}
 use Prim.Native.Nat.{ℕ, ◌+◌, ◌<◌}
 use native.Mathlib.Omega.{arith}
-use borrow.Author.Tests.{ltb-true}
+use borrow.Author.Tests.{lt-ltb}
 use lib.Dec.{ltb}
 use lib.ListN.{length, get_or-eq_default}
 use lib.Ieee.{Float, nan, binary32, of_bits, to_bits, add, mul}
@@ -19,7 +19,7 @@ use Rattle.kinds.specs.Row.{Terms, Writes, mono, product, plus, delayed, filtere
 use Rattle.kinds.specs.Kind.{channels_of}
 use Rattle.kinds.specs.Rule.{Brought, State, first, two, all_pass, between, tap_by, tap, keeps_in, keeps, left_in, left_of, left_by, right_in, right_of, carry_after, x_line, y_line, place_after, line_after, sample_by, state_by}
 use Rattle.kinds.specs.Cell.{Cell, values_of, cell_of, frame_at, put_frame, step_cell, run_cell, run_values}
-use Rattle.effects.specs.Block.{sample, alone, given, nothing}
+use Rattle.effects.specs.Block.{sample, alone, pair, nothing}
 use Rattle.nodes.specs.Ready.{sums_sources, GivesBy, Operands, Gives}
 use Rattle.kinds.specs.declared.kind.NodeKind.{NodeKind}
 use Rattle.kinds.specs.declared.kind.NodeKind.TheVariants.{Mul, Add, Delay, AllPass, OnePole, Sine}
@@ -116,12 +116,8 @@ module _ {k : NodeKind} (r : ReadsOperands k) (N : ℕ) (bs ds : ℕ → Brought
 -- ---- on blocks of the operands
 
 module _ (b : Brought) (n i : ℕ) (x m : List Float) (counted : length b.left ≡ n) (o : Operands n b (sample x i) (sample m i)) where
-  pub alike_given : 0 < n → Alike (given (ltb 1 n) x m i) b
-  alike_given h = go (ltb 1 n) refl
-    where
-      go : (t : Bool) → ltb 1 n ≡ t → Alike (given t x m i) b
-      go true e = record { firsts = sym (o.0 h); twos = sym (ap (ltb 1) counted ∙ e); seconds = λ q. sym (o.1 (ltb-true 1 n e)) }
-      go false e = record { firsts = sym (o.0 h); twos = sym (ap (ltb 1) counted ∙ e); seconds = λ q. cc }
+  pub alike_pair : 1 < n → Alike (pair x m i) b
+  alike_pair h = record { firsts = sym (o.0 (omega arith)); twos = sym (ap (ltb 1) counted ∙ lt-ltb 1 n h); seconds = λ q. sym (o.1 h) }
 
   pub alike_alone : n ≡ 1 → Alike (alone x i) b
   alike_alone one = record { firsts = sym (o.0 (omega arith)); twos = sym (ap (ltb 1) (counted ∙ one)); seconds = λ q. cc }

@@ -2,10 +2,13 @@
 -- destination and balance run on the blocks as on what the wires bring (`Supplies`).
 -- Assumes nothing.
 use mathlib.Core.Path.{◌≡◌, refl, sym, ap, subst, ◌∙◌}
+use mathlib.Core.Bool.{Bool, true, false}
 use mathlib.Core.List.{List, [], ◌∷◌}
+use Rattle.std.specs.Prelude.{Option}
+use Rattle.std.specs.Bool.{then_some}
 use Prim.Native.Nat.{ℕ, ◌+◌, ◌*◌, ◌≤◌, ◌<◌}
 use native.Mathlib.Omega.{arith}
-use borrow.Author.Tests.{ltb-true, leb-true, eq-eqb, ne_eqb}
+use borrow.Author.Tests.{ltb-true, ltb-false, leb-true, eq-eqb, ne_eqb}
 use lib.Dec.{leb, ltb, T}
 use lib.ListN.{length, get_or}
 use lib.Ieee.{Float}
@@ -15,12 +18,12 @@ use Rattle.values.specs.Floors.{f1, f44100, within}
 use Rattle.kinds.specs.Kind.{fewest, most, cell_size, samples_from, number_index, carry_index, place_index}
 use Rattle.kinds.specs.Rule.{Brought, keeps, left_of, right_of, carry_after, place_after, line_after, state_by}
 use Rattle.kinds.specs.Cell.{cell_of, number_fits, carry_fits, place_fits, run_values}
-use Rattle.effects.specs.Block.{sample, put_block, alone, given, nothing}
+use Rattle.effects.specs.Block.{sample, put_block, alone, pair, given_by, nothing}
 use Rattle.nodes.specs.Ready.{Operands, Supplies, CellReady}
 use Rattle.kinds.specs.declared.kind.NodeKind.{NodeKind}
 use Rattle.kinds.specs.declared.kind.NodeKind.TheVariants.{Pass, Sum, Destination, Balance, Delay, AllPass, Sine}
 use Rattle.kinds.proofs.Arms.{Among, arm}
-use Rattle.nodes.proofs.Alike.{ReadsOperands, run_alike, alike_given, alike_alone, alike_nothing}
+use Rattle.nodes.proofs.Alike.{ReadsOperands, run_alike, alike_pair, alike_alone, alike_nothing}
 use Rattle.kinds.proofs.Kept.{Judged, both, fits_judged}
 use Rattle.operators.proofs.Plain.{stored_mono, stored_stereo, block_kept}
 
@@ -110,16 +113,24 @@ operands {n = n} {x = x} {m = m} {bs = bs} r supply i h = r.asks n (bs i) (sampl
 
 -- a type that reads its operands runs on their blocks as on what the wires bring
 module _ {cell : List ℕ} {k : NodeKind} {N n : ℕ} {x m : List Float} {vs : List ℕ} (r : ReadsOperands k) (ready : CellReady cell k N n) where
-  pub given_runs : 0 < fewest k → vs ≡ run_values k N (given (ltb 1 n) x m) (words cell) → Runs cell N n x m vs k
-  given_runs some e bs supply =
-      e
-      ∙ run_alike r N (given (ltb 1 n) x m) bs (words cell) (λ i h. alike_given (bs i) n i x m (supply.counted i h) (operands r supply i h) (omega (arith, at_least ready)))
+  pub pair_runs : 1 < n → vs ≡ run_values k N (pair x m) (words cell) → Runs cell N n x m vs k
+  pair_runs two e bs supply =
+      e ∙ run_alike r N (pair x m) bs (words cell) (λ i h. alike_pair (bs i) n i x m (supply.counted i h) (operands r supply i h) two)
+
+  pub one_runs : n ≡ 1 → vs ≡ run_values k N (alone x) (words cell) → Runs cell N n x m vs k
+  one_runs one e bs supply =
+      e ∙ run_alike r N (alone x) bs (words cell) (λ i h. alike_alone (bs i) n i x m (supply.counted i h) (operands r supply i h) one)
+
+  -- of one or two, the second where there is one
+  pub given_runs : {o : Option (List Float)} → 0 < fewest k → o ≡ then_some (ltb 1 n) m → vs ≡ run_values k N (given_by x o) (words cell) → Runs cell N n x m vs k
+  given_runs {o} some e-o e = go (ltb 1 n) refl (e ∙ ap (λ (p : Option (List Float)). run_values k N (given_by x p) (words cell)) e-o)
+    where
+      go : (t : Bool) → ltb 1 n ≡ t → vs ≡ run_values k N (given_by x (then_some t m)) (words cell) → Runs cell N n x m vs k
+      go true q f = pair_runs (ltb-true 1 n q) f
+      go false q f = one_runs (omega (arith, ltb-false 1 n q, at_least ready)) f
 
   pub alone_runs : fewest k ≡ 1 → most k ≡ 1 → vs ≡ run_values k N (alone x) (words cell) → Runs cell N n x m vs k
-  alone_runs least most-one e bs supply =
-      e
-      ∙ run_alike r N (alone x) bs (words cell)
-      (λ i h. alike_alone (bs i) n i x m (supply.counted i h) (operands r supply i h) (omega (arith, at_least ready, at_most ready)))
+  alone_runs least most-one = one_runs (omega (arith, at_least ready, at_most ready))
 
   pub nothing_runs : most k ≡ 0 → vs ≡ run_values k N nothing (words cell) → Runs cell N n x m vs k
   nothing_runs none e bs supply =

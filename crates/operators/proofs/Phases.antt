@@ -1,5 +1,5 @@
 -- Laws of the phases of a sine's block. Assumes nothing.
-use mathlib.Core.Path.{◌≡◌, sym, ap, ◌∙◌, subst}
+use mathlib.Core.Path.{◌≡◌, refl, sym, ap, ◌∙◌, subst}
 use mathlib.Core.List.{List}
 use Prim.Native.Nat.{ℕ, ◌+◌, ◌≤◌, ◌<◌}
 use native.Mathlib.Omega.{arith}
@@ -18,22 +18,22 @@ use Rattle.operators.specs.Phases.{Stays, Moves, Units}
 abbrev pub Reached : Float → ℕ → Float → List ℕ → ℕ → List ℕ → Float → Type 0
 Reached by from start us₀ i us v = (p : ℕ → Float) → Moves by p → start ≡ p from → Units p from us₀ → (v ≡ p i) × Units p i us
 
--- a loop over the places from `from` to `size` that is at place i
-pub record Climbing (by : Float) (from size : ℕ) (start : Float) (us₀ : List ℕ) (i : ℕ) (us : List ℕ) (v : Float) : Type 0 where
+-- a loop over the places from `from` to the end that is at place i
+pub record Climbing (by : Float) (from : ℕ) (start : Float) (us₀ : List ℕ) (i : ℕ) (us : List ℕ) (v : Float) : Type 0 where
   pub begun : from ≤ i
-  pub turns : i ≤ size
-  pub long : length us ≡ 128
+  pub turns : i ≤ length us₀
+  pub long : length us ≡ length us₀
   pub inside : T (within f1 v)
   pub reached : Reached by from start us₀ i us v
 
-module _ {by : Float} {from size : ℕ} {start : Float} {us₀ : List ℕ} where
-  pub climbing_none : from ≤ size → length us₀ ≡ 128 → T (within f1 start) → Climbing by from size start us₀ from us₀ start
-  climbing_none few long h = record { begun = omega arith; turns = few; long = long; inside = h; reached = λ p moves e units. (e, units) }
+module _ {by : Float} {from : ℕ} {start : Float} {us₀ : List ℕ} where
+  pub climbing_none : from ≤ length us₀ → T (within f1 start) → Climbing by from start us₀ from us₀ start
+  climbing_none few h = record { begun = omega arith; turns = few; long = refl; inside = h; reached = λ p moves e units. (e, units) }
 
   -- one more place
-  pub climbing_then : {i u : ℕ} {us : List ℕ} {v w : Float} → Climbing by from size start us₀ i us v → Stays by → size ≤ 128 → i < size → u ≡ phase_units v → w ≡ advance v by
-      → Climbing by from size start us₀ (i + 1) (set us i u) w
-  climbing_then {i} {u} {us} {v} {w} r stays few below eu ew =
+  pub climbing_then : {i u : ℕ} {us : List ℕ} {v w : Float} → Climbing by from start us₀ i us v → Stays by → i < length us₀ → u ≡ phase_units v → w ≡ advance v by
+      → Climbing by from start us₀ (i + 1) (set us i u) w
+  climbing_then {i} {u} {us} {v} {w} r stays below eu ew =
       record {
         begun = omega (arith, r.begun);
         turns = omega arith;
@@ -49,20 +49,20 @@ module _ {by : Float} {from size : ℕ} {start : Float} {us₀ : List ℕ} where
       }
 
   -- more places at once
-  pub climbing_on : {i k : ℕ} {us vs : List ℕ} {v w : Float} → Climbing by from size start us₀ i us v → (i < k) × (k ≤ size) × (length vs ≡ 128) × T (within f1 w)
-      → Reached by i v us k vs w → Climbing by from size start us₀ k vs w
-  climbing_on r h more =
+  pub climbing_on : {i k : ℕ} {us vs : List ℕ} {v w : Float} → Climbing by from start us₀ i us v → length vs ≡ length us → (i < k) × (k ≤ length us) × T (within f1 w)
+      → Reached by i v us k vs w → Climbing by from start us₀ k vs w
+  climbing_on r long h more =
       record {
         begun = omega (arith, r.begun);
-        turns = h.1;
-        long = h.2;
-        inside = h.3;
+        turns = omega (arith, r.long);
+        long = long ∙ r.long;
+        inside = h.2;
         reached = λ p moves e units. let so = r.reached p moves e units in more p moves so.0 so.1;
       }
 
 -- a block's loop that is at its end: no phase comes before the first
-pub climbed_all : {by : Float} {size : ℕ} {start : Float} {us₀ : List ℕ} {i : ℕ} {us : List ℕ} {v : Float} → Climbing by 0 size start us₀ i us v → size ≤ i
-    → (p : ℕ → Float) → Moves by p → start ≡ p 0 → (v ≡ p size) × Units p size us
-climbed_all {size = size} {i = i} {us = us} {v = v} r all p moves e =
-    let done : i ≡ size = omega (arith, r.turns) in
+pub climbed_all : {by : Float} {start : Float} {us₀ : List ℕ} {i : ℕ} {us : List ℕ} {v : Float} → Climbing by 0 start us₀ i us v → length us₀ ≤ i
+    → (p : ℕ → Float) → Moves by p → start ≡ p 0 → (v ≡ p (length us₀)) × Units p (length us₀) us
+climbed_all {us₀ = us₀} {i = i} {us = us} {v = v} r all p moves e =
+    let done : i ≡ length us₀ = omega (arith, r.turns) in
     subst (λ (k : ℕ). (v ≡ p k) × Units p k us) done (r.reached p moves e (λ j h. absurd (omega arith)))

@@ -3,10 +3,10 @@
 --     stored_mono     one channel: the samples are stored
 --     stored_stereo   two channels: those of channel 0 are stored, then those of channel 1
 --     block_kept      a node that keeps its block is left as it is
---     operator_two, operator_one   an operator on two sources, or on one and its number
+--     operator_run    an operator on two sources, or on one and its number
 -- Assumes nothing.
 use mathlib.Core.Path.{◌≡◌, refl, sym, ap, ◌∙◌}
-use mathlib.Core.Bool.{Bool, true, false}
+use mathlib.Core.Bool.{true, false}
 use mathlib.Core.List.{List}
 use Prim.Native.Nat.{ℕ, zero, suc, ◌+◌, ◌*◌, ◌≤◌, ◌<◌}
 use native.Mathlib.Omega.{arith}
@@ -19,7 +19,9 @@ use Rattle.kinds.specs.Kind.{channels_of, line_of, cell_size, samples_from, numb
 use Rattle.kinds.specs.Iter.{iter}
 use Rattle.kinds.specs.Rule.{Brought, State, first, operand, keeps, left_of, left_by, right_of, carry_after, place_after, line_after, sample_by, state_by}
 use Rattle.kinds.specs.Cell.{Cell, with_samples, values_of, cell_of, frame_at, put_frame, step_cell, run_cell, run_values}
-use Rattle.effects.specs.Block.{stored, op_number, op_sources, given}
+use Rattle.effects.specs.Block.{stored, op_number, op_sources, alone, pair, given_by}
+use Rattle.operators.specs.Operators.{op_by}
+use Rattle.std.specs.Prelude.{Option, Some, None}
 use Rattle.kinds.specs.declared.kind.NodeKind.{NodeKind}
 use Rattle.kinds.specs.declared.kind.NodeKind.TheVariants.{Mul, Add}
 use Rattle.kinds.proofs.Iterated.{iter_builds}
@@ -138,21 +140,15 @@ unfolding state_by carry_after place_after line_after keeps left_of
 add_operator f = record { plain = λ s b. refl; mono = refl; lineless = refl; goes = λ b. refl; rule = λ s b. refl }
 
 -- of a cell that is lent whole the loop leaves vs
-module _ {op : Float → Float → Float} {k : NodeKind} (o : Operator op k) (N : ℕ) (two : Bool) (x m : List Float) (cell vs : List ℕ) (whole : length cell ≡ 4 * (samples_from + N)) where
+module _ {op : Float → Float → Float} {k : NodeKind} (o : Operator op k) (N : ℕ) (x : List Float) (cell vs : List ℕ) (whole : length cell ≡ 4 * (samples_from + N)) where
   cell_long : length (words cell) ≡ cell_size N k
   cell_long = omega (arith, length-words cell, ap (λ (j : ℕ). N * j) o.mono, o.lineless)
 
-  pub operator_two : two ≡ true → vs ≡ stored (op_sources op x m) samples_from N (words cell) → vs ≡ run_values k N (given two x m) (words cell)
-  operator_two is e =
-      e
-      ∙ stored_mono k o.plain N (given true x m) (words cell) cell_long (op_sources op x m) o.mono (λ i h. o.goes _) (λ i h. o.rule _ _)
-      ∙ ap (λ (b : Bool). run_values k N (given b x m) (words cell)) (sym is)
-
-  pub operator_one : {g : Float} → two ≡ false → g ≡ float_at (words cell) number_index → vs ≡ stored (op_number op x g) samples_from N (words cell)
-      → vs ≡ run_values k N (given two x m) (words cell)
+  -- with its second source, or with its number
+  pub operator_run : (m : Option (List Float)) → vs ≡ stored (op_by op x (float_at (words cell) number_index) m) samples_from N (words cell)
+      → vs ≡ run_values k N (given_by x m) (words cell)
   unfolding cell_of
-  operator_one is number e =
-      e
-      ∙ ap (λ (f : Float). stored (op_number op x f) samples_from N (words cell)) number
-      ∙ stored_mono k o.plain N (given false x m) (words cell) cell_long (op_number op x (float_at (words cell) number_index)) o.mono (λ i h. o.goes _) (λ i h. o.rule _ _)
-      ∙ ap (λ (b : Bool). run_values k N (given b x m) (words cell)) (sym is)
+  operator_run None e =
+      e ∙ stored_mono k o.plain N (alone x) (words cell) cell_long (op_number op x (float_at (words cell) number_index)) o.mono (λ i h. o.goes _) (λ i h. o.rule _ _)
+  operator_run (Some m) e =
+      e ∙ stored_mono k o.plain N (pair x m) (words cell) cell_long (op_sources op x m) o.mono (λ i h. o.goes _) (λ i h. o.rule _ _)

@@ -24,51 +24,51 @@ struct Climbed {
 
 // The phases from place `from` on, up to the first after which the phase turns back. To return there
 // makes the turn a branch, which is seldom taken: each phase waits for one sum only.
-fn climb(units: &mut [u32; 128], from: usize, size: usize, start: f32, by: f32) -> Climbed
-    requires { (from < size) × (size ≤ 128) × (length units.old ≡ 128) × T (within f1 start) × Stays by }
-    ensures from_lt_next { (from < result.next) × (result.next ≤ size) × (length units.new ≡ 128) × T (within f1 result.phase) }
+fn climb(units: &mut [u32], from: usize, start: f32, by: f32) -> Climbed
+    requires { (from < length units.old) × T (within f1 start) × Stays by }
+    ensures from_lt_next { (from < result.next) × (result.next ≤ length units.old) × T (within f1 result.phase) }
     ensures by_index { (p : ℕ → Float) → Moves by p → start ≡ p from → Units p from units.old
         → (result.phase ≡ p result.next) × Units p result.next units.new }
 {
-    let mut i = from;
     let mut phase = start;
-    while i < size {
+    for i in from..units.len() {
         units[i] = phase_units(phase);
-        i += 1;
         if phase + by > 1.0 {
             return Climbed {
-                next: i,
+                next: i + 1,
                 phase: advance(phase, by),
             };
         }
         phase = advance(phase, by);
     }
-    Climbed { next: i, phase }
+    Climbed {
+        next: units.len(),
+        phase,
+    }
 }
 
 // The phases of a block; the phase after the last is given.
-fn phases(units: &mut [u32; 128], size: usize, start: f32, by: f32) -> f32
-    requires { (size ≤ 128) × (length units.old ≡ 128) × T (within f1 start) × Stays by }
-    ensures { (p : ℕ → Float) → Moves by p → start ≡ p 0 → (result ≡ p size) × Units p size units.new }
+fn phases(units: &mut [u32], start: f32, by: f32) -> f32
+    requires { T (within f1 start) × Stays by }
+    ensures { (p : ℕ → Float) → Moves by p → start ≡ p 0 → (result ≡ p (length units.old)) × Units p (length units.old) units.new }
 {
     let mut i = 0;
     let mut phase = start;
-    while i < size {
-        let climbed = climb(units, i, size, phase, by);
+    // A turn is a climb, of as many samples as go before the phase turns back.
+    while i < units.len() {
+        let climbed = climb(units, i, phase, by);
         i = climbed.next;
         phase = climbed.phase;
     }
     phase
 }
 
-fn sines(cell: &mut [u8], size: usize, units: &[u32; 128])
-    requires { (size ≤ 128) × (4 * (samples_from + size) ≤ length cell.old) }
-    ensures { words cell.new ≡ stored (sine_at units.now) samples_from size (words cell.old) }
+fn sines(cell: &mut [u8], units: &[u32])
+    requires { 4 * (samples_from + length units.now) ≤ length cell.old }
+    ensures { words cell.new ≡ stored (sine_at units.now) samples_from (length units.now) (words cell.old) }
 {
-    let mut i = 0;
-    while i < size {
-        store(cell, SAMPLES + i, sine(units[i]));
-        i += 1;
+    for (i, phase) in units.iter().enumerate() {
+        store(cell, SAMPLES + i, sine(*phase));
     }
 }
 
@@ -78,8 +78,9 @@ pub fn sin_osc(cell: &mut [u8], size: usize)
     ensures { (f : Float) → words cell.new ≡ run_values (NodeKind.Sine f) size nothing (words cell.old) }
 {
     let by = increment(load(cell, NUMBER));
-    let mut units = [0u32; 128];
-    let last = phases(&mut units, size, load(cell, CARRY), by);
-    sines(cell, size, &units);
+    let mut room = [0u32; 128];
+    let units = &mut room[..size];
+    let last = phases(units, load(cell, CARRY), by);
+    sines(cell, units);
     store(cell, CARRY, last);
 }

@@ -1,46 +1,18 @@
 // Source times number, or first times second.
-ghost use Rattle.std.specs.Prelude.{◌≡◌, ◌+◌, ◌*◌, ◌≤◌, length, Float};
-ghost use Rattle.std.specs.Float.Ieee as ieee;
-ghost use Rattle.std.specs.Float.{binary32};
+ghost use Rattle.std.specs.Prelude.{◌≡◌, ◌+◌, ◌*◌, length, Float};
+ghost use Rattle.std.specs.Option.{ForSome, option_copied};
 ghost use Rattle.values.specs.Words.{words};
 ghost use Rattle.kinds.specs.Kind.{samples_from};
-ghost use Rattle.effects.specs.Block.{stored, op_number, op_sources, given};
+ghost use Rattle.effects.specs.Block.{given_by};
 ghost use Rattle.kinds.specs.Cell.{run_values};
 
-use kinds::cell::{NUMBER, SAMPLES};
+use crate::operator::apply_op;
 use kinds::kind::NodeKind;
-use values::float::{load, store};
 
-fn mul_number(cell: &mut [u8], number: f32, size: usize, x: &[f32; 128])
-    requires { (size ≤ 128) × (4 * (samples_from + size) ≤ length cell.old) }
-    ensures { words cell.new ≡ stored (op_number (ieee.mul binary32) x.now number) samples_from size (words cell.old) }
+pub fn mul(cell: &mut [u8], x: &[f32], m: Option<&[f32]>)
+    requires lent { length cell.old ≡ 4 * (samples_from + length x.now) }
+    requires alike { ForSome m (λ r. length r.now ≡ length x.now) }
+    ensures { (f : Float) → words cell.new ≡ run_values (NodeKind.Mul f) (length x.now) (given_by x.now (option_copied m.entry)) (words cell.old) }
 {
-    let mut i = 0;
-    while i < size {
-        store(cell, SAMPLES + i, x[i] * number);
-        i += 1;
-    }
-}
-
-fn mul_sources(cell: &mut [u8], size: usize, x: &[f32; 128], m: &[f32; 128])
-    requires { (size ≤ 128) × (4 * (samples_from + size) ≤ length cell.old) }
-    ensures { words cell.new ≡ stored (op_sources (ieee.mul binary32) x.now m.now) samples_from size (words cell.old) }
-{
-    let mut i = 0;
-    while i < size {
-        store(cell, SAMPLES + i, x[i] * m[i]);
-        i += 1;
-    }
-}
-
-pub fn mul(cell: &mut [u8], size: usize, two: bool, x: &[f32; 128], m: &[f32; 128])
-    requires { (size ≤ 128) × (length cell.old ≡ 4 * (samples_from + size)) }
-    ensures { (f : Float) → words cell.new ≡ run_values (NodeKind.Mul f) size (given two x.now m.now) (words cell.old) }
-{
-    if two {
-        mul_sources(cell, size, x, m);
-    } else {
-        let number = load(cell, NUMBER);
-        mul_number(cell, number, size, x);
-    }
+    apply_op(cell, x, m, |a, b| a * b);
 }

@@ -8,14 +8,14 @@ use Rattle.effects.specs.Block.{sample}
 use Rattle.effects.proofs.Filled.{filling_none, filling_then, filling_end, fill-ahead}
 use Rattle.allpass.proofs.apfmsgain.positions.Goals as goal
 
-pub loop-i-init : goal.loop-i-init
-loop-i-init c = filling_none
+pub loop-sample-init : goal.loop-sample-init
+loop-sample-init c = filling_none
 
-pub loop-i-preserved : goal.loop-i-preserved
-loop-i-preserved c =
-    let l = c.loop-i in
-    let ahead = ap (λ (y : List Float). sample y l.i) l.invariant.filled ∙ fill-ahead _ _ _ _ (omega arith) in
-    filling_then l.invariant c.loop-i-test.true (c.position.ensures ∙ ap (λ (v : Float). position_of v c.args.n) ahead)
+pub loop-sample-preserved : goal.loop-sample-preserved
+loop-sample-preserved c =
+    let l = c.loop-sample in
+    let ahead = ap (λ (y : List Float). sample y l.sample-index) l.invariant.filled ∙ fill-ahead _ _ _ _ (omega arith) in
+    filling_then l.invariant c.loop-sample-test.true (c.position.ensures ∙ ap (λ (v : Float). position_of v c.args.n) ahead)
 
 pub returns : goal.returns
-returns c = filling_end c.loop-i.invariant c.loop-i-test.false
+returns c = filling_end c.loop-sample.invariant c.loop-sample-test.false

@@ -1,10 +1,7 @@
-use Prim.Native.Nat.{◌-◌}
+use lib.ListN.{length}
 use Rattle.effects.specs.Block.{positioned}
 use Rattle.effects.proofs.Filled.{Filling}
 use Rattle.allpass.proofs.apfmsgain.positions.Given as goal
 
-abbrev pub invariant-loop-i : goal.invariant-loop-i
-invariant-loop-i l = Filling (positioned l.initial.m l.n) l.size l.initial.m l.i l.m
-
-abbrev pub decreases-loop-i : goal.decreases-loop-i
-decreases-loop-i l = l.size - l.i
+abbrev pub invariant-loop-sample : goal.invariant-loop-sample
+invariant-loop-sample l = Filling (positioned l.fn.m l.n) (length l.fn.m) l.fn.m l.sample-index l.m

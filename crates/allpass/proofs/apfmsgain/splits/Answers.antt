@@ -3,18 +3,15 @@ use Prim.Native.Nat.{◌^◌}
 use mathlib.Core.Path.{sym, subst}
 use native.Mathlib.Omega.{arith}
 use Rattle.values.specs.Floors.{Upto}
-use Rattle.allpass.proofs.Splits.{splitting_none, splitting_then, splitting_end}
+use Rattle.allpass.proofs.Splits.{splitting_none, splitting_then}
 use Rattle.allpass.proofs.apfmsgain.splits.Goals as goal
 
 pub loop-i-init : goal.loop-i-init
-loop-i-init c = splitting_none c.requires.1 c.requires.2
+loop-i-init c = splitting_none c.requires.0
 
 pub split-at-requires : goal.split-at-requires
 split-at-requires c =
-    subst (Upto (2 ^ 24)) (sym (c.loop-i.invariant.ahead c.loop-i.i (omega arith))) (c.requires.3 c.loop-i.i c.loop-i-test.true)
+    subst (Upto (2 ^ 24)) (sym (c.loop-i.invariant.ahead c.loop-i.i (omega arith))) (c.requires.1 c.loop-i.i c.loop-i-test.true)
 
 pub loop-i-preserved : goal.loop-i-preserved
-loop-i-preserved c = splitting_then c.loop-i.invariant c.requires.0 c.loop-i-test.true c.split-at.ensures
-
-pub returns : goal.returns
-returns c = splitting_end c.loop-i.invariant c.loop-i-test.false
+loop-i-preserved c = splitting_then c.loop-i.invariant c.loop-i-test.true c.split-at.ensures

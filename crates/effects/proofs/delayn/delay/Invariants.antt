@@ -1,11 +1,12 @@
 use Prim.Native.Nat.{◌-◌}
+use lib.ListN.{length}
 use Rattle.effects.specs.Block.{alone}
 use Rattle.kinds.specs.declared.kind.NodeKind.TheVariants.{Delay}
 use Rattle.effects.proofs.Rings.{Going}
 use Rattle.effects.proofs.delayn.delay.Given as goal
 
 abbrev pub invariant-loop-done : goal.invariant-loop-done
-invariant-loop-done l = Going (λ f. Delay l.n) l.n l.size (alone l.x) l.initial.cell l.done l.place l.cell
+invariant-loop-done l = Going (λ f. Delay l.n) l.n (length l.x) (alone l.x) l.initial.cell l.done l.place l.cell
 
 abbrev pub decreases-loop-done : goal.decreases-loop-done
-decreases-loop-done l = l.size - l.done
+decreases-loop-done l = length l.x - l.done

@@ -42,7 +42,7 @@ loop-i-preserved c =
       omega arith,
       omega arith,
       λ n e.
-          turn n a.size a.place a.done c.loop-i.i a.x.now (words a.cell.now) _ _ _ _ _ (c.loop-i.invariant.2 n e) c.word_at-old.ensures
+          turn n (length a.x.now) a.place a.done c.loop-i.i a.x.now (words a.cell.now) _ _ _ _ _ (c.loop-i.invariant.2 n e) c.word_at-old.ensures
           c.store.ensures c.canonical.ensures c.put_word.ensures
           (omega (arith, length-words a.cell.now, e)) (omega arith) (omega arith),
     )
@@ -52,4 +52,4 @@ returns c n e =
     let l = c.loop-i in
     let s = c.args in
     let done : l.i ≡ s.count = omega arith in
-    l.invariant.2 n e ∙ ap (λ (j : ℕ). stretch_values (Delay n) s.size (alone s.x.now) s.place s.done j (words s.cell.now)) done
+    l.invariant.2 n e ∙ ap (λ (j : ℕ). stretch_values (Delay n) (length s.x.now) (alone s.x.now) s.place s.done j (words s.cell.now)) done

@@ -1,8 +1,8 @@
 -- `nodes::node::bring` meets its contract: in each arm the kind is known, and its blocks are sums or the operands. Assumes nothing.
-use mathlib.Core.Path.{◌≡◌, refl, ap, ◌∙◌}
+use mathlib.Core.Path.{◌≡◌, refl, sym, ap, subst, ◌∙◌}
 use mathlib.Core.Logic.{inl, inr}
 use mathlib.Core.List.{List, [], ◌∷◌}
-use Prim.Native.Nat.{ℕ, ◌≤◌, ◌<◌}
+use Prim.Native.Nat.{ℕ, ◌<◌}
 use native.Mathlib.Omega.{arith}
 use lib.Dec.{ltb}
 use lib.ListN.{length, get_or}
@@ -11,11 +11,10 @@ use Rattle.values.specs.Words.{words}
 use Rattle.kinds.specs.Rule.{Brought, total}
 use Rattle.effects.specs.Block.{sample, fill, fetched_if}
 use Rattle.kinds.specs.Node.{samples_at, brought_at}
-use Rattle.operators.specs.Sums.{total_at}
-use Rattle.nodes.specs.Ready.{Gives, Operands, Supplies}
+use Rattle.operators.specs.Sums.{total_at, InMemory}
+use Rattle.nodes.specs.Ready.{Gives, Operands}
 use Rattle.kinds.specs.declared.kind.NodeKind.{NodeKind}
 use Rattle.kinds.specs.declared.kind.NodeKind.TheVariants.{Pass, Sum, Destination, Balance, Mul, Add, Delay, AllPass, OnePole, Sine}
-use Rattle.effects.proofs.Filled.{length-fill, fetch_long}
 use Rattle.nodes.proofs.Brought.{total_brought, operands_brought, supplies}
 use Rattle.kinds.proofs.Arms.{Among, arm}
 use Rattle.nodes.proofs.node.bring.Goals as goal
@@ -36,55 +35,60 @@ others (AllPass n f) a b = inr (inr (inr (inr (inr (inl refl)))))
 others (OnePole f) a b = inr (inr (inr (inr (inr (inr (inl refl))))))
 others (Sine f) a b = inr (inr (inr (inr (inr (inr (inr refl))))))
 
-module _ (ws : List ℕ) (lefts rights list : List ℕ) (second size : ℕ) (few : size ≤ 128) where
+module _ (ws lefts rights list : List ℕ) (second size : ℕ) where
   abbrev brings : ℕ → Brought
   brings = brought_at ws lefts rights list second
 
   -- a sum of the blocks at `starts`, in place of x
-  module _ (starts : List ℕ) (x : List Float) (long : length x ≡ 128) {y : List Float} (e : y ≡ fill (total_at ws starts list) size x) where
+  module _ (starts : List ℕ) (x : List Float) (long : length x ≡ size) {y : List Float} (e : y ≡ fill (total_at ws starts list) (length x) x) where
     summed : (i : ℕ) → i < size → total (samples_at ws starts list i) ≡ sample y i
-    summed = total_brought ws starts list size x y (omega arith) e
+    summed = total_brought ws starts list size x y (omega arith) (e ∙ ap (λ (n : ℕ). fill (total_at ws starts list) n x) long)
 
-  -- the operands
-  module _ (x m : List Float) (long : length x ≡ 128) (room : length m ≡ 128) {y z : List Float}
+  -- the operands, to every type but the sum and the destination
+  module _ (x m : List Float) (long : length x ≡ size) (room : length m ≡ size) {y z : List Float}
       (p : y ≡ fetched_if (ltb 0 (length list)) ws (get_or lefts (get_or list 0 0) 0) size x)
       (q : z ≡ fetched_if (ltb 1 (length list)) ws (get_or lefts second 0) size m) where
-    brought : (i : ℕ) → i < size → Operands (length list) (brings i) (sample y i) (sample z i)
-    brought = operands_brought ws lefts rights list second size x m y z (omega arith) (omega arith) p q
-
-    -- to every type but the sum and the destination
     given : (k : NodeKind) → Others k → (i : ℕ) → i < size → Gives k (length list) (brings i) (sample y i) (sample z i)
     given k o =
-        let f = brought in
+        let f : (i : ℕ) → i < size → Operands (length list) (brings i) (sample y i) (sample z i) =
+        operands_brought ws lefts rights list second size x m y z (omega arith) (omega arith) p q in
         arm (λ j. (i : ℕ) → i < size → Gives j (length list) (brings i) (sample y i) (sample z i)) (0 ∷ 3 ∷ 4 ∷ 5 ∷ 6 ∷ 7 ∷ 8 ∷ 9 ∷ []) k o
         (f, (f, (λ _. f, (λ _. f, (λ _. f, (λ _ _. f, (λ _. f, λ _. f)))))))
 
-pub returns-in-Sum-clause-blocks : goal.returns-in-Sum-clause-blocks
-returns-in-Sum-clause-blocks c =
+pub returns-in-Sum : goal.returns-in-Sum
+returns-in-Sum c =
     let a = c.args in
-    let s = c.requires.size_bound in
-    supplies (words a.memory.now) a.lefts.now a.rights.now a.list.now a.second a.size c.in-Sum.is
-    (λ i h. (summed (words a.memory.now) a.lefts.now a.rights.now a.list.now a.second a.size s.0 a.lefts.now a.x.now s.3 c.total.ensures i h, λ two. absurd (omega arith)))
-
-pub returns-in-Destination-clause-blocks : goal.returns-in-Destination-clause-blocks
-returns-in-Destination-clause-blocks c =
-    let a = c.args in
-    let s = c.requires.size_bound in
-    let ws = words a.memory.now in
-    supplies ws a.lefts.now a.rights.now a.list.now a.second a.size c.in-Destination.is
+    let l = a.sources.list.now in
+    supplies (words a.memory.now) a.starts.now.lefts a.starts.now.rights l a.sources.second _ c.in-Sum.is
     (λ i h. (
-      summed ws a.lefts.now a.rights.now a.list.now a.second a.size s.0 a.lefts.now a.x.now s.3 c.total-in-Destination.ensures i h,
-      λ two. summed ws a.lefts.now a.rights.now a.list.now a.second a.size s.0 a.rights.now a.m.now s.4 c.total-in-Destination-2.ensures i h,
+      summed (words a.memory.now) a.starts.now.lefts a.starts.now.rights l a.sources.second _ a.starts.now.lefts a.x.now refl c.total.ensures i h,
+      λ two. absurd (omega arith),
+    ))
+
+pub returns-in-Destination : goal.returns-in-Destination
+returns-in-Destination c =
+    let a = c.args in
+    let ws = words a.memory.now in
+    let l = a.sources.list.now in
+    let s = a.starts.now in
+    supplies ws s.lefts s.rights l a.sources.second _ c.in-Destination.is
+    (λ i h. (
+      summed ws s.lefts s.rights l a.sources.second _ s.lefts a.x.now refl c.total-in-Destination.ensures i h,
+      λ two. summed ws s.lefts s.rights l a.sources.second _ s.rights a.m.now c.requires.alike c.total-in-Destination-2.ensures i h,
     ))
 
 pub returns-in_default : goal.returns-in_default
 returns-in_default c =
     let a = c.args in
-    let s = c.requires.size_bound in
+    let ws = words a.memory.now in
+    let l = a.sources.list.now in
+    let s = a.starts.now in
     let p = c.operands.ensures in
-    record {
-      blocks = supplies (words a.memory.now) a.lefts.now a.rights.now a.list.now a.second a.size refl
-          (given (words a.memory.now) a.lefts.now a.rights.now a.list.now a.second a.size s.0 a.x.now a.m.now s.3 s.4 p.first p.second
-          a.kind (others a.kind c.in_default.not-Sum c.in_default.not-Destination));
-      room = (fetch_long _ _ _ _ _ _ p.first ∙ s.3, fetch_long _ _ _ _ _ _ p.second ∙ s.4);
-    }
+    supplies ws s.lefts s.rights l a.sources.second _ refl
+    (given ws s.lefts s.rights l a.sources.second _ a.x.now a.m.now refl c.requires.alike p.first p.second
+    a.kind (others a.kind c.in_default.not-Sum c.in_default.not-Destination))
+
+pub total-requires-in-Destination-2 : goal.total-requires-in-Destination-2
+total-requires-in-Destination-2 c =
+    let a = c.args in
+    subst (λ (n : ℕ). InMemory a.sources.list.now a.starts.now.rights n (length a.memory.now)) (sym c.requires.alike) c.requires.in_memory.1

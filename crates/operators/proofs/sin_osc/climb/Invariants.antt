@@ -1,9 +1,5 @@
-use Prim.Native.Nat.{◌-◌}
 use Rattle.operators.proofs.Phases.{Climbing}
 use Rattle.operators.proofs.sin_osc.climb.Given as goal
 
 abbrev pub invariant-loop-i : goal.invariant-loop-i
-invariant-loop-i l = Climbing l.by l.from l.size l.start l.initial.units l.i l.units l.phase
-
-abbrev pub decreases-loop-i : goal.decreases-loop-i
-decreases-loop-i l = l.size - l.i
+invariant-loop-i l = Climbing l.by l.from l.start l.initial.units l.i l.units l.phase

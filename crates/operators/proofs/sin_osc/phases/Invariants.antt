@@ -1,9 +1,10 @@
 use Prim.Native.Nat.{◌-◌}
+use lib.ListN.{length}
 use Rattle.operators.proofs.Phases.{Climbing}
 use Rattle.operators.proofs.sin_osc.phases.Given as goal
 
 abbrev pub invariant-loop-i : goal.invariant-loop-i
-invariant-loop-i l = Climbing l.by 0 l.size l.start l.initial.units l.i l.units l.phase
+invariant-loop-i l = Climbing l.by 0 l.start l.initial.units l.i l.units l.phase
 
 abbrev pub decreases-loop-i : goal.decreases-loop-i
-decreases-loop-i l = l.size - l.i
+decreases-loop-i l = length l.units - l.i

@@ -5,7 +5,8 @@ use Prim.Native.Nat.{ℕ, zero, suc, ◌+◌, ◌≤◌}
 use native.Mathlib.Numerals.{add-one}
 use native.Mathlib.Omega.{arith}
 use lib.Dec.{T}
-use lib.ListN.{length, length-replicate}
+use lib.ListN.{length, drop, replicate, length-replicate}
+use lib.Seq.{length-take-le}
 use lib.Ieee.{Float}
 use Rattle.values.specs.Words.{words, length-words}
 use Rattle.values.specs.Floats.{float_at, set_float}
@@ -59,8 +60,6 @@ module _ (g by : Float) (eb : by ≡ increment g) where
 
 pub phases-last-requires : goal.phases-last-requires
 phases-last-requires c = (
-  c.requires.size_nonzero.1,
-  length-replicate {A = ℕ} 128 0,
   subst (λ (x : Float). T (within f1 x)) (sym c.load-2.ensures) c.requires.in_band.1,
   stays c.load.result c.increment-by.result c.increment-by.ensures (subst (λ (x : Float). T (within f44100 x)) (sym c.load.ensures) c.requires.in_band.0),
 )
@@ -71,10 +70,14 @@ returns c f =
     let cell = c.args.cell.now in
     let by = c.increment-by.result in
     let v = c.load-2.result in
-    let all = c.phases-last.ensures (phase_at by v) (λ i. refl) refl in
+    let us = c.phases-last.new.units in
+    let whole : length us ≡ size = c.phases-last.auto.units ∙ length-take-le size (drop 0 (replicate 128 0)) (omega (arith, length-replicate {A = ℕ} 128 0, c.requires.size_nonzero.1)) in
+    let all =
+    subst (λ (n : ℕ). (c.phases-last.result ≡ phase_at by v n) × Units (phase_at by v) n us) (sym c.phases-last.auto.units ∙ whole)
+    (c.phases-last.ensures (phase_at by v) (λ i. refl) refl) in
     let runs_all = runs c.load.result by c.increment-by.ensures size (words cell) (λ f. omega (arith, length-words cell))
-    c.load.ensures v c.load-2.ensures c.phases-last.new.units all.1 f size (omega arith) in
+    c.load.ensures v c.load-2.ensures us all.1 f size (omega arith) in
     c.store.ensures
     ∙ ap (λ (x : Float). set_float (words c.sines.new.cell) carry_index x) all.0
-    ∙ ap (λ (l : List ℕ). set_float l carry_index (phase_at by v size)) c.sines.ensures
+    ∙ ap (λ (l : List ℕ). set_float l carry_index (phase_at by v size)) (c.sines.ensures ∙ ap (λ (n : ℕ). stored (sine_at us) samples_from n (words cell)) whole)
     ∙ carrying_end (Sine f) size nothing (words cell) size _ _ refl c.requires.size_nonzero.0 runs_all

@@ -1,13 +1,11 @@
--- `operators::operator::add::add` meets its contract: each arm is an operator's run. Assumes nothing.
-use Rattle.operators.proofs.Plain.{add_operator, operator_two, operator_one}
+-- `operators::operator::add::add` meets its contract. Assumes nothing.
+use Rattle.std.specs.Option.{option_copied}
+use Rattle.std.proofs.Common.{rules}
+use lib.Ieee.{binary32, add}
+use Rattle.operators.proofs.Plain.{add_operator, operator_run}
 use Rattle.operators.proofs.operator.add.add.Goals as goal
 
-pub returns-then-two : goal.returns-then-two
-returns-then-two c f =
+pub returns : goal.returns
+returns c f =
     let a = c.args in
-    operator_two (add_operator f) a.size a.two a.x.now a.m.now a.cell.now _ c.requires.1 c.if-two.true c.add_sources.ensures
-
-pub returns-else-two : goal.returns-else-two
-returns-else-two c f =
-    let a = c.args in
-    operator_one (add_operator f) a.size a.two a.x.now a.m.now a.cell.now _ c.requires.1 c.if-two.false c.load-number.ensures c.add_number.ensures
+    operator_run (add_operator f) _ a.x.now a.cell.now _ c.requires.lent (option_copied a.m) (c.apply_op.ensures (add binary32) (λ a b r p. search rules))

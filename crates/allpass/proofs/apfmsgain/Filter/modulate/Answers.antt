@@ -1,4 +1,4 @@
--- `allpass::apfmsgain::modulate` meets its contract: the neighbours that it reads are those of the rule. Assumes nothing.
+-- `allpass::apfmsgain::Filter::modulate` meets its contract: the neighbours that it reads are those of the rule. Assumes nothing.
 use mathlib.Core.Path.{◌≡◌, refl, sym, ap, ◌∙◌}
 use mathlib.Core.List.{List}
 use Prim.Native.Nat.{ℕ, ◌+◌, ◌%◌, ◌<◌}
@@ -14,7 +14,7 @@ use Rattle.effects.specs.Block.{sample, Split, pair}
 use Rattle.effects.specs.Ring.{wrap_of, stretch_values}
 use Rattle.kinds.specs.declared.kind.NodeKind.TheVariants.{AllPass}
 use Rattle.effects.proofs.Rings.{wrap_below, all_pass-ring, stretch_none, float_at_lem, tap-two, all_pass_reads, all_pass_then}
-use Rattle.allpass.proofs.apfmsgain.modulate.Goals as goal
+use Rattle.allpass.proofs.apfmsgain.Filter.modulate.Goals as goal
 
 -- the sample: what it reads, its output and its three stores
 sample_by_lem : (n size place i : ℕ) (f : Float) (x m : List Float) (ws us ts rs : List ℕ) (g a b o rest : Float) (index older newer y : ℕ)
@@ -52,19 +52,19 @@ sample_by_lem n size place i f x m ws us ts rs g a b o rest index older newer y 
 pub between-old_x-requires : goal.between-old_x-requires
 between-old_x-requires c =
     let a = c.args in
-    let newer = wrap_below a.n (c.wrapped-older.result + 1) (omega arith) in
+    let newer = wrap_below a.self.n (c.wrapped-older.result + 1) (omega arith) in
     (omega arith, omega (arith, c.wrap-newer.ensures, newer))
 
 pub between-old_y-requires : goal.between-old_y-requires
 between-old_y-requires c =
     let a = c.args in
-    let newer = wrap_below a.n (c.wrapped-older.result + 1) (omega arith) in
+    let newer = wrap_below a.self.n (c.wrapped-older.result + 1) (omega arith) in
     (omega arith, omega (arith, c.wrap-newer.ensures, newer))
 
 pub returns : goal.returns
 returns c f m e =
     let a = c.args in
-    sample_by_lem a.n a.size a.place a.i f a.x.now m (words a.cell.now) _ _ _ _ _ _ _ _ _ _ _ _ e
+    sample_by_lem a.self.n (length a.x.now) a.place a.i f a.x.now m (words a.cell.now) _ _ _ _ _ _ _ _ _ _ _ _ e
     c.wrapped-older.ensures c.wrap-newer.ensures c.between-old_x.ensures c.between-old_y.ensures
     c.output.ensures c.to_bits-y.ensures c.store.ensures c.put_word.ensures c.put_word-2.ensures
-    c.requires.5 (omega (arith, length-words a.cell.now, c)) (omega (arith, c)) (omega (arith, c))
+    c.requires.0.gain (omega (arith, length-words a.cell.now, c)) (omega (arith, c)) (omega (arith, c))

@@ -1,4 +1,4 @@
--- `allpass::apfmsgain::filter` meets its contract: after i turns the values are those after i samples. Assumes nothing.
+-- `allpass::apfmsgain::Filter::filter` meets its contract: after i turns the values are those after i samples. Assumes nothing.
 use mathlib.Core.Path.{◌≡◌, refl, sym, ap, ◌∙◌}
 use mathlib.Core.List.{List}
 use Prim.Native.Nat.{ℕ, ◌+◌, ◌<◌}
@@ -13,7 +13,7 @@ use Rattle.effects.specs.Block.{sample, alone}
 use Rattle.effects.specs.Ring.{stretch_values}
 use Rattle.kinds.specs.declared.kind.NodeKind.TheVariants.{AllPass}
 use Rattle.effects.proofs.Rings.{all_pass-ring, stretch_none, float_at_lem, tap_one, all_pass_reads, all_pass_then}
-use Rattle.allpass.proofs.apfmsgain.filter.Goals as goal
+use Rattle.allpass.proofs.apfmsgain.Filter.filter.Goals as goal
 
 -- a turn: what it reads, its output and its three stores
 turn : (n size place done i : ℕ) (f : Float) (x : List Float) (ws vs us ts rs : List ℕ) (g a b o : Float) (y : ℕ)
@@ -47,10 +47,10 @@ loop-i-preserved c =
       omega (arith, c),
       omega (arith, c),
       λ f.
-          turn a.n a.size a.place a.done c.loop-i.i f a.x.now (words a.cell.now) _ _ _ _ _ _ _ _ _ (c.loop-i.invariant.2 f)
-          c.load.ensures c.load-in-loop-i.ensures c.output.ensures c.to_bits-y.ensures
+          turn a.self.n (length a.x.now) a.place a.done c.loop-i.i f a.x.now (words a.cell.now) _ _ _ _ _ _ _ _ _ (c.loop-i.invariant.2 f)
+          c.load-old_x.ensures c.load-old_y.ensures c.output.ensures c.to_bits-y.ensures
           c.store.ensures c.put_word.ensures c.put_word-in-loop-i.ensures
-          c.requires.5 (omega (arith, length-words a.cell.now, c)) (omega (arith, c)) (omega (arith, c)),
+          c.requires.0.gain (omega (arith, length-words a.cell.now, c)) (omega (arith, c)) (omega (arith, c)),
     )
 
 pub returns : goal.returns
@@ -58,4 +58,4 @@ returns c f =
     let l = c.loop-i in
     let a = c.args in
     let done : l.i ≡ a.count = omega arith in
-    l.invariant.2 f ∙ ap (λ (j : ℕ). stretch_values (AllPass a.n f) a.size (alone a.x.now) a.place a.done j (words a.cell.now)) done
+    l.invariant.2 f ∙ ap (λ (j : ℕ). stretch_values (AllPass a.self.n f) (length a.x.now) (alone a.x.now) a.place a.done j (words a.cell.now)) done
