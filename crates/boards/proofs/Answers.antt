@@ -1,20 +1,24 @@
 -- A reading or the refusal that an answer gives. Assumes nothing.
+use Rattle.std.specs.Prelude.{Result, Ok, Err, IsErrAnd}
 use Prim.Native.Nat.{ℕ, ◌<◌}
-use mathlib.Core.Path.{◌≡◌}
-use native.Mathlib.Omega.{arith}
+use mathlib.Core.Path.{◌≡◌, ap, subst}
 use borrow.Author.Tests.{ne_eqb}
 use Rattle.records.specs.Answer.{answer}
-use Rattle.boards.specs.Board.{Progress, refused}
-use Rattle.boards.specs.BoardParts.{or_refused}
+use Rattle.boards.specs.Board.{Parsed, Progress, refused}
+use Rattle.boards.specs.BoardParts.{or_refused, Refuses, Decides}
 use Rattle.records.specs.declared.answer.Answer.{Answer}
 
-pub accepted_as : {a : Answer} {w : ℕ} (r : Progress) → a ≡ answer 0 w → r ≡ or_refused a r
-accepted_as r e = rw e
+pub refused_by : {a : Answer} {n w : ℕ} {v : Progress} → a ≡ answer n w → 0 < n → v ≡ refused n w → Refuses v a
+refused_by e h q = rw e (h, q)
 
-pub refused_as : {a : Answer} {n w : ℕ} (r : Progress) → a ≡ answer n w → 0 < n → refused n w ≡ or_refused a r
-refused_as {a} {n} {w} r e h =
-    let some : n ≡ 0 → ⊥ = λ z. omega arith in
-    rw (e, ne_eqb n 0 some)
+-- what `?` hands out of an `Err`
+pub residual_is : {A : Type 0} (r : Result A Answer) (a : Answer) → IsErrAnd r (λ e. e ≡ a) → r ≡ Err a
+residual_is (Ok x) a h = absurd h
+residual_is (Err e) a h = ap Err h
+
+-- the same reading, written another way
+pub decides_as : {v w : Progress} (p : Parsed) (r : Result (Unit {0}) Answer) → v ≡ w → Decides v p r → Decides w p r
+decides_as p r e h = subst (λ (x : Progress). Decides x p r) e h
 
 pub or-accepts : (a : Answer) (r : Progress) → a.number ≡ 0 → or_refused a r ≡ r
 or-accepts a r e = rw e

@@ -1,5 +1,6 @@
 -- The reading ends: as many steps as there are bytes, and one more, never leave it going. Every refusal has a number above 0, so that the
 -- number 0 is given to accepted boards alone. Assumes nothing.
+use Rattle.std.specs.Prelude.{Option, Some, None, Result, Ok, Err}
 use Prim.Native.Nat.{ℕ, zero, suc, ◌+◌, ◌≤◌, ◌<◌}
 use mathlib.Core.Path.{sym, subst}
 use mathlib.Core.List.{List, [], ◌∷◌}
@@ -8,9 +9,8 @@ use lib.Dec.{eqb}
 use lib.ListN.{length}
 use Rattle.values.specs.Bytes.{u16_at, u32_at}
 use Rattle.kinds.specs.Kind.{rule_of, sources_fit}
+use Rattle.kinds.specs.declared.kind.NodeKind.{NodeKind}
 use Rattle.kinds.specs.declared.kind.NodeRecord.{NodeRecord}
-use Rattle.kinds.specs.declared.kind.Fields.{Fields}
-use Rattle.kinds.specs.declared.kind.Fields.TheVariants as fields
 use Rattle.records.specs.Record.{found_at}
 use Rattle.sources.specs.Sources.{distinct_sources}
 use Rattle.boards.specs.Board.{Parsed, Progress, going, refused, whole, headed, lines_of, size_fits, node_fits, wire_fits, node_by, take_found, step_of, run, read_records}
@@ -33,18 +33,18 @@ module _ (s : List ℕ) where
   Moves at (refused n w) = 0 < n
   Moves at (whole p) = Unit {0}
 
-  node_moves : (at : ℕ) (p : Parsed) (r : Fields) → at + 14 ≤ length s → Moves at (node_by at p r)
-  node_moves at p fields.Broken h = omega arith
-  node_moves at p (fields.Is k) h = pick (Moves at) (node_fits (length p.nodes) (lines_of p.nodes) k) _ _ (λ _. (omega arith, h)) (λ _. omega arith)
+  node_moves : (at : ℕ) (p : Parsed) (r : Option NodeKind) → at + 14 ≤ length s → Moves at (node_by at p r)
+  node_moves at p None h = omega arith
+  node_moves at p (Some k) h = pick (Moves at) (node_fits (length p.nodes) (lines_of p.nodes) k) _ _ (λ _. (omega arith, h)) (λ _. omega arith)
 
-  found_moves : (at last : ℕ) (p : Parsed) (f : Found) → Room (length s) at last f → Moves at (take_found s at p f)
+  found_moves : (at last : ℕ) (p : Parsed) (f : Result Found ℕ) → Room (length s) at last f → Moves at (take_found s at p f)
   unfolding take_found
-  found_moves at last p found.Head room = pick (Moves at) (size_fits (u16_at s (at + 4))) _ _ (λ _. (omega arith, room.0)) (λ _. omega arith)
-  found_moves at last p found.Node room = node_moves at p (rule_of (u16_at s (at + 4)) (u32_at s (at + 6)) (u32_at s (at + 10))) room.0
-  found_moves at last p found.Wire room =
+  found_moves at last p (Ok found.Head) room = pick (Moves at) (size_fits (u16_at s (at + 4))) _ _ (λ _. (omega arith, room.0)) (λ _. omega arith)
+  found_moves at last p (Ok found.Node) room = node_moves at p (rule_of (u16_at s (at + 4)) (u32_at s (at + 6)) (u32_at s (at + 10))) room.0
+  found_moves at last p (Ok found.Wire) room =
       pick (Moves at) (wire_fits (length p.nodes) (length p.wires) (u16_at s (at + 4)) (u16_at s (at + 6))) _ _ (λ _. (omega arith, room.0)) (λ _. omega arith)
-  found_moves at last p found.End room = pick (Moves at) (eqb (at + 4) (length s)) _ _ (λ _. tt) (λ _. omega arith)
-  found_moves at last p (found.Refused n) room = room
+  found_moves at last p (Ok found.End) room = pick (Moves at) (eqb (at + 4) (length s)) _ _ (λ _. tt) (λ _. omega arith)
+  found_moves at last p (Err n) room = room
 
   -- what a step leads to ends, if every reading at a later offset does
   moved_ends : (n at : ℕ) → ((next last : ℕ) (p : Parsed) → at < next → next ≤ length s → Ended (run n s (going next last p)))

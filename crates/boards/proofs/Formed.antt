@@ -1,4 +1,5 @@
 -- Every accepted board is well formed: each record keeps the board so, and check 6 says the rest. Assumes nothing.
+use Rattle.std.specs.Prelude.{Option, Some, None, Result, Ok, Err}
 use Prim.Native.Nat.{ℕ, zero, suc, ◌+◌, ◌≤◌, ◌<◌}
 use mathlib.Core.Path.{◌≡◌, refl, subst}
 use mathlib.Core.List.{List, [], ◌∷◌, ◌++◌}
@@ -10,9 +11,8 @@ use lib.Dec.{eqb}
 use lib.ListN.{length, get_or, length-append}
 use Rattle.values.specs.Bytes.{u16_at, u32_at}
 use Rattle.kinds.specs.Kind.{rule_of, sources_fit}
+use Rattle.kinds.specs.declared.kind.NodeKind.{NodeKind}
 use Rattle.kinds.specs.declared.kind.NodeRecord.{NodeRecord}
-use Rattle.kinds.specs.declared.kind.Fields.{Fields}
-use Rattle.kinds.specs.declared.kind.Fields.TheVariants as fields
 use Rattle.reading.specs.Order.{Wire, Each, wire}
 use Rattle.records.specs.Record.{found_at}
 use Rattle.sources.specs.Sources.{distinct_sources}
@@ -53,9 +53,9 @@ Good (refused n w) = Unit {0}
 Good (whole p) = Records p
 
 module _ (at : ℕ) (p : Parsed) (h : Records p) where
-  node_good : (r : Fields) → Good (node_by at p r)
-  node_good fields.Broken = tt
-  node_good (fields.Is k) =
+  node_good : (r : Option NodeKind) → Good (node_by at p r)
+  node_good None = tt
+  node_good (Some k) =
       let i = length p.nodes in
       let lines = lines_of p.nodes in
       pick Good (node_fits i lines k) _ _
@@ -76,13 +76,13 @@ module _ (at : ℕ) (p : Parsed) (h : Records p) where
 -- ---- the reading
 
 module _ (s : List ℕ) where
-  found_good : (at : ℕ) (p : Parsed) (f : Found) → Records p → Good (take_found s at p f)
+  found_good : (at : ℕ) (p : Parsed) (f : Result Found ℕ) → Records p → Good (take_found s at p f)
   unfolding take_found
-  found_good at p found.Head h = pick Good (size_fits (u16_at s (at + 4))) _ _ (λ _. headed_formed (u16_at s (at + 4)) (u16_at s (at + 6))) (λ _. tt)
-  found_good at p found.Node h = node_good at p h (rule_of (u16_at s (at + 4)) (u32_at s (at + 6)) (u32_at s (at + 10)))
-  found_good at p found.Wire h = wire_good at p h (u16_at s (at + 4)) (u16_at s (at + 6))
-  found_good at p found.End h = pick Good (eqb (at + 4) (length s)) _ _ (λ _. h) (λ _. tt)
-  found_good at p (found.Refused n) h = tt
+  found_good at p (Ok found.Head) h = pick Good (size_fits (u16_at s (at + 4))) _ _ (λ _. headed_formed (u16_at s (at + 4)) (u16_at s (at + 6))) (λ _. tt)
+  found_good at p (Ok found.Node) h = node_good at p h (rule_of (u16_at s (at + 4)) (u32_at s (at + 6)) (u32_at s (at + 10)))
+  found_good at p (Ok found.Wire) h = wire_good at p h (u16_at s (at + 4)) (u16_at s (at + 6))
+  found_good at p (Ok found.End) h = pick Good (eqb (at + 4) (length s)) _ _ (λ _. h) (λ _. tt)
+  found_good at p (Err n) h = tt
 
   step_good : (r : Progress) → Good r → Good (step_of s r)
   unfolding step_of

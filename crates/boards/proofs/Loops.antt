@@ -1,4 +1,5 @@
 -- The loops over the nodes and over the wires: what holds after so many records, one record more, and the part's end. Assumes nothing.
+use Rattle.std.specs.Prelude.{Option, Some, None, Result, Ok, Err}
 use Prim.Native.Nat.{ℕ, suc, ◌+◌, ◌*◌, ◌≤◌, ◌<◌}
 use mathlib.Core.Path.{◌≡◌, refl, sym, ap, subst, ◌∙◌}
 use mathlib.Core.List.{List, [], ◌∷◌, ◌++◌}
@@ -6,29 +7,24 @@ use native.Mathlib.Decide.{ℕ_discrete}
 use native.Mathlib.Numerals.{add-one}
 use native.Mathlib.Omega.{arith}
 use lib.ListN.{length, get_or, take, set, length-set}
-use lib.Seq.{length-take-le, take-suc-set, get_or-set_same, get_or-set_other}
+use lib.Seq.{length-take-le, get_or-set_same, get_or-set_other}
+use Rattle.std.proofs.lemmas.List.{take_more_set}
 use Rattle.values.specs.Bytes.{u16_at}
 use Rattle.kinds.specs.Kind.{line_of, channels_of, fewest, most}
 use Rattle.kinds.specs.declared.kind.NodeKind.{NodeKind}
 use Rattle.kinds.specs.declared.kind.NodeRecord.{NodeRecord}
 use Rattle.reading.specs.Order.{Wire}
-use Rattle.records.specs.Answer.{answer}
 use Rattle.records.specs.Record.{found_at}
-use Rattle.boards.specs.Board.{Parsed, going, blank, headed, lines_of, cells_of, step_of, run}
-use Rattle.boards.specs.Wires.{Within, wires_of}
-use Rattle.boards.specs.BoardParts.{noded, wired, node_read, Bounds, NodesRead, WiresRead}
+use Rattle.boards.specs.Board.{Parsed, going, refused, blank, headed, lines_of, cells_of, end_by, step_of, run}
+use Rattle.boards.specs.Wires.{Joined, wires_of}
+use Rattle.boards.specs.BoardParts.{noded, wired, node_read, Bounds, Noded, NodesRefused, Wired}
 use Rattle.records.specs.declared.answer.Answer.{Answer}
-use Rattle.boards.specs.declared.board.NodeRead.{NodeRead}
-use Rattle.boards.specs.declared.board.NodeRead.TheVariants as node
+use Rattle.boards.specs.declared.board.Wires.{Wires}
 use Rattle.kinds.proofs.Rows.{digits}
 use Rattle.boards.proofs.Sums.{lines_snoc, cells_snoc, samples_few}
 use Rattle.boards.proofs.Run.{run_next}
-use Rattle.boards.proofs.Wiring.{wires_length, wires_stored, within_more}
+use Rattle.boards.proofs.Wiring.{wires_length, wires_stored, joined_more}
 use Rattle.boards.proofs.Parts.{NodeStep, node_step, WireHere, WireEnds}
-
--- one element more in an array that is filled from the front
-filled : {A : Type 0} (l : List A) (i : ℕ) (a : A) → i < length l → take (i + 1) (set l i a) ≡ take i l ++ (a ∷ [])
-filled l i a h = rw add-one (take-suc-set l i a h)
 
 -- ---- the nodes
 
@@ -67,14 +63,14 @@ module _ (s : List ℕ) (N : ℕ) (nodes : List NodeRecord) (bounds : List ℕ) 
   counted = length-take-le count nodes (omega (arith, h.long, h.few))
 
   -- what the record at `next` says
-  pub node_here : {x r : NodeRead} → x ≡ node_read s next count lines (found_at s next 2) → x ≡ r → NodeStep s next count lines r
+  pub node_here : {x r : Result (Option NodeKind) Answer} → x ≡ node_read s next count lines (found_at s next 2) → x ≡ r → NodeStep s next count lines r
   node_here e q = subst (NodeStep s next count lines) (sym e ∙ q) (node_step s next count lines)
 
   -- one step more
   stepped : (i : ℕ) → run (suc count) s (going 8 2 (headed N i)) ≡ step_of s (going next 2 (noded N i (take count nodes)))
   stepped i = run_next s count (going 8 2 (headed N i)) ∙ ap (step_of s) (h.reads i)
 
-  module _ (k : NodeKind) (here : NodeStep s next count lines (node.Is k)) where
+  module _ (k : NodeKind) (here : NodeStep s next count lines (Ok (Some k))) where
     last : ℕ → NodeRecord
     last v = record { kind = k; channels = channels_of k; cell = v }
 
@@ -83,7 +79,7 @@ module _ (s : List ℕ) (N : ℕ) (nodes : List NodeRecord) (bounds : List ℕ) 
 
     nodes_filled : take (count + 1) more ≡ take count nodes ++ (last values ∷ [])
     unfolding more
-    nodes_filled = filled nodes count (last values) (omega (arith, h.long, here.1.room))
+    nodes_filled = take_more_set nodes count (last values) (omega (arith, h.long, here.1.room))
 
     more_reads : (i : ℕ) → run (count + 1) s (going 8 2 (headed N i)) ≡ going (next + 14) 2 (noded N i (take (count + 1) more))
     unfolding last
@@ -126,10 +122,11 @@ module _ (s : List ℕ) (N : ℕ) (nodes : List NodeRecord) (bounds : List ℕ) 
       inside = here.2;
     }
 
-  -- the part ends
-  pub nodes_ended : {a : Answer} (n : ℕ) → a ≡ answer n next → NodeStep s next count lines (node.Ends n) → NodesRead s N (record { refused = a; count = count; nodes = nodes; bounds = bounds; values = values; next = next })
-  nodes_ended n e here = record {
-    reads = λ i. stepped i ∙ here (noded N i (take count nodes)) counted (sym h.lines_sum) ∙ rw e;
+  -- the next part follows
+  pub nodes_ended : (few : count ≤ 64) (long : length nodes ≡ 64) → NodeStep s next count lines (Ok None)
+      → Noded s N (record { count = count; nodes = nodes; bounds = bounds; values = values; next = next; few = few; long = long })
+  nodes_ended few long here = record {
+    reads = λ i. stepped i ∙ here (noded N i (take count nodes)) counted (sym h.lines_sum);
     long = h.long;
     few = h.few;
     bound = h.bound;
@@ -139,61 +136,80 @@ module _ (s : List ℕ) (N : ℕ) (nodes : List NodeRecord) (bounds : List ℕ) 
     inside = h.inside;
   }
 
+  -- a refusal follows
+  pub nodes_refused : (a : Answer) → NodeStep s next count lines (Err a) → NodesRefused s N a
+  nodes_refused a here = record {
+    count = count;
+    inside = omega (arith, h.next_is, h.inside);
+    some = here.0;
+    reads = λ i. stepped i ∙ here.1 (noded N i (take count nodes)) counted (sym h.lines_sum);
+  }
+
 -- ---- the wires
 
-pub record WiresSoFar (s : List ℕ) (start i : ℕ) (ss ts : List ℕ) (count next : ℕ) : Type 0 where
-  pub reads : (p : Parsed) → length p.nodes ≡ i → p.wires ≡ [] → run count s (going start 3 p) ≡ going next 3 (wired p (wires_of ss ts count))
-  pub sources_long : length ss ≡ 128
-  pub targets_long : length ts ≡ 128
-  pub few : count ≤ 128
-  pub sources_in : Within i ss count
-  pub targets_in : Within i ts count
-  pub next_is : next ≡ start + 8 * count
+pub record WiresSoFar (s : List ℕ) (start i : ℕ) (w : Wires) (next : ℕ) : Type 0 where
+  pub reads : (p : Parsed) → length p.nodes ≡ i → p.wires ≡ [] → run w.count s (going start 3 p) ≡ going next 3 (wired p (wires_of w.list w.count))
+  pub long : length w.list ≡ 128
+  pub few : w.count ≤ 128
+  pub joined : Joined i w.list w.count
+  pub next_is : next ≡ start + 8 * w.count
   pub inside : next ≤ length s
 
-pub wires_start : (s : List ℕ) (start i : ℕ) (ss ts : List ℕ) → length ss ≡ 128 → length ts ≡ 128 → start ≤ length s → WiresSoFar s start i ss ts 0 start
+pub wires_start : (s : List ℕ) (start i : ℕ) (l : List (ℕ × ℕ)) → length l ≡ 128 → start ≤ length s
+    → WiresSoFar s start i (record { list = l; count = 0 }) start
 unfolding run
-wires_start s start i ss ts l m h = record {
+wires_start s start i l long h = record {
   reads = λ p _ e. ap (λ (ws : List Wire). going start 3 (wired p ws)) e;
-  sources_long = l;
-  targets_long = m;
+  long = long;
   few = omega arith;
-  sources_in = λ j b. absurd (omega arith);
-  targets_in = λ j b. absurd (omega arith);
+  joined = λ j b. absurd (omega arith);
   next_is = omega arith;
   inside = h;
 }
 
-module _ (s : List ℕ) (start i : ℕ) (ss ts : List ℕ) (count next : ℕ) (h : WiresSoFar s start i ss ts count next) where
-  joined : (p : Parsed) → length p.nodes ≡ i → p.wires ≡ [] → run (suc count) s (going start 3 p) ≡ step_of s (going next 3 (wired p (wires_of ss ts count)))
-  joined p n e = run_next s count (going start 3 p) ∙ ap (step_of s) (h.reads p n e)
+module _ (s : List ℕ) (start i : ℕ) (w : Wires) (next : ℕ) (h : WiresSoFar s start i w next) where
+  so_far : length (wires_of w.list w.count) ≡ w.count
+  so_far = wires_length w.list w.count (omega (arith, h.long, h.few))
 
-  pub wires_more : (a t : ℕ) → a ≡ u16_at s (next + 4) → t ≡ u16_at s (next + 6) → WireHere s next i count → WiresSoFar s start i (set ss count a) (set ts count t) (count + 1) (next + 8)
+  reached : (p : Parsed) → length p.nodes ≡ i → p.wires ≡ [] → run (suc w.count) s (going start 3 p) ≡ step_of s (going next 3 (wired p (wires_of w.list w.count)))
+  reached p n e = run_next s w.count (going start 3 p) ∙ ap (step_of s) (h.reads p n e)
+
+  pub wires_more : (a t : ℕ) → a ≡ u16_at s (next + 4) → t ≡ u16_at s (next + 6) → WireHere s next i w.count
+      → WiresSoFar s start i (record { list = set w.list w.count (a, t); count = w.count + 1 }) (next + 8)
   wires_more a t ea et here =
-      let p : count < length ss = omega (arith, h.sources_long, here.1.room) in
-      let q : count < length ts = omega (arith, h.targets_long, here.1.room) in
+      let room : w.count < length w.list = omega (arith, h.long, here.1.room) in
       record {
         reads = λ b n e.
-            ap (λ (m : ℕ). run m s (going start 3 b)) (add-one count) ∙ joined b n e ∙ rw (ea, et) (here.0 (wired b (wires_of ss ts count)) n (wires_length ss ts count))
-            ∙ ap (λ (ws : List Wire). going (next + 8) 3 (wired b ws)) (sym (wires_stored ss ts count a t p q));
-        sources_long = simp length-set h.sources_long;
-        targets_long = simp length-set h.targets_long;
+            ap (λ (m : ℕ). run m s (going start 3 b)) (add-one w.count) ∙ reached b n e ∙ rw (ea, et) (here.0 (wired b (wires_of w.list w.count)) n so_far)
+            ∙ ap (λ (ws : List Wire). going (next + 8) 3 (wired b ws)) (sym (wires_stored w.list w.count a t room));
+        long = simp length-set h.long;
         few = omega (arith, here.1.room);
-        sources_in = within_more i ss count a p (rw ea here.1.obeys.source_there) h.sources_in;
-        targets_in = within_more i ts count t q (rw et here.1.obeys.target_there) h.targets_in;
+        joined = joined_more i w.list w.count a t room (rw ea here.1.obeys.source_there) (rw et here.1.obeys.target_there) h.joined;
         next_is = omega (arith, h.next_is);
         inside = here.2;
       }
 
-  -- the part ends
-  pub wires_ended : {a : Answer} (n : ℕ) → a ≡ answer n next → WireEnds s next i count n → WiresRead s start i (record { refused = a; count = count; next = next }) ss ts
-  wires_ended n e here = record {
-    reads = λ p m z. joined p m z ∙ here (wired p (wires_of ss ts count)) m (wires_length ss ts count) ∙ rw e;
-    sources_long = h.sources_long;
-    targets_long = h.targets_long;
+  -- the end record follows
+  pub wires_ended : WireEnds s next i w.count (Ok tt) → Wired s start i w next (end_by s next)
+  wires_ended here = record {
+    reads = λ p m z. reached p m z ∙ here (wired p (wires_of w.list w.count)) m so_far;
+    long = h.long;
     few = h.few;
-    sources_in = h.sources_in;
-    targets_in = h.targets_in;
+    joined = h.joined;
     next_is = h.next_is;
     inside = h.inside;
   }
+
+  -- a refusal follows
+  pub wires_refused : (a : Answer) → WireEnds s next i w.count (Err a) → (0 < a.number) × Wired s start i w a.place (λ _. refused a.number a.place)
+  wires_refused a here = (
+    here.0,
+    record {
+      reads = λ p m z. reached p m z ∙ here.2 (wired p (wires_of w.list w.count)) m so_far;
+      long = h.long;
+      few = h.few;
+      joined = h.joined;
+      next_is = here.1 ∙ h.next_is;
+      inside = rw here.1 h.inside;
+    },
+  )

@@ -1,5 +1,6 @@
 -- Bytes whose records are read whole are the bytes written for a card, of which the reader asks no more (`records_written`).
 -- Assumes nothing.
+use Rattle.std.specs.Prelude.{Option, Some, None, Result, Ok, Err}
 use Prim.Native.Nat.{ℕ, zero, suc, ◌+◌, ◌≤◌}
 use mathlib.Core.Path.{◌≡◌, refl, sym, ap, subst, ◌∙◌}
 use mathlib.Core.List.{List, [], ◌∷◌, ◌++◌}
@@ -13,15 +14,13 @@ use Rattle.values.specs.Bytes.{u16_at, u32_at, u16_bytes, u32_bytes}
 use Rattle.values.specs.Words.{Bytes}
 use Rattle.kinds.specs.Kind.{rule_of}
 use Rattle.kinds.specs.declared.kind.NodeKind.{NodeKind}
-use Rattle.kinds.specs.declared.kind.Fields.{Fields}
-use Rattle.kinds.specs.declared.kind.Fields.TheVariants.{Is, Broken}
 use Rattle.reading.specs.Order.{Wire, wire}
 use Rattle.records.specs.Record.{found_at}
 use Rattle.boards.specs.Board.{Parsed, going, refused, whole, headed, with_node, with_wire, lines_of, size_fits, node_fits, wire_fits, node_by, wire_by, end_by, head_by, take_found, step_of, run, read_records}
 use Rattle.records.specs.Write.{NodeCard, Card, head_bytes, node_bytes, wire_bytes, end_bytes, nodes_bytes, wires_bytes, write_board}
 use Rattle.boards.specs.Obeys.{kind_of, as_read}
 use Rattle.records.specs.declared.record.Found.{Found}
-use Rattle.records.specs.declared.record.Found.TheVariants.{Head, Node, End, Refused}
+use Rattle.records.specs.declared.record.Found.TheVariants.{Head, Node, End}
 use Rattle.records.specs.declared.record.Found.TheVariants as found
 use Rattle.boards.proofs.Run.{run_done, refused_for_good, going_is_not_whole}
 use Rattle.records.proofs.RoundBytes.{u16_on, u32_on, bytes_on, u16_small, u32_small, u16_split, u32_split}
@@ -144,13 +143,13 @@ module _ (s : List ℕ) (h : Bytes s) (q : Parsed) (n : ℕ) where
           go false e r = refused_for_good s n 5 at q r
 
       -- after a wire stand wires and the end
-      wires_step : (f : Found) → Told (drop at s) 3 f → run n s (take_found s at p f) ≡ whole q → WiresLeft s at p q
+      wires_step : (f : Result Found ℕ) → Told (drop at s) 3 f → run n s (take_found s at p f) ≡ whole q → WiresLeft s at p q
       unfolding take_found
-      wires_step Head t r = absurd (omega arith)
-      wires_step Node t r = absurd (omega arith)
-      wires_step found.Wire t r = wire_left t.0 r
-      wires_step End t r = end_left t.0 r
-      wires_step (Refused k) t r = refused_for_good s n k at q r
+      wires_step (Ok Head) t r = absurd (omega arith)
+      wires_step (Ok Node) t r = absurd (omega arith)
+      wires_step (Ok found.Wire) t r = wire_left t.0 r
+      wires_step (Ok End) t r = end_left t.0 r
+      wires_step (Err k) t r = refused_for_good s n k at q r
 
       module _ (last : ℕ) (low : 1 ≤ last) (onward : (at : ℕ) (p : Parsed) → run n s (going at 2 p) ≡ whole q → Left s at p q) where
         node_left : Stands (drop at s) 2 14
@@ -160,7 +159,7 @@ module _ (s : List ℕ) (h : Bytes s) (q : Parsed) (n : ℕ) where
             d : NodeCard
             d = record { type = u16_at s (at + 4); n = u32_at s (at + 6); f = u32_at s (at + 10) }
 
-            more : rule_of d.type d.n d.f ≡ Is (kind_of d) → node_fits (length p.nodes) (lines_of p.nodes) (kind_of d) ≡ true
+            more : rule_of d.type d.n d.f ≡ Some (kind_of d) → node_fits (length p.nodes) (lines_of p.nodes) (kind_of d) ≡ true
                 → Left s (at + 14) (with_node p (kind_of d)) q → Left s at p q
             more k e r = record {
               nodes = d ∷ r.nodes;
@@ -177,27 +176,27 @@ module _ (s : List ℕ) (h : Bytes s) (q : Parsed) (n : ℕ) where
               wires_fit = subst (λ (x : Parsed). WiresFit (length x.nodes) (length x.wires) r.wires) (one_node p d r.nodes) r.wires_fit;
             }
 
-            fit : rule_of d.type d.n d.f ≡ Is (kind_of d) → (b : Bool)
+            fit : rule_of d.type d.n d.f ≡ Some (kind_of d) → (b : Bool)
                 → node_fits (length p.nodes) (lines_of p.nodes) (kind_of d) ≡ b
                 → run n s (cond b (going (at + 14) 2 (with_node p (kind_of d))) (refused 4 at)) ≡ whole q → Left s at p q
             fit k true e r = more k e (onward (at + 14) (with_node p (kind_of d)) r)
             fit k false e r = refused_for_good s n 4 at q r
 
-            rule : (r : Fields) → rule_of d.type d.n d.f ≡ r → run n s (node_by at p r) ≡ whole q → Left s at p q
-            rule Broken e r = refused_for_good s n 4 at q r
-            rule (Is k) e r =
+            rule : (r : Option NodeKind) → rule_of d.type d.n d.f ≡ r → run n s (node_by at p r) ≡ whole q → Left s at p q
+            rule None e r = refused_for_good s n 4 at q r
+            rule (Some k) e r =
                 let same = (kind_told d k e).3 in
-                fit (e ∙ ap Is (sym same)) (node_fits (length p.nodes) (lines_of p.nodes) (kind_of d)) refl
-                (subst (λ (j : NodeKind). run n s (node_by at p (Is j)) ≡ whole q) (sym same) r)
+                fit (e ∙ ap Some (sym same)) (node_fits (length p.nodes) (lines_of p.nodes) (kind_of d)) refl
+                (subst (λ (j : NodeKind). run n s (node_by at p (Some j)) ≡ whole q) (sym same) r)
 
         -- after the head, and after a node, anything may stand but a head
-        nodes_step : (f : Found) → Told (drop at s) last f → run n s (take_found s at p f) ≡ whole q → Left s at p q
+        nodes_step : (f : Result Found ℕ) → Told (drop at s) last f → run n s (take_found s at p f) ≡ whole q → Left s at p q
         unfolding take_found
-        nodes_step Head t r = absurd (omega arith)
-        nodes_step Node t r = node_left t.0 r
-        nodes_step found.Wire t r = no_more_nodes (wire_left t.0 r)
-        nodes_step End t r = no_more_nodes (end_left t.0 r)
-        nodes_step (Refused k) t r = refused_for_good s n k at q r
+        nodes_step (Ok Head) t r = absurd (omega arith)
+        nodes_step (Ok Node) t r = node_left t.0 r
+        nodes_step (Ok found.Wire) t r = no_more_nodes (wire_left t.0 r)
+        nodes_step (Ok End) t r = no_more_nodes (end_left t.0 r)
+        nodes_step (Err k) t r = refused_for_good s n k at q r
 
 module _ (s : List ℕ) (h : Bytes s) (q : Parsed) where
   wires_left : (n at : ℕ) (p : Parsed) → run n s (going at 3 p) ≡ whole q → WiresLeft s at p q
@@ -247,13 +246,13 @@ module _ (s : List ℕ) (h : Bytes s) (q : Parsed) (n : ℕ) where
       go false e r = refused_for_good s n 3 0 q r
 
   -- the first record is a head
-  head_step : (f : Found) → Told s 0 f → run n s (take_found s 0 (headed 0 0) f) ≡ whole q → Written s q
+  head_step : (f : Result Found ℕ) → Told s 0 f → run n s (take_found s 0 (headed 0 0) f) ≡ whole q → Written s q
   unfolding take_found
-  head_step Head t r = head_left t.0 r
-  head_step Node t r = absurd (omega arith)
-  head_step found.Wire t r = absurd (omega arith)
-  head_step End t r = absurd (omega arith)
-  head_step (Refused k) t r = refused_for_good s n k 0 q r
+  head_step (Ok Head) t r = head_left t.0 r
+  head_step (Ok Node) t r = absurd (omega arith)
+  head_step (Ok found.Wire) t r = absurd (omega arith)
+  head_step (Ok End) t r = absurd (omega arith)
+  head_step (Err k) t r = refused_for_good s n k 0 q r
 
 pub records_written : (s : List ℕ) → Bytes s → (q : Parsed) → read_records s ≡ whole q → Written s q
 unfolding read_records run step_of

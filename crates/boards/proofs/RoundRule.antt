@@ -12,7 +12,7 @@ use Rattle.kinds.specs.Row.{Value, unused, coefficient, numbered, Line, no_line,
 use Rattle.kinds.specs.Kind.{type_of, length_fits, whole_fits, float_fits, fields_fit, kind_by, type_known, is_if, rule_of, is_pass, is_destination}
 use Rattle.kinds.specs.declared.kind.NodeKind.{NodeKind}
 use Rattle.kinds.specs.declared.kind.NodeKind.TheVariants.{Pass, Sum, Destination, Balance, Mul, Add, Delay, AllPass, OnePole, Sine}
-use Rattle.kinds.specs.declared.kind.Fields.TheVariants.{Is}
+use Rattle.std.specs.Prelude.{Some}
 use Rattle.records.specs.Write.{NodeCard}
 use Rattle.boards.specs.Obeys.{kind_of, LineLength, WholeObeys, FloatObeys, FieldsObey}
 
@@ -76,7 +76,7 @@ known_so t = both_so (leb 1 t) (leb t 10) (le-leb 1 t, leb-true 1 t) (le-leb t 1
 -- ---- what a description of a known type says
 
 module _ (d : NodeCard) (lo : 1 ≤ d.type) (hi : d.type ≤ 10) where
-  pub kind_kept : FieldsObey (kind_of d) d.n d.f → rule_of d.type d.n d.f ≡ Is (kind_of d)
+  pub kind_kept : FieldsObey (kind_of d) d.n d.f → rule_of d.type d.n d.f ≡ Some (kind_of d)
   unfolding rule_of kind_of
   kind_kept h = rw ((known_so d.type).0 (lo, hi), (fields_so (kind_of d) d.n d.f).0 h)
 
@@ -89,12 +89,12 @@ module _ (d : NodeCard) (lo : 1 ≤ d.type) (hi : d.type ≤ 10) where
   destination_is = ap (λ (j : ℕ). eqb j 3) (type_named d.type d.n (of_bits binary32 d.f) lo hi)
 
 -- what a rule that names a kind says of its description
-pub kind_told : (d : NodeCard) (k : NodeKind) → rule_of d.type d.n d.f ≡ Is k
+pub kind_told : (d : NodeCard) (k : NodeKind) → rule_of d.type d.n d.f ≡ Some k
     → (1 ≤ d.type) × (d.type ≤ 10) × FieldsObey (kind_of d) d.n d.f × (kind_of d ≡ k)
 unfolding rule_of kind_of
 kind_told d k = go (type_known d.type && fields_fit (kind_of d) d.n d.f) refl
   where
-    go : (b : Bool) → type_known d.type && fields_fit (kind_of d) d.n d.f ≡ b → is_if b (kind_of d) ≡ Is k
+    go : (b : Bool) → type_known d.type && fields_fit (kind_of d) d.n d.f ≡ b → is_if b (kind_of d) ≡ Some k
         → (1 ≤ d.type) × (d.type ≤ 10) × FieldsObey (kind_of d) d.n d.f × (kind_of d ≡ k)
     go true e q =
         let h = (and-eq-true_iff (type_known d.type) (fields_fit (kind_of d) d.n d.f)).0 e in

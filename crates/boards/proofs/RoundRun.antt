@@ -13,7 +13,7 @@ use Rattle.values.specs.Bytes.{u16_at, u32_at}
 use Rattle.values.specs.Words.{word_split}
 use Rattle.kinds.specs.Kind.{rule_of, line_of, channels_of, cell_size}
 use Rattle.kinds.specs.declared.kind.NodeRecord.{NodeRecord}
-use Rattle.kinds.specs.declared.kind.Fields.TheVariants.{Is}
+use Rattle.std.specs.Prelude.{Some, Ok}
 use Rattle.reading.specs.Order.{Wire}
 use Rattle.records.specs.Record.{in_order, found_of, found_at}
 use Rattle.boards.specs.Board.{Parsed, Progress, going, refused, whole, headed, with_node, with_wire, lines_of, cells_of, size_fits, node_fits, wire_fits, node_by, wire_by, head_by, take_found, step_of, run, read_records}
@@ -64,7 +64,7 @@ pub record NodeFits (i lines : ℕ) (d : NodeCard) : Type 0 where
   pub type_small : d.type < 65536
   pub n_small : d.n < 4294967296
   pub f_small : d.f < 4294967296
-  pub rule : rule_of d.type d.n d.f ≡ Is (kind_of d)
+  pub rule : rule_of d.type d.n d.f ≡ Some (kind_of d)
   pub fits : node_fits i lines (kind_of d) ≡ true
 
 abbrev pub NodesFit : ℕ → ℕ → List NodeCard → Type 0
@@ -113,7 +113,7 @@ module _ (s : List ℕ) (at : ℕ) where
     unfolding step_of take_found found_of
     node_step d rest high e h =
         let b = node_bytes d ++ rest in
-        let fo : found_at s at last ≡ Node = finds b 2 14 high e refl refl (omega arith) in
+        let fo : found_at s at last ≡ Ok Node = finds b 2 14 high e refl refl (omega arith) in
         let t : u16_at s (at + 4) ≡ d.type = u16_read b 4 e ∙ u16_back d.type h.type_small in
         let n : u32_at s (at + 6) ≡ d.n = u32_read b 6 e ∙ word_split d.n h.n_small in
         let f : u32_at s (at + 10) ≡ d.f = u32_read b 10 e ∙ word_split d.f h.f_small in
@@ -125,7 +125,7 @@ module _ (s : List ℕ) (at : ℕ) where
     unfolding step_of take_found found_of
     wire_found w rest high e hs ht =
         let b = wire_bytes w ++ rest in
-        let fo : found_at s at last ≡ found.Wire = finds b 3 8 high e refl refl (omega arith) in
+        let fo : found_at s at last ≡ Ok found.Wire = finds b 3 8 high e refl refl (omega arith) in
         let x : u16_at s (at + 4) ≡ w.source = u16_read b 4 e ∙ u16_back w.source hs in
         let y : u16_at s (at + 6) ≡ w.target = u16_read b 6 e ∙ u16_back w.target ht in
         ap (take_found s at p) fo ∙ (λ i. wire_by at p (x i) (y i))
@@ -139,7 +139,7 @@ module _ (s : List ℕ) (at : ℕ) where
     end_step : last ≤ 4 → drop at s ≡ end_bytes → step_of s (going at last p) ≡ whole p
     unfolding step_of take_found found_of
     end_step high e =
-        let fo : found_at s at last ≡ End = finds end_bytes 4 4 high e refl refl (omega arith) in
+        let fo : found_at s at last ≡ Ok End = finds end_bytes 4 4 high e refl refl (omega arith) in
         let l : at + 4 ≡ length s = omega (arith, sym (length-drop at s) ∙ ap length e) in
         ap (take_found s at p) fo ∙ ap (λ (x : Bool). cond x (whole p) (refused 1 (at + 4))) (eq-eqb (at + 4) (length s) l)
 
@@ -211,7 +211,7 @@ head_step : (s : List ℕ) (p : Parsed) (N i : ℕ) (rest : List ℕ) → s ≡ 
     → step_of s (going 0 0 p) ≡ going 8 1 (headed N i)
 unfolding step_of take_found found_of
 head_step s p N i rest e hN hi fits =
-    let fo : found_at s 0 0 ≡ Head = found_in_lem s 0 0 (head_bytes N i ++ rest) 1 8 e refl refl (omega arith) (omega arith) refl in
+    let fo : found_at s 0 0 ≡ Ok Head = found_in_lem s 0 0 (head_bytes N i ++ rest) 1 8 e refl refl (omega arith) (omega arith) refl in
     let x : u16_at s 4 ≡ N = ap (λ (x : List ℕ). u16_at x 4) e ∙ u16_back N hN in
     let y : u16_at s 6 ≡ i = ap (λ (x : List ℕ). u16_at x 6) e ∙ u16_back i hi in
     ap (take_found s 0 p) fo ∙ (λ j. head_by 0 (x j) (y j)) ∙ ap (λ (b : Bool). cond b (going 8 1 (headed N i)) (refused 3 0)) fits

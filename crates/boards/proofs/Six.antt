@@ -1,13 +1,13 @@
 -- Check 6 against the arrays: the kind at an index, the counts of the table, and the walk over the nodes. Assumes nothing.
 use Prim.Native.Nat.{ℕ, zero, suc, ◌+◌, ◌/◌, ◌%◌, min, ◌≤◌, ◌<◌}
 use native.Mathlib.Nat.{le_refl}
-use native.Mathlib.Decide.{ℕ_discrete}
 use mathlib.Core.Path.{◌≡◌, refl, sym, ap, ◌∙◌}
 use mathlib.Core.List.{List, [], ◌∷◌, ◌++◌}
-use mathlib.Core.Bool.{Bool, true, false, true≢false, ◌&&◌, ◌||◌}
+use mathlib.Core.Bool.{Bool, true, false, true≢false, ◌&&◌}
 use native.Mathlib.Numerals.{add-one}
 use native.Mathlib.Omega.{arith}
-use borrow.Author.Tests.{leb-true, leb-false, le-leb, lt-leb, ltb-true, ltb-false, le-ltb, eq-eqb, ne_eqb}
+use borrow.Author.Tests.{leb-true, leb-false, le-leb, lt-leb, ltb-true, ltb-false, eq-eqb, ne_eqb}
+use borrow.Author.Count.{below_more}
 use lib.Dec.{ltb, leb, eqb}
 use lib.ListN.{length, get_or, take, drop, length-append}
 use lib.Seq.{length-take-le, drop-cons, drop-length, get_or-take}
@@ -20,10 +20,10 @@ use Rattle.kinds.proofs.Rows.{row_laws}
 use Rattle.boards.specs.Board.{Parsed, refused, whole, blank, memory_length, read_records}
 use Rattle.records.specs.Answer.{answer}
 use Rattle.records.specs.declared.answer.Answer.{Answer}
-use Rattle.boards.specs.BoardParts.{or_refused, Counts, AllFit}
+use Rattle.boards.specs.BoardParts.{Refuses, Counts, AllFit}
 use Rattle.sources.specs.Sources.{add_new, add_all, distinct, distinct_sources}
 use Rattle.boards.specs.Judge.{pass_at, input_fits, check_sources, check_six, then_six, read_board, answer_by, judge_of}
-use Rattle.reading.proofs.Choice.{pick, neither}
+use Rattle.reading.proofs.Choice.{pick, both}
 
 -- ---- the counts of the table, nine standing for more than eight
 
@@ -91,19 +91,13 @@ module _ (nodes : List NodeRecord) (n : ℕ) (fits : n ≤ length nodes) where
     pub node_here : drop i (take n nodes) ≡ get_or nodes i d ∷ drop (suc i) (take n nodes)
     node_here = drop-cons (take n nodes) i d inside ∙ ap (λ (r : NodeRecord). r ∷ drop (suc i) (take n nodes)) (get_or-take n nodes i d within)
 
-  -- what the code asks of node i, read at an index that is i where there are so many
-  pub pass_asked : (i at : ℕ) (pass : Bool) → (i < n → at ≡ i) → pass ≡ ltb i n && is_pass (get_or nodes at blank).kind
-      → (pass_at (take n nodes) i ≡ pass) × (pass ≡ true → i < n)
-  pass_asked i at pass same e = go (ltb i n) refl
+  -- where a pass stands there are so many nodes
+  pub pass_below : (i : ℕ) (pass : Bool) → pass ≡ pass_at (take n nodes) i → pass ≡ true → i < n
+  pass_below i pass e t = go (ltb i n) refl
     where
-      go : (t : Bool) → ltb i n ≡ t → (pass_at (take n nodes) i ≡ pass) × (pass ≡ true → i < n)
-      go true f =
-          let below : i < n = ltb-true i n f in
-          let asked : pass ≡ is_pass (get_or nodes at blank).kind = rw f at e in
-          (pass_here i below blank ∙ ap (λ (j : ℕ). is_pass (get_or nodes j blank).kind) (sym (same below)) ∙ sym asked, λ _. below)
-      go false f =
-          let none : pass ≡ false = rw f at e in
-          (pass_out i (ltb-false i n f) ∙ sym none, λ t. absurd (true≢false (sym t ∙ none)))
+      go : (b : Bool) → ltb i n ≡ b → i < n
+      go true f = ltb-true i n f
+      go false f = absurd (true≢false (sym t ∙ e ∙ pass_out i (ltb-false i n f)))
 
 -- ---- the walk over the nodes
 
@@ -114,27 +108,16 @@ module _ (p : Parsed) (bounds counts : List ℕ) (h : Counts p bounds counts) wh
   fits i b =
       sym (rw (h.counted i b, (h.bound i b).0, (h.bound i b).1) (fits_nine (get_or p.nodes i blank).kind (length (distinct_sources p.wires i))))
 
-  fits_here : (i : ℕ) → i < length p.nodes → (get_or bounds i 0 / 16 ≤ get_or counts i 0) × (get_or counts i 0 ≤ get_or bounds i 0 % 16)
-      → sources_fit (get_or p.nodes i blank).kind (length (distinct_sources p.wires i)) ≡ true
-  fits_here i b q = fits i b ∙ rw (le-leb _ _ q.0, le-leb _ _ q.1)
-
   -- the first i nodes fit, so what is left decides
-  pub check_next : (i : ℕ) → i < length p.nodes → (ltb (get_or counts i 0) (get_or bounds i 0 / 16) || ltb (get_or bounds i 0 % 16) (get_or counts i 0)) ≡ false
+  pub check_next : (i : ℕ) → i < length p.nodes → leb (get_or bounds i 0 / 16) (get_or counts i 0) && leb (get_or counts i 0) (get_or bounds i 0 % 16) ≡ true
       → check_sources p (i + 1) (drop (i + 1) p.nodes) ≡ check_sources p i (drop i p.nodes)
   unfolding check_sources
-  check_next i b e =
-      let n = neither _ _ e in
-      rw (add-one, drop-cons p.nodes i blank b, fits_here i b (ltb-false _ _ n.0, ltb-false _ _ n.1))
+  check_next i b e = rw (add-one, drop-cons p.nodes i blank b, fits i b ∙ e)
 
-  pub check_wrong : (i : ℕ) → i < length p.nodes → (ltb (get_or counts i 0) (get_or bounds i 0 / 16) || ltb (get_or bounds i 0 % 16) (get_or counts i 0)) ≡ true
+  pub check_wrong : (i : ℕ) → i < length p.nodes → leb (get_or bounds i 0 / 16) (get_or counts i 0) && leb (get_or counts i 0) (get_or bounds i 0 % 16) ≡ false
       → check_sources p i (drop i p.nodes) ≡ refused 6 i
   unfolding check_sources
-  check_wrong i b e = rw (drop-cons p.nodes i blank b, fits i b ∙ go (ltb (get_or counts i 0) (get_or bounds i 0 / 16)) refl e)
-    where
-      go : (t : Bool) → ltb (get_or counts i 0) (get_or bounds i 0 / 16) ≡ t → (t || ltb (get_or bounds i 0 % 16) (get_or counts i 0)) ≡ true
-          → leb (get_or bounds i 0 / 16) (get_or counts i 0) && leb (get_or counts i 0) (get_or bounds i 0 % 16) ≡ false
-      go true f _ = rw (lt-leb _ _ (ltb-true _ _ f))
-      go false f q = rw (le-leb _ _ (ltb-false _ _ f), lt-leb _ _ (ltb-true _ _ q))
+  check_wrong i b e = rw (drop-cons p.nodes i blank b, fits i b ∙ e)
 
   pub check_end : check_sources p (length p.nodes) (drop (length p.nodes) p.nodes) ≡ whole p
   unfolding check_sources
@@ -148,18 +131,15 @@ module _ (p : Parsed) (bounds counts : List ℕ) (h : Counts p bounds counts) wh
       go zero b = refl
       go (suc i) b =
           let q = all i (omega arith) in
-          go i (omega arith) ∙ sym (rw (add-one i) at (check_next i (omega arith) (rw (le-ltb _ _ q.0, le-ltb _ _ q.1))))
+          go i (omega arith) ∙ sym (rw (add-one i) at (check_next i (omega arith) (rw (le-leb _ _ q.0, le-leb _ _ q.1))))
 
 -- one node more that fits
-pub all_more : (bounds counts : List ℕ) (i : ℕ) (wrong : Bool) → (wrong ≡ false → AllFit bounds counts i)
-    → ((wrong || ltb (get_or counts i 0) (get_or bounds i 0 / 16)) || ltb (get_or bounds i 0 % 16) (get_or counts i 0)) ≡ false → AllFit bounds counts (i + 1)
-all_more bounds counts i wrong before e j b = go (ℕ_discrete j i)
-  where
-    go : Dec (j ≡ i) → (get_or bounds j 0 / 16 ≤ get_or counts j 0) × (get_or counts j 0 ≤ get_or bounds j 0 % 16)
-    go (yes q) =
-        let two = neither (wrong || ltb (get_or counts i 0) (get_or bounds i 0 / 16)) _ e in
-        rw q (ltb-false _ _ (neither wrong _ two.0).1, ltb-false _ _ two.1)
-    go (no other) = before (neither wrong _ (neither (wrong || ltb (get_or counts i 0) (get_or bounds i 0 / 16)) _ e).0).0 j (omega arith)
+pub all_more : (bounds counts : List ℕ) (i : ℕ) (all : Bool) → (all ≡ true → AllFit bounds counts i)
+    → all && (leb (get_or bounds i 0 / 16) (get_or counts i 0) && leb (get_or counts i 0) (get_or bounds i 0 % 16)) ≡ true → AllFit bounds counts (i + 1)
+all_more bounds counts i all before e =
+    let here = both all _ e in
+    let two = both (leb (get_or bounds i 0 / 16) (get_or counts i 0)) (leb (get_or counts i 0) (get_or bounds i 0 % 16)) here.1 in
+    below_more _ _ (before here.0) (leb-true _ _ two.0, leb-true _ _ two.1)
 
 -- ---- the three cases of check 6
 
@@ -196,18 +176,13 @@ module _ (s : List ℕ) where
   unfolding read_board
   six_whole p e = ap then_six e
 
-  -- the answer that ended the records, and then check 6
-  pub six_ended : (a : Answer) (p : Parsed) → read_records s ≡ or_refused a (whole p) → read_board s ≡ or_refused a (check_six p)
-  unfolding read_board
-  six_ended a p e = ap then_six e ∙ go (eqb a.number 0) refl
-    where
-      go : (t : Bool) → eqb a.number 0 ≡ t → then_six (or_refused a (whole p)) ≡ or_refused a (check_six p)
-      go true f = rw f
-      go false f = rw f
-
   pub six_refused : (n w : ℕ) → read_records s ≡ refused n w → read_board s ≡ refused n w
   unfolding read_board
   six_refused n w e = ap then_six e
+
+  -- refused in its records, refused
+  pub six_refuses : (a : Answer) → Refuses (read_records s) a → Refuses (read_board s) a
+  six_refuses a h = (h.0, six_refused a.number a.place h.1)
 
   pub judged_whole : (p : Parsed) → read_board s ≡ whole p → judge_of s ≡ answer 0 (memory_length p)
   unfolding judge_of

@@ -1,17 +1,15 @@
 -- A board as its bytes say it (document 01, "Board bytes"): record by record, from offset 0, until the end record or the first refusal.
 -- Definitions only.
-use Rattle.std.specs.Prelude.{ℕ, zero, suc, ◌+◌, ◌*◌, List, [], ◌∷◌, ◌++◌, Bool, cond, not, ◌&&◌, length, ltb, leb, eqb}
+use Rattle.std.specs.Prelude.{ℕ, zero, suc, ◌+◌, ◌*◌, List, [], ◌∷◌, ◌++◌, Bool, cond, not, ◌&&◌, length, ltb, leb, eqb, Option, Some, None, Result, Ok, Err}
 use Rattle.values.specs.Bytes.{u16_at, u32_at}
 use Rattle.kinds.specs.Kind.{rule_of, line_of, channels_of, cell_size, is_destination}
 use Rattle.kinds.specs.declared.kind.NodeKind.{NodeKind}
 use Rattle.kinds.specs.declared.kind.NodeKind.TheVariants.{Pass}
 use Rattle.kinds.specs.declared.kind.NodeRecord.{NodeRecord}
-use Rattle.kinds.specs.declared.kind.Fields.{Fields}
-use Rattle.kinds.specs.declared.kind.Fields.TheVariants.{Is, Broken}
 use Rattle.reading.specs.Order.{Wire, wire}
 use Rattle.records.specs.Record.{found_at}
 use Rattle.records.specs.declared.record.Found.{Found}
-use Rattle.records.specs.declared.record.Found.TheVariants.{Head, Node, End, Refused}
+use Rattle.records.specs.declared.record.Found.TheVariants.{Head, Node, End}
 use Rattle.records.specs.declared.record.Found.TheVariants as found
 
 -- what a board's records say: block size N, input node, nodes, wires
@@ -88,9 +86,9 @@ pub data Progress : Type 0 where
 abbrev pub head_by : ℕ → ℕ → ℕ → Progress
 head_by at N i = cond (size_fits N) (going (at + 8) 1 (headed N i)) (refused 3 at)
 
-abbrev pub node_by : ℕ → Parsed → Fields → Progress
-node_by at p Broken = refused 4 at
-node_by at p (Is k) = cond (node_fits (length p.nodes) (lines_of p.nodes) k) (going (at + 14) 2 (with_node p k)) (refused 4 at)
+abbrev pub node_by : ℕ → Parsed → Option NodeKind → Progress
+node_by at p None = refused 4 at
+node_by at p (Some k) = cond (node_fits (length p.nodes) (lines_of p.nodes) k) (going (at + 14) 2 (with_node p k)) (refused 4 at)
 
 abbrev pub wire_by : ℕ → Parsed → ℕ → ℕ → Progress
 wire_by at p s t = cond (wire_fits (length p.nodes) (length p.wires) s t) (going (at + 8) 3 (with_wire p s t)) (refused 5 at)
@@ -99,13 +97,13 @@ wire_by at p s t = cond (wire_fits (length p.nodes) (length p.wires) s t) (going
 abbrev pub end_by : List ℕ → ℕ → Parsed → Progress
 end_by s at p = cond (eqb (at + 4) (length s)) (whole p) (refused 1 (at + 4))
 
--- what the record found at an offset does to the board p
-unfoldable pub take_found : List ℕ → ℕ → Parsed → Found → Progress
-take_found s at p Head = head_by at (u16_at s (at + 4)) (u16_at s (at + 6))
-take_found s at p Node = node_by at p (rule_of (u16_at s (at + 4)) (u32_at s (at + 6)) (u32_at s (at + 10)))
-take_found s at p found.Wire = wire_by at p (u16_at s (at + 4)) (u16_at s (at + 6))
-take_found s at p End = end_by s at p
-take_found s at p (Refused n) = refused n at
+-- what the record found at an offset, or its refusal, does to the board p
+unfoldable pub take_found : List ℕ → ℕ → Parsed → Result Found ℕ → Progress
+take_found s at p (Ok Head) = head_by at (u16_at s (at + 4)) (u16_at s (at + 6))
+take_found s at p (Ok Node) = node_by at p (rule_of (u16_at s (at + 4)) (u32_at s (at + 6)) (u32_at s (at + 10)))
+take_found s at p (Ok found.Wire) = wire_by at p (u16_at s (at + 4)) (u16_at s (at + 6))
+take_found s at p (Ok End) = end_by s at p
+take_found s at p (Err n) = refused n at
 
 -- one record more; a reading that is done stays as it is
 unfoldable pub step_of : List ℕ → Progress → Progress

@@ -1,26 +1,33 @@
 -- The reading in three parts, as the code takes them one after the other: head, nodes, wires. Definitions only.
-use Rattle.std.specs.Prelude.{ℕ, suc, ◌+◌, ◌*◌, ◌/◌, ◌%◌, min, ◌≤◌, ◌<◌, ◌≡◌, List, [], Bool, false, cond, ◌&&◌, length, get_or, take, leb, eqb}
+use Rattle.std.specs.Prelude.{ℕ, suc, ◌+◌, ◌*◌, ◌/◌, ◌%◌, min, ◌≤◌, ◌<◌, ◌≡◌, List, [], Bool, false, cond, ◌&&◌, length, get_or, take, leb, eqb, Option, Some, None, Result, Ok, Err}
 use Rattle.values.specs.Bytes.{u16_at, u32_at}
 use Rattle.kinds.specs.Kind.{rule_of, fewest, most}
+use Rattle.kinds.specs.declared.kind.NodeKind.{NodeKind}
 use Rattle.kinds.specs.declared.kind.NodeRecord.{NodeRecord}
-use Rattle.kinds.specs.declared.kind.Fields.{Fields}
-use Rattle.kinds.specs.declared.kind.Fields.TheVariants as fields
 use Rattle.reading.specs.Order.{Wire}
-use Rattle.boards.specs.Board.{Parsed, Progress, going, refused, blank, headed, cells_of, node_fits, wire_fits, end_by, step_of, run}
+use Rattle.boards.specs.Board.{Parsed, Progress, going, refused, whole, blank, headed, cells_of, node_fits, wire_fits, end_by, step_of, run}
 use Rattle.sources.specs.Sources.{distinct_sources}
-use Rattle.boards.specs.Wires.{Within, wires_of}
+use Rattle.boards.specs.Wires.{Joined, wires_of}
+use Rattle.records.specs.Answer.{answer}
 use Rattle.records.specs.declared.answer.Answer.{Answer}
 use Rattle.records.specs.declared.record.Found.{Found}
 use Rattle.records.specs.declared.record.Found.TheVariants as found
 use Rattle.boards.specs.declared.board.Head.{Head}
-use Rattle.boards.specs.declared.board.Nodes.{Nodes}
+use Rattle.boards.specs.declared.nodes.Nodes.{Nodes}
 use Rattle.boards.specs.declared.board.Wires.{Wires}
-use Rattle.boards.specs.declared.board.NodeRead.{NodeRead}
-use Rattle.boards.specs.declared.board.NodeRead.TheVariants as node
 
 -- a reading, unless the answer is a refusal
 abbrev pub or_refused : Answer → Progress → Progress
 or_refused a r = cond (eqb a.number 0) r (refused a.number a.place)
+
+-- a reading that is refused with this answer
+abbrev pub Refuses : Progress → Answer → Type 0
+Refuses v a = (0 < a.number) × (v ≡ refused a.number a.place)
+
+-- what a check comes to: it passes, and the reading is the board p, or it is refused with that answer
+abbrev pub Decides : Progress → Parsed → Result (Unit {0}) Answer → Type 0
+Decides v p (Ok _) = v ≡ whole p
+Decides v p (Err a) = Refuses v a
 
 -- a board of these nodes, without wires
 abbrev pub noded : ℕ → ℕ → List NodeRecord → Parsed
@@ -40,34 +47,39 @@ made_of h n ws = wired (noded h.size h.input (take n.count n.nodes)) ws
 abbrev pub starts_with : List ℕ → ℕ → ℕ → ℕ → Bool
 starts_with s at z k = leb (at + z) (length s) && eqb (u16_at s at) z && eqb (u16_at s (at + 2)) k
 
--- what a record of the nodes says, or the number that ends them, 0 where another kind follows and else the refusal's
+-- what a record of the nodes says: a node, nothing where another kind follows, or its refusal
 
-abbrev pub node_body : ℕ → ℕ → Fields → NodeRead
-node_body i lines fields.Broken = node.Ends 4
-node_body i lines (fields.Is k) = cond (node_fits i lines k) (node.Is k) (node.Ends 4)
+abbrev pub node_body : ℕ → ℕ → ℕ → Option NodeKind → Result (Option NodeKind) Answer
+node_body at i lines None = Err (answer 4 at)
+node_body at i lines (Some k) = cond (node_fits i lines k) (Ok (Some k)) (Err (answer 4 at))
 
-unfoldable pub node_read : List ℕ → ℕ → ℕ → ℕ → Found → NodeRead
-node_read s at i lines found.Head = node.Ends 0
-node_read s at i lines found.Node = node_body i lines (rule_of (u16_at s (at + 4)) (u32_at s (at + 6)) (u32_at s (at + 10)))
-node_read s at i lines found.Wire = node.Ends 0
-node_read s at i lines found.End = node.Ends 0
-node_read s at i lines (found.Refused n) = node.Ends n
+unfoldable pub node_read : List ℕ → ℕ → ℕ → ℕ → Result Found ℕ → Result (Option NodeKind) Answer
+node_read s at i lines (Ok found.Head) = Ok None
+node_read s at i lines (Ok found.Node) = node_body at i lines (rule_of (u16_at s (at + 4)) (u32_at s (at + 6)) (u32_at s (at + 10)))
+node_read s at i lines (Ok found.Wire) = Ok None
+node_read s at i lines (Ok found.End) = Ok None
+node_read s at i lines (Err n) = Err (answer n at)
 
 -- the record found at an offset is a wire that may follow w wires, on a board of i nodes
-abbrev pub is_wire : List ℕ → ℕ → ℕ → ℕ → Found → Bool
-is_wire s at i w found.Head = false
-is_wire s at i w found.Node = false
-is_wire s at i w found.Wire = wire_fits i w (u16_at s (at + 4)) (u16_at s (at + 6))
-is_wire s at i w found.End = false
-is_wire s at i w (found.Refused n) = false
+abbrev pub is_wire : List ℕ → ℕ → ℕ → ℕ → Result Found ℕ → Bool
+is_wire s at i w (Ok found.Head) = false
+is_wire s at i w (Ok found.Node) = false
+is_wire s at i w (Ok found.Wire) = wire_fits i w (u16_at s (at + 4)) (u16_at s (at + 6))
+is_wire s at i w (Ok found.End) = false
+is_wire s at i w (Err n) = false
 
--- the number that ends the nodes or the wires where the record found is none of theirs; a wire there has the number w
-abbrev pub part_end : ℕ → Found → ℕ
-part_end w found.Head = 0
-part_end w found.Node = 0
-part_end w found.Wire = w
-part_end w found.End = 0
-part_end w (found.Refused n) = n
+-- what ends the nodes, where the record found is none of theirs: the next part, or a refusal
+abbrev pub nodes_end : ℕ → Result Found ℕ → Result (Option NodeKind) Answer
+nodes_end at (Ok f) = Ok None
+nodes_end at (Err n) = Err (answer n at)
+
+-- what ends the wires, where the record found is none that may follow: the end record, or a refusal; a wire there is refused with 5
+abbrev pub wires_end : ℕ → Result Found ℕ → Result (Unit {0}) Answer
+wires_end at (Ok found.Head) = Ok tt
+wires_end at (Ok found.Node) = Ok tt
+wires_end at (Ok found.Wire) = Err (answer 5 at)
+wires_end at (Ok found.End) = Ok tt
+wires_end at (Err n) = Err (answer n at)
 
 -- ---- what each part gives
 
@@ -75,15 +87,19 @@ part_end w (found.Refused n) = n
 abbrev pub Bounds : NodeRecord → ℕ → Type 0
 Bounds r b = (b / 16 ≡ fewest r.kind) × (b % 16 ≡ most r.kind)
 
--- the head, which stands for the reading v
-pub record HeadRead (v : Progress) (h : Head) : Type 0 where
-  pub reads : v ≡ or_refused h.refused (going 8 1 (headed h.size h.input))
+-- the head that the reading v comes to
+pub record Headed (v : Progress) (h : Head) : Type 0 where
+  pub reads : v ≡ going 8 1 (headed h.size h.input)
   pub small : h.size ≤ 128
   pub input_small : h.input < 65536
 
+abbrev pub HeadRead : Progress → Result Head Answer → Type 0
+HeadRead v (Ok h) = Headed v h
+HeadRead v (Err a) = Refuses v a
+
 -- from a head with block size N, whatever its input node: so many nodes, and then a step that goes as after a wire
-pub record NodesRead (s : List ℕ) (N : ℕ) (r : Nodes) : Type 0 where
-  pub reads : (i : ℕ) → run (suc r.count) s (going 8 2 (headed N i)) ≡ or_refused r.refused (step_of s (going r.next 3 (noded N i (take r.count r.nodes))))
+pub record Noded (s : List ℕ) (N : ℕ) (r : Nodes) : Type 0 where
+  pub reads : (i : ℕ) → run (suc r.count) s (going 8 2 (headed N i)) ≡ step_of s (going r.next 3 (noded N i (take r.count r.nodes)))
   pub long : length r.nodes ≡ 64
   pub few : r.count ≤ 64
   pub bound : (i : ℕ) → i < r.count → Bounds (get_or r.nodes i blank) (get_or r.bounds i 0)
@@ -92,16 +108,29 @@ pub record NodesRead (s : List ℕ) (N : ℕ) (r : Nodes) : Type 0 where
   pub next_is : r.next ≡ 8 + 14 * r.count
   pub inside : r.next ≤ length s
 
--- from a board of n nodes: so many wires, in the arrays ss and ts, and then the end record
-pub record WiresRead (s : List ℕ) (start n : ℕ) (r : Wires) (ss ts : List ℕ) : Type 0 where
-  pub reads : (p : Parsed) → length p.nodes ≡ n → p.wires ≡ [] → run (suc r.count) s (going start 3 p) ≡ or_refused r.refused (end_by s r.next (wired p (wires_of ss ts r.count)))
-  pub sources_long : length ss ≡ 128
-  pub targets_long : length ts ≡ 128
-  pub few : r.count ≤ 128
-  pub sources_in : Within n ss r.count
-  pub targets_in : Within n ts r.count
-  pub next_is : r.next ≡ start + 8 * r.count
-  pub inside : r.next ≤ length s
+-- so many nodes, and then a refusal
+pub record NodesRefused (s : List ℕ) (N : ℕ) (a : Answer) : Type 0 where
+  pub count : ℕ
+  pub inside : 8 + 14 * count ≤ length s
+  pub some : 0 < a.number
+  pub reads : (i : ℕ) → run (suc count) s (going 8 2 (headed N i)) ≡ refused a.number a.place
+
+abbrev pub NodesRead : List ℕ → ℕ → Result Nodes Answer → Type 0
+NodesRead s N (Ok r) = Noded s N r
+NodesRead s N (Err a) = NodesRefused s N a
+
+-- from a board of n nodes: so many wires, whether the end record follows or a refusal
+pub record Wired (s : List ℕ) (start n : ℕ) (w : Wires) (next : ℕ) (v : Parsed → Progress) : Type 0 where
+  pub reads : (p : Parsed) → length p.nodes ≡ n → p.wires ≡ [] → run (suc w.count) s (going start 3 p) ≡ v (wired p (wires_of w.list w.count))
+  pub long : length w.list ≡ 128
+  pub few : w.count ≤ 128
+  pub joined : Joined n w.list w.count
+  pub next_is : next ≡ start + 8 * w.count
+  pub inside : next ≤ length s
+
+abbrev pub WiresRead : List ℕ → ℕ → ℕ → Wires → Result ℕ Answer → Type 0
+WiresRead s start n w (Ok next) = Wired s start n w next (end_by s next)
+WiresRead s start n w (Err a) = (0 < a.number) × Wired s start n w a.place (λ _. refused a.number a.place)
 
 -- ---- check 6 on arrays
 

@@ -19,7 +19,7 @@ pub record Formed (p : Parsed) : Type 0 where
 
 -- node v of an accepted board's table: at most eight sources, all of them listed, and nodes
 pub record TableAt (b : Board) (v : ℕ) : Type 0 where
-  pub few : get_or b.counts v 0 ≤ 8
-  pub count_is : get_or b.counts v 0 ≡ length (distinct_sources (wires_of b.sources b.targets b.wires) v)
-  pub source_is : (j : ℕ) → j < get_or b.counts v 0 → get_or b.lists (8 * v + j) 0 ≡ get_or (distinct_sources (wires_of b.sources b.targets b.wires) v) j 0
-  pub source_in : (j : ℕ) → j < get_or b.counts v 0 → get_or b.lists (8 * v + j) 0 < b.count
+  pub few : get_or b.sources.counts v 0 ≤ 8
+  pub count_is : get_or b.sources.counts v 0 ≡ length (distinct_sources (wires_of b.wires.list b.wires.count) v)
+  pub source_is : (j : ℕ) → j < get_or b.sources.counts v 0 → get_or b.sources.lists (8 * v + j) 0 ≡ get_or (distinct_sources (wires_of b.wires.list b.wires.count) v) j 0
+  pub source_in : (j : ℕ) → j < get_or b.sources.counts v 0 → get_or b.sources.lists (8 * v + j) 0 < b.count

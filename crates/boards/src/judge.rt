@@ -1,146 +1,103 @@
 // The board judge: check 6, with the table of sources, and the board that all calls work on.
-ghost use Rattle.std.specs.Prelude.{◌≡◌, true, ◌&&◌, ◌≤◌, ◌<◌, ltb, length};
-ghost use Rattle.kinds.specs.Kind.{is_pass};
-ghost use Rattle.boards.specs.Board.{Parsed, whole};
+ghost use Rattle.std.specs.Prelude.{◌≡◌, true, ◌&&◌, ◌/◌, ◌%◌, ◌≤◌, ◌<◌, leb, length, take};
+ghost use Rattle.boards.specs.Board.{Parsed};
 ghost use Rattle.boards.specs.Judge.{pass_at, check_sources, check_six, read_board, judge_of};
-ghost use Rattle.boards.specs.BoardParts.{or_refused, Counts, AllFit};
+ghost use Rattle.boards.specs.BoardParts.{Decides, Counts, AllFit};
 ghost use Rattle.boards.specs.Read.{Read};
 
-use crate::board::{Board, read_end, read_head, read_nodes, read_wires, refusal};
-use kinds::kind::{NodeRecord, is_pass};
+use crate::board::{Board, Wires, read_end, read_head, read_nodes, read_wires};
+use crate::nodes::Nodes;
+use kinds::kind::is_pass;
 use records::answer::Answer;
+use sources::sources::Sources;
 
-// Whether each of the first `count` nodes has as many sources as its type takes. All are looked at, so
-// that several go at once.
-fn all_fit(bounds: &[u8; 64], counts: &[u8; 64], count: usize) -> bool
-    requires { count ≤ 64 }
-    ensures { result ≡ true → AllFit bounds.now counts.now count }
+// Whether a node with n distinct sources has as many as its bounds allow.
+fn fits(bounds: u8, n: u8) -> bool
+    ensures { result ≡ leb (bounds / 16) n && leb n (bounds % 16) }
 {
-    let mut wrong = false;
-    let mut i = 0;
-    while i < count {
-        wrong = wrong | (counts[i] < bounds[i] / 16) | (bounds[i] % 16 < counts[i]);
-        i += 1;
-    }
-    !wrong
+    (bounds / 16 <= n) & (n <= bounds % 16)
 }
 
-// The lowest node with a wrong number of sources is refused.
-fn sources_judged(bounds: &[u8; 64], counts: &[u8; 64], count: usize) -> Answer
-    requires { count ≤ 64 }
-    ensures { (p : Parsed) → length p.nodes ≡ count → Counts p bounds.now counts.now
-        → check_sources p 0 p.nodes ≡ or_refused result (whole p) }
+// Whether each of the nodes has as many sources as its type takes. All are looked at, so that several
+// go at once. An index: the bounds and the counts are read at the same place.
+fn all_fit(nodes: &Nodes, counts: &[u8; 64]) -> bool
+    ensures { result ≡ true → AllFit nodes.now.bounds counts.now nodes.now.count }
 {
-    let mut i = 0;
-    while i < count {
-        if (counts[i] < bounds[i] / 16) | (bounds[i] % 16 < counts[i]) {
-            return Answer::new(6, i);
+    let mut all = true;
+    for i in 0..nodes.count {
+        all &= fits(nodes.bounds[i], counts[i]);
+    }
+    all
+}
+
+// The lowest node with a wrong number of sources is refused. An index, as above.
+fn sources_judged(nodes: &Nodes, counts: &[u8; 64]) -> Result<(), Answer>
+    ensures { (p : Parsed) → length p.nodes ≡ nodes.now.count → Counts p nodes.now.bounds counts.now → Decides (check_sources p 0 p.nodes) p result }
+{
+    for i in 0..nodes.count {
+        if !fits(nodes.bounds[i], counts[i]) {
+            return Err(Answer::new(6, i));
         }
-        i += 1;
     }
-    Answer::new(0, 0)
+    Ok(())
 }
 
-// The refusal that ended the records, or check 6: there is a node 0, then the input node, which is a
-// pass without wires in, then the sources of each node.
-fn judged(
-    ended: Answer,
-    pass: bool,
-    input: usize,
-    bounds: &[u8; 64],
-    counts: &[u8; 64],
-    count: usize,
-) -> Answer
-    requires { (count ≤ 64) × (input < 65536) × (pass ≡ true → input < count) }
-    ensures { (p : Parsed) → length p.nodes ≡ count → p.input ≡ input → pass_at p.nodes input ≡ pass
-        → Counts p bounds.now counts.now → or_refused ended (check_six p) ≡ or_refused result (whole p) }
+// Whether node i is one of the nodes and a pass.
+fn pass_at(nodes: &Nodes, i: usize) -> bool
+    ensures { result ≡ pass_at (take nodes.now.count nodes.now.nodes) i }
 {
-    if ended.number != 0 {
-        return ended;
+    i < nodes.count && is_pass(nodes.nodes[i].kind)
+}
+
+// Check 6: there is a node 0, then the input node, which is a pass without wires in, then the sources
+// of each node.
+fn judged(nodes: &Nodes, input: usize, counts: &[u8; 64]) -> Result<(), Answer>
+    requires { input < 65536 }
+    ensures { (p : Parsed) → p.nodes ≡ take nodes.now.count nodes.now.nodes → p.input ≡ input
+        → Counts p nodes.now.bounds counts.now → Decides (check_six p) p result }
+{
+    if nodes.count == 0 {
+        return Err(Answer::new(6, 0));
     }
-    if count == 0 {
-        return Answer::new(6, 0);
-    }
-    if !pass {
-        return Answer::new(6, input);
+    if !pass_at(nodes, input) {
+        return Err(Answer::new(6, input));
     }
     if counts[input] != 0 {
-        return Answer::new(6, input);
+        return Err(Answer::new(6, input));
     }
-    if all_fit(bounds, counts, count) {
-        Answer::new(0, 0)
+    if all_fit(nodes, counts) {
+        Ok(())
     } else {
-        sources_judged(bounds, counts, count)
+        sources_judged(nodes, counts)
     }
-}
-
-// The index i, or 0 where there are not so many nodes.
-fn index_of(i: usize, count: usize) -> usize
-    requires { count ≤ 64 }
-    ensures { (result < 64) × (i < count → result ≡ i) }
-{
-    if i < count { i } else { 0 }
-}
-
-// Whether node i, which this is if it is one of the nodes, is one of them and a pass.
-fn pass_at(node: NodeRecord, i: usize, count: usize) -> bool
-    ensures { result ≡ ltb i count && is_pass node.kind }
-{
-    let kind = node.kind;
-    (i < count) & is_pass(kind)
 }
 
 // The board that the bytes hold, or the first refusal: checks 1 to 6. One function puts the parts
 // together, since each that hands a board on copies it.
 // Ruled out, and tried by must-fail edits: one that refuses every board (refuses_all), one that takes
 // the second distinct source for the second wire's (sources, second_distinct).
-pub fn read_board(s: &[u8]) -> Board
+pub fn read_board(s: &[u8]) -> Result<Board, Answer>
     ensures { Read (read_board s.now) result }
 {
-    let head = read_head(s);
-    let headless = head.refused;
-    if headless.number != 0 {
-        return refusal(headless);
-    }
-    let read = read_nodes(s, head.size);
-    let unread = read.refused;
-    if unread.number != 0 {
-        return refusal(unread);
-    }
-    let mut sources = [0u8; 128];
-    let mut targets = [0u8; 128];
-    let mut counts = [0u8; 64];
-    let mut lists = [0u8; 512];
-    let mut seconds = [0u8; 64];
-    let wired = read_wires(
-        s,
-        read.next,
-        read.count,
-        &mut sources,
-        &mut targets,
-        &mut counts,
-        &mut lists,
-        &mut seconds,
-    );
-    let ended = read_end(s, wired);
-    let at = index_of(head.input, read.count);
-    let node = read.nodes[at];
-    let pass = pass_at(node, head.input, read.count);
-    let nodes = read.nodes;
-    Board {
-        refused: judged(ended, pass, head.input, &read.bounds, &counts, read.count),
+    let head = read_head(s)?;
+    let nodes = read_nodes(s, head.size)?;
+    let mut wires = Wires {
+        list: [(0, 0); 128],
+        count: 0,
+    };
+    let mut sources = Sources::none();
+    let end = read_wires(s, nodes.next, nodes.count, &mut wires, &mut sources)?;
+    read_end(s, end)?;
+    judged(&nodes, head.input, &sources.counts)?;
+    Ok(Board {
         size: head.size,
         input: head.input,
-        count: read.count,
-        nodes,
-        values: read.values,
-        wires: wired.count,
+        count: nodes.count,
+        nodes: nodes.nodes,
+        values: nodes.values,
+        wires,
         sources,
-        targets,
-        counts,
-        lists,
-        seconds,
-    }
+    })
 }
 
 // The board judge: a refusal, or 0 and the memory's length.
@@ -149,11 +106,8 @@ pub fn read_board(s: &[u8]) -> Board
 pub fn judge(s: &[u8]) -> Answer
     ensures { result ≡ judge_of s.now }
 {
-    let board = read_board(s);
-    let refused = board.refused;
-    if refused.number == 0 {
-        Answer::new(0, 4 * board.values)
-    } else {
-        refused
+    match read_board(s) {
+        Ok(board) => Answer::new(0, 4 * board.values),
+        Err(refusal) => refusal,
     }
 }

@@ -9,20 +9,21 @@ use native.Mathlib.Omega.{arith}
 use borrow.Author.Tests.{ltb-false, le-ltb, leb-true, eqb-true, eqb-false}
 use lib.ListN.{length, drop, length-drop}
 use lib.Dec.{ltb, leb, eqb}
+use Rattle.std.specs.Prelude.{Result, Ok, Err}
 use Rattle.values.specs.Bytes.{u16_at}
 use Rattle.records.specs.Record.{in_order, sized, found_of, found_at}
 use Rattle.records.specs.declared.record.Found.{Found}
-use Rattle.records.specs.declared.record.Found.TheVariants.{Head, Node, Wire, End, Refused}
+use Rattle.records.specs.declared.record.Found.TheVariants.{Head, Node, Wire, End}
 use Rattle.reading.proofs.Choice.{pick, both, neither}
 use Rattle.records.proofs.RoundBytes.{u16_on}
 
 -- ---- by the bytes from the offset on
 
 -- `found_at` at offset 0 of the part
-abbrev found_in : List ℕ → ℕ → Found
+abbrev found_in : List ℕ → ℕ → Result Found ℕ
 found_in b last =
-    cond (ltb (length b) 4 || ltb (length b) (u16_at b 0)) (Refused 1)
-    (cond (in_order last (u16_at b 2)) (found_of (u16_at b 2) (u16_at b 0)) (Refused 2))
+    cond (ltb (length b) 4 || ltb (length b) (u16_at b 0)) (Err 1)
+    (cond (in_order last (u16_at b 2)) (found_of (u16_at b 2) (u16_at b 0)) (Err 2))
 
 found_part : (s : List ℕ) (at last : ℕ) → found_at s at last ≡ found_in (drop at s) last
 unfolding found_at
@@ -30,15 +31,15 @@ found_part s at last =
     let l : length s - at ≡ length (drop at s) = sym (length-drop at s) in
     let z : u16_at s at ≡ u16_at (drop at s) 0 = u16_on s at 0 at (omega arith) in
     let k : u16_at s (at + 2) ≡ u16_at (drop at s) 2 = u16_on s at 2 (at + 2) refl in
-    λ i. cond (ltb (l i) 4 || ltb (l i) (z i)) (Refused 1) (cond (in_order last (k i)) (found_of (k i) (z i)) (Refused 2))
+    λ i. cond (ltb (l i) 4 || ltb (l i) (z i)) (Err 1) (cond (in_order last (k i)) (found_of (k i) (z i)) (Err 2))
 
 -- a whole record of kind k and length z, where kind k may stand
 pub found_in_lem : (s : List ℕ) (at last : ℕ) (b : List ℕ) (k z : ℕ) → drop at s ≡ b → u16_at b 0 ≡ z → u16_at b 2 ≡ k → 4 ≤ length b
     → z ≤ length b → in_order last k ≡ true → found_at s at last ≡ found_of k z
 found_in_lem s at last b k z eb ez ek l₄ lz o =
     found_part s at last ∙ ap (λ (x : List ℕ). found_in x last) eb
-    ∙ (λ i. cond (le-ltb (length b) 4 l₄ i || ltb (length b) (ez i)) (Refused 1) (cond (in_order last (ek i)) (found_of (ek i) (ez i)) (Refused 2)))
-    ∙ (λ i. cond (le-ltb (length b) z lz i) (Refused 1) (cond (o i) (found_of k z) (Refused 2)))
+    ∙ (λ i. cond (le-ltb (length b) 4 l₄ i || ltb (length b) (ez i)) (Err 1) (cond (in_order last (ek i)) (found_of (ek i) (ez i)) (Err 2)))
+    ∙ (λ i. cond (le-ltb (length b) z lz i) (Err 1) (cond (o i) (found_of k z) (Err 2)))
 
 -- ---- what was found
 
@@ -48,12 +49,12 @@ pub record Stands (b : List ℕ) (k z : ℕ) : Type 0 where
   pub length_is : u16_at b 0 ≡ z
   pub kind_is : u16_at b 2 ≡ k
 
-abbrev pub Told : List ℕ → ℕ → Found → Type 0
-Told b last Head = Stands b 1 8 × (last ≡ 0)
-Told b last Node = Stands b 2 14 × (1 ≤ last) × (last ≤ 2)
-Told b last Wire = Stands b 3 8 × (1 ≤ last)
-Told b last End = Stands b 4 4 × (1 ≤ last)
-Told b last (Refused n) = 0 < n
+abbrev pub Told : List ℕ → ℕ → Result Found ℕ → Type 0
+Told b last (Ok Head) = Stands b 1 8 × (last ≡ 0)
+Told b last (Ok Node) = Stands b 2 14 × (1 ≤ last) × (last ≤ 2)
+Told b last (Ok Wire) = Stands b 3 8 × (1 ≤ last)
+Told b last (Ok End) = Stands b 4 4 × (1 ≤ last)
+Told b last (Err n) = 0 < n
 
 -- what `in_order` says
 abbrev Ordered : ℕ → ℕ → Type 0
@@ -68,9 +69,9 @@ order_told last k =
 
 module _ (b : List ℕ) (last : ℕ) where
   -- a record of kind k whose length is that of its kind
-  sized_told : (k n : ℕ) (f : Found) → u16_at b 2 ≡ k → u16_at b 0 ≤ length b → (Stands b k n → Told b last f) → Told b last (sized (u16_at b 0) n f)
+  sized_told : (k n : ℕ) (f : Found) → u16_at b 2 ≡ k → u16_at b 0 ≤ length b → (Stands b k n → Told b last (Ok f)) → Told b last (sized (u16_at b 0) n f)
   sized_told k n f e l h =
-      pick (Told b last) (eqb (u16_at b 0) n) f (Refused 1)
+      pick (Told b last) (eqb (u16_at b 0) n) (Ok f) (Err 1)
       (λ q. let z = eqb-true (u16_at b 0) n q in h (record { long = omega arith; length_is = z; kind_is = e }))
       (λ _. omega arith)
 
@@ -93,5 +94,5 @@ module _ (b : List ℕ) (last : ℕ) where
       (λ e. pick (Told b last) (in_order last (u16_at b 2)) _ _
       (λ o. kind_told (ltb-false (length b) (u16_at b 0) (neither (ltb (length b) 4) _ e).1) (order_told last (u16_at b 2) o)) (λ _. omega arith))
 
-pub found_told : (s : List ℕ) (at last : ℕ) (f : Found) → found_at s at last ≡ f → Told (drop at s) last f
+pub found_told : (s : List ℕ) (at last : ℕ) (f : Result Found ℕ) → found_at s at last ≡ f → Told (drop at s) last f
 found_told s at last f e = subst (Told (drop at s) last) (sym (found_part s at last) ∙ e) (part_told (drop at s) last)

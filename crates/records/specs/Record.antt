@@ -1,11 +1,11 @@
 -- The record at an offset (document 01, "Board bytes" and "Answers by number"): a length (2 bytes, the whole record), a kind (2 bytes)
 -- and a body. A cut record is refused first (1), then a kind that is unknown or out of order (2), then a wrong length (1).
 -- Definitions only.
-use Rattle.std.specs.Prelude.{ℕ, ◌+◌, ◌-◌, List, Bool, cond, ◌&&◌, ◌||◌, length, ltb, leb, eqb}
+use Rattle.std.specs.Prelude.{ℕ, ◌+◌, ◌-◌, List, Bool, cond, ◌&&◌, ◌||◌, length, ltb, leb, eqb, Result, Ok, Err}
 use Rattle.values.specs.Bytes.{u16_at}
 use Rattle.records.specs.declared.reader.Reader.{Reader}
 use Rattle.records.specs.declared.record.Found.{Found}
-use Rattle.records.specs.declared.record.Found.TheVariants.{Head, Node, Wire, End, Refused}
+use Rattle.records.specs.declared.record.Found.TheVariants.{Head, Node, Wire, End}
 
 -- fewer than 4 bytes are left, or fewer than the record's length
 abbrev pub cut : List ℕ → ℕ → Bool
@@ -16,32 +16,36 @@ abbrev pub in_order : ℕ → ℕ → Bool
 in_order last k = cond (eqb last 0) (eqb k 1) (leb 2 k && leb last k && leb k 4)
 
 -- f, if the length z is n
-abbrev pub sized : ℕ → ℕ → Found → Found
-sized z n f = cond (eqb z n) f (Refused 1)
+abbrev pub sized : ℕ → ℕ → Found → Result Found ℕ
+sized z n f = cond (eqb z n) (Ok f) (Err 1)
 
 -- a record of kind k and length z: head 8, node 14, wire 8, end 4
-unfoldable pub found_of : ℕ → ℕ → Found
+unfoldable pub found_of : ℕ → ℕ → Result Found ℕ
 found_of k z =
     cond (eqb k 1) (sized z 8 Head)
     (cond (eqb k 2) (sized z 14 Node)
     (cond (eqb k 3) (sized z 8 Wire)
     (sized z 4 End)))
 
--- what stands at an offset, after a record of kind `last`
-unfoldable pub found_at : List ℕ → ℕ → ℕ → Found
+-- what stands at an offset, after a record of kind `last`, or the number of its refusal
+unfoldable pub found_at : List ℕ → ℕ → ℕ → Result Found ℕ
 found_at s at last =
-    cond (cut s at) (Refused 1)
+    cond (cut s at) (Err 1)
     (cond (in_order last (u16_at s (at + 2))) (found_of (u16_at s (at + 2)) (u16_at s at))
-    (Refused 2))
+    (Err 2))
+
+-- the length of a record of a kind
+abbrev pub record_length : Found → ℕ
+record_length Head = 8
+record_length Node = 14
+record_length Wire = 8
+record_length End = 4
 
 -- how far a reader moves: the length of the record found, and 0 where it is refused
-abbrev pub length_of : Found → ℕ
-length_of Head = 8
-length_of Node = 14
-length_of Wire = 8
-length_of End = 4
-length_of (Refused n) = 0
+abbrev pub length_of : Result Found ℕ → ℕ
+length_of (Ok f) = record_length f
+length_of (Err n) = 0
 
 -- the reader past the record that it found
-abbrev pub passed : Reader → Found → Reader
+abbrev pub passed : Reader → Result Found ℕ → Reader
 passed r f = record { bytes = r.bytes; at = r.at + length_of f }

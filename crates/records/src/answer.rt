@@ -1,8 +1,9 @@
 // What a call gives back.
 ghost use Rattle.std.specs.Prelude.{◌≡◌, ◌<◌};
-ghost use Rattle.records.specs.Answer.{answer};
+ghost use Rattle.records.specs.Answer.{answer, checked};
 
-// A number, 0 for success, and a place (document 01, "Answers by number").
+// A number, 0 for success, and a place. Refusals stay numbers: document 01 numbers them ("Answers by
+// number"), and the calls hand them to C as they are.
 #[repr(C)]
 #[derive(Clone, Copy)]
 pub struct Answer {
@@ -19,5 +20,13 @@ impl Answer {
             number,
             place: place as u32,
         }
+    }
+
+    // The same for `?`: a refusal is an error.
+    // Ruled out, and tried by a must-fail edit: a refusal that passes (refusal_passed).
+    pub fn checked(self) -> Result<(), Answer>
+        ensures { result ≡ checked self }
+    {
+        if self.number == 0 { Ok(()) } else { Err(self) }
     }
 }

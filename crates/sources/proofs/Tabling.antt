@@ -12,7 +12,8 @@ use lib.Dec.{ltb, eqb}
 use Rattle.reading.specs.Table.{mem}
 use Rattle.reading.specs.Order.{Wire, sources, wire}
 use Rattle.sources.specs.Sources.{add_new, add_all, distinct, distinct_sources, second_source, Tabled}
-use Rattle.sources.specs.Gather.{among, settled, count_with, list_with, second_with}
+use Rattle.sources.specs.Gather.{among, settled, count_with, list_with, second_with, Added}
+use Rattle.sources.specs.declared.sources.Sources.{Sources}
 use Rattle.reading.proofs.Choice.{pick, neither}
 
 -- ---- the definitions, with one wire more
@@ -246,3 +247,10 @@ module _ (ws : List Wire) (counts lists seconds ins : List ℕ) (h : Tabling ws 
       ins_long = length-set ins t (get_or ins t 0 + 1) ∙ h.ins_long;
       entered = ins_each;
     }
+
+-- the same of the table that `Sources::add` leaves
+pub tabling_added : {ws : List Wire} {old new : Sources} {ins : List ℕ} (a t : ℕ) → t < 64 → Tabling ws old.counts old.lists old.seconds ins
+    → Added t (get_or ins t 0) a old new
+    → Tabling (ws ++ (wire a t ∷ [])) new.counts new.lists new.seconds (set ins t (get_or ins t 0 + 1))
+tabling_added {ws} {old} {new} {ins} a t node h e =
+    rw (e.counts_is, e.lists_is, e.seconds_is) (tabling_more ws old.counts old.lists old.seconds ins h a t node)

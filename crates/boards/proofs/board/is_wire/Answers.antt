@@ -13,4 +13,4 @@ returns-then-starts_with c =
 pub returns-else-starts_with : goal.returns-else-starts_with
 returns-else-starts_with c =
     let a = c.args in
-    sym (starts_no_wire a.s.now a.at a.i a.w (sym c.starts_with.ensures ∙ c.if-starts_with.false))
+    c.if-starts_with.false ∙ sym (starts_no_wire a.s.now a.at a.i a.w (sym c.starts_with.ensures ∙ c.if-starts_with.false))

@@ -12,4 +12,4 @@ returns-then-starts_with c =
 pub returns-else-starts_with : goal.returns-else-starts_with
 returns-else-starts_with c =
     let a = c.args in
-    rw c.part_end.ensures (sym (starts_no_node a.s.now a.at a.i a.lines (sym c.starts_with.ensures ∙ c.if-starts_with.false)))
+    c.nodes_end.ensures ∙ (sym (starts_no_node a.s.now a.at a.i a.lines (sym c.starts_with.ensures ∙ c.if-starts_with.false)))

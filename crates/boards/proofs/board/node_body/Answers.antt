@@ -5,13 +5,13 @@ use Rattle.boards.proofs.board.node_body.Goals as goal
 pub returns-then-node_fits : goal.returns-then-node_fits
 unfolding node_read
 returns-then-node_fits c =
-    simp (← c.u16_at-t.ensures, ← c.u32_at-n.ensures, ← c.u32_at-f.ensures, ← c.in-Is.ensures, ← c.node_fits.ensures, c.if-node_fits.true)
+    simp (← c.u16_at-t.ensures, ← c.u32_at-n.ensures, ← c.u32_at-f.ensures, ← c.in-Some.ensures, ← c.node_fits.ensures, c.if-node_fits.true)
 
 pub returns-else-node_fits : goal.returns-else-node_fits
 unfolding node_read
 returns-else-node_fits c =
-    simp (← c.u16_at-t.ensures, ← c.u32_at-n.ensures, ← c.u32_at-f.ensures, ← c.in-Is.ensures, ← c.node_fits.ensures, c.if-node_fits.false)
+    simp (← c.u16_at-t.ensures, ← c.u32_at-n.ensures, ← c.u32_at-f.ensures, ← c.in-Some.ensures, ← c.node_fits.ensures, c.if-node_fits.false, c.new.ensures)
 
-pub returns-in-Broken : goal.returns-in-Broken
+pub returns-in-None : goal.returns-in-None
 unfolding node_read
-returns-in-Broken c = simp (← c.u16_at-t.ensures, ← c.u32_at-n.ensures, ← c.u32_at-f.ensures, ← c.in-Broken.ensures)
+returns-in-None c = simp (← c.u16_at-t.ensures, ← c.u32_at-n.ensures, ← c.u32_at-f.ensures, ← c.in-None.ensures, c.new-in-None.ensures)

@@ -1,32 +1,37 @@
--- `boards::board::read_head` meets its contract: each arm knows what was found at offset 0, where only a head or a refusal can be.
--- Assumes nothing.
-use mathlib.Core.Path.{refl, sym}
+-- `boards::board::read_head` meets its contract: only a head or a refusal can be found at offset 0. Assumes nothing.
+use Rattle.std.specs.Prelude.{ℕ, length, Ok, Err}
+use mathlib.Core.Path.{◌≡◌, refl, sym, ap, ◌∙◌}
 use native.Mathlib.Omega.{arith}
 use Rattle.boards.specs.Board.{headed, take_found}
-use Rattle.records.specs.declared.record.Found.TheVariants.{Head, Refused}
-use Rattle.records.proofs.Found.{room_of}
+use Rattle.records.specs.declared.record.Found.{Found}
+use Rattle.records.specs.declared.record.Found.TheVariants.{Head, Node, Wire, End}
+use Rattle.records.proofs.Found.{Room, room_of}
+use Rattle.boards.proofs.Answers.{refused_by}
 use Rattle.boards.proofs.Parts.{head_as, step_takes}
 use Rattle.boards.proofs.board.read_head.Goals as goal
 
+head_alone : (n : ℕ) (f : Found) → Room n 0 0 (Ok f) → (f ≡ Head) × Room n 0 0 (Ok Head)
+head_alone n Head h = (refl, h)
+head_alone n Node h = absurd (omega (arith, h.1))
+head_alone n Wire h = absurd (omega (arith, h.1))
+head_alone n End h = absurd (omega (arith, h.1))
+
 pub head_body-requires : goal.head_body-requires
-head_body-requires c = omega (arith, (room_of _ _ _ c.in-Head.ensures.0 refl).0)
+head_body-requires c =
+    let s = c.args.s.now in
+    let room = (head_alone (length s) c.in-Ok.field-0 (room_of s 0 0 c.read_record.ensures.0 c.in-Ok.is)).1 in
+    omega (arith, room.0)
 
-pub no_head-requires-in-Refused : goal.no_head-requires-in-Refused
-no_head-requires-in-Refused c = room_of _ _ _ c.in-Refused.ensures.0 refl
-
-pub returns-in-Head : goal.returns-in-Head
+pub returns-in-Ok : goal.returns-in-Ok
 unfolding take_found
-returns-in-Head c = head_as (step_takes c.args.s.now 0 0 (headed 0 0) Head (sym c.in-Head.ensures.0)) c.head_body.ensures
+returns-in-Ok c =
+    let s = c.args.s.now in
+    let head = (head_alone (length s) c.in-Ok.field-0 (room_of s 0 0 c.read_record.ensures.0 c.in-Ok.is)).0 in
+    head_as _ (step_takes s 0 0 (headed 0 0) (Ok Head) (sym c.read_record.ensures.0 ∙ c.in-Ok.is ∙ ap Ok head)) c.head_body.ensures
 
-pub returns-in-Node : goal.returns-in-Node
-returns-in-Node c = absurd (omega (arith, (room_of _ _ _ c.in-Node.ensures.0 refl).1))
-
-pub returns-in-Wire : goal.returns-in-Wire
-returns-in-Wire c = absurd (omega (arith, (room_of _ _ _ c.in-Wire.ensures.0 refl).1))
-
-pub returns-in-End : goal.returns-in-End
-returns-in-End c = absurd (omega (arith, (room_of _ _ _ c.in-End.ensures.0 refl).1))
-
-pub returns-in-Refused : goal.returns-in-Refused
+pub returns-in-Err : goal.returns-in-Err
 unfolding take_found
-returns-in-Refused c = head_as (step_takes c.args.s.now 0 0 (headed 0 0) (Refused _) (sym c.in-Refused.ensures.0)) c.no_head-in-Refused.ensures
+returns-in-Err c =
+    let s = c.args.s.now in
+    refused_by c.new.ensures (room_of s 0 0 c.read_record.ensures.0 c.in-Err.is)
+    (sym (step_takes s 0 0 (headed 0 0) (Err c.in-Err.number) (sym c.read_record.ensures.0 ∙ c.in-Err.is)))

@@ -1,43 +1,61 @@
--- `boards::judge::read_board` meets its contract: where the head or the nodes are refused the board is; else the records come to the board
--- that the parts make, and the end record and check 6 decide of it. Assumes nothing.
-use mathlib.Core.Path.{◌≡◌, refl, ◌∙◌}
-use Prim.Native.Nat.{◌≤◌}
-use native.Mathlib.Omega.{arith}
-use lib.ListN.{length, take}
-use Rattle.sources.proofs.Tabling.{tabled_none}
-use Rattle.boards.proofs.Joined.{read_as, head_refuses, head_inside, nodes_refuse, made, made_sound, made_counts}
-use Rattle.boards.proofs.Six.{counted, pass_asked, six_ended, six_refused}
+-- `boards::judge::read_board` meets its contract: where the head, the nodes or the wires are refused the board is; else the records come
+-- to the board that the parts make, and the end record and check 6 decide of it. Assumes nothing.
+use mathlib.Core.Path.{refl, ◌∙◌}
+use Rattle.boards.specs.BoardParts.{made_of}
+use Rattle.boards.specs.Wires.{wires_of}
+use Rattle.boards.proofs.Joined.{head_refuses, head_inside, nodes_refuse, wires_refuse, made, made_sound, made_counts}
+use Rattle.boards.proofs.Answers.{residual_is}
+use Rattle.boards.proofs.Six.{six_whole, six_refuses}
 use Rattle.boards.proofs.judge.read_board.Goals as goal
 
-pub returns-then-headless-ne0 : goal.returns-then-headless-ne0
-returns-then-headless-ne0 c =
-    read_as (six_refused _ _ _ (head_refuses _ _ c.read_head-head.ensures c.if-headless-ne0.true)) c.refusal.ensures
+pub returns-in_err-head : goal.returns-in_err-head
+returns-in_err-head c = rw (residual_is _ _ c.from_residual.ensures.1) (six_refuses _ _ (head_refuses _ _ c.in_err-head.ensures))
 
-pub read_nodes-read-requires : goal.read_nodes-read-requires
-read_nodes-read-requires c =
-    let head = c.read_head-head.ensures in
-    (head.small, head_inside _ _ head c.if-headless-ne0.false)
+pub read_nodes-requires : goal.read_nodes-requires
+read_nodes-requires c = (c.in_ok-head.ensures.small, head_inside _ _ c.in_ok-head.ensures)
 
-pub returns-then-unread-ne0 : goal.returns-then-unread-ne0
-returns-then-unread-ne0 c =
-    read_as (six_refused _ _ _ (nodes_refuse _ _ c.read_head-head.ensures c.if-headless-ne0.false _ c.read_nodes-read.ensures c.if-unread-ne0.true)) c.refusal-then-unread-ne0.ensures
+pub returns-in_err-nodes : goal.returns-in_err-nodes
+returns-in_err-nodes c =
+    rw (residual_is _ _ c.from_residual-in_err-nodes.ensures.1) (six_refuses _ _ (nodes_refuse _ _ c.in_ok-head.ensures _ c.in_err-nodes.ensures))
 
-pub read_wires-wired-requires-clause-tabled : goal.read_wires-wired-requires-clause-tabled
-read_wires-wired-requires-clause-tabled c = tabled_none
+pub returns-in_err-end : goal.returns-in_err-end
+returns-in_err-end c =
+    rw (residual_is _ _ c.from_residual-in_err-end.ensures.1)
+    (six_refuses _ _ (wires_refuse _ _ c.in_ok-head.ensures _ c.in_ok-nodes.ensures _ _ _ c.in_err-end.ensures.read))
+
+pub returns-in_err-read_end : goal.returns-in_err-read_end
+returns-in_err-read_end c =
+    let records = made _ _ c.in_ok-head.ensures _ c.in_ok-nodes.ensures _ _ c.in_ok-end.ensures.read in
+    let end = c.in_err-read_end.ensures (made_of c.in_ok-head.head c.in_ok-nodes.nodes (wires_of c.read_wires.new.wires.list c.read_wires.new.wires.count)) in
+    rw (residual_is _ _ c.from_residual-in_err-read_end.ensures.1) (six_refuses _ _ (end.0, records ∙ end.1))
+
+pub judged-requires : goal.judged-requires
+judged-requires c = c.in_ok-head.ensures.input_small
+
+pub returns-in_err-judged : goal.returns-in_err-judged
+returns-in_err-judged c =
+    let head = c.in_ok-head.head in
+    let n = c.in_ok-nodes.nodes in
+    let nodes = c.in_ok-nodes.ensures in
+    let w = c.read_wires.new.wires in
+    let p = made_of head n (wires_of w.list w.count) in
+    let records = made _ _ c.in_ok-head.ensures _ nodes _ _ c.in_ok-end.ensures.read in
+    let six = six_whole _ p (records ∙ c.in_ok-read_end.ensures p) in
+    let counts = made_counts _ head n _ _ _ _ nodes c.in_ok-end.ensures.table in
+    let judged = c.in_err-judged.ensures p refl refl counts in
+    rw (residual_is _ _ c.from_residual-in_err-judged.ensures.1) (judged.0, six ∙ judged.1)
 
 pub returns : goal.returns
 returns c =
-    let head = c.read_head-head in
-    let nodes = c.read_nodes-read in
-    let wires = c.read_wires-wired in
-    let ended = c.read_end-ended in
-    let n = nodes.result in
-    let long : n.count ≤ length n.nodes = omega (arith, nodes.ensures.long, nodes.ensures.few) in
-    let total : length (take n.count n.nodes) ≡ n.count = counted n.nodes n.count long in
-    let asked = pass_asked n.nodes n.count long _ _ _ c.index_of-at.ensures.1 c.pass_at-pass.ensures in
-    record {
-      reading =
-          six_ended _ ended.result _ (made _ _ head.ensures c.if-headless-ne0.false _ nodes.ensures c.if-unread-ne0.false _ _ _ wires.ensures.read ended.result ended.ensures)
-          ∙ c.judged.ensures _ total refl asked.0 (made_counts _ head.result n _ _ _ _ nodes.ensures wires.ensures.table);
-      sound = made_sound _ head.result n _ _ _ _ _ _ _ (head.ensures.small, head.ensures.input_small) nodes.ensures wires.ensures.read wires.ensures.table;
-    }
+    let head = c.in_ok-head.head in
+    let n = c.in_ok-nodes.nodes in
+    let nodes = c.in_ok-nodes.ensures in
+    let w = c.read_wires.new.wires in
+    let p = made_of head n (wires_of w.list w.count) in
+    let records = made _ _ c.in_ok-head.ensures _ nodes _ _ c.in_ok-end.ensures.read in
+    let six = six_whole _ p (records ∙ c.in_ok-read_end.ensures p) in
+    let counts = made_counts _ head n _ _ _ _ nodes c.in_ok-end.ensures.table in (
+      six ∙ c.in_ok-judged.ensures p refl refl counts,
+      made_sound _ head n w c.read_wires.new.sources _ _ (c.in_ok-head.ensures.small, c.in_ok-head.ensures.input_small) nodes c.in_ok-end.ensures.read
+          c.in_ok-end.ensures.table,
+    )

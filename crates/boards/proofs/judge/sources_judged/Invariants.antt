@@ -1,4 +1,3 @@
-use Prim.Native.Nat.{◌≤◌, ◌-◌}
 use mathlib.Core.Path.{◌≡◌}
 use lib.ListN.{length, drop}
 use Rattle.boards.specs.Board.{Parsed}
@@ -8,7 +7,4 @@ use Rattle.boards.proofs.judge.sources_judged.Given as goal
 
 abbrev pub invariant-loop-i : goal.invariant-loop-i
 invariant-loop-i l =
-    (l.i ≤ l.count) × ((p : Parsed) → length p.nodes ≡ l.count → Counts p l.bounds l.counts → check_sources p l.i (drop l.i p.nodes) ≡ check_sources p 0 p.nodes)
-
-abbrev pub decreases-loop-i : goal.decreases-loop-i
-decreases-loop-i l = l.count - l.i
+    (p : Parsed) → length p.nodes ≡ l.nodes.count → Counts p l.nodes.bounds l.counts → check_sources p l.i (drop l.i p.nodes) ≡ check_sources p 0 p.nodes
