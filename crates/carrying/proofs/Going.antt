@@ -4,7 +4,7 @@ use Prim.Native.Nat.{ℕ, zero, suc, ◌+◌, ◌*◌, ◌<◌, ◌≤◌}
 use native.Mathlib.Nat.{le_refl, le_trans, not-suc-le-zero, le_of_suc-le-suc}
 use native.Mathlib.Numerals.{add-one}
 use native.Mathlib.Omega.{arith}
-use mathlib.Core.Bool.{Bool, true, false, cond, ◌&&◌}
+use mathlib.Core.Bool.{Bool, true, false, ◌&&◌, false≢true}
 use mathlib.Core.List.{List, [], ◌∷◌, ◌++◌}
 use lib.Dec.{eqb}
 use borrow.Author.Tests.{eqb-true}
@@ -16,7 +16,6 @@ use Rattle.graph.specs.Walking.{unmarked}
 use Rattle.graph.proofs.Going.{unmarked-set}
 use Rattle.carrying.specs.Carried.{Carried, Change, mark, enter, through, lay, on_way, with_rest, up_to, past, copies, copy, turn}
 use Rattle.carrying.specs.Skimming.{edit, go_at, skim_all, Holds, Shows, Stands, Old, Room, Grown, LaidPart, Skimmed}
-use Rattle.carrying.specs.declared.carried.Stand.{Stand}
 use Rattle.carrying.proofs.Lists.{else_false, through-append}
 use Rattle.carrying.proofs.Laying.{shows_seen, shows_new, shows_mark, shows_enter, grown_refl, grown_trans, grown_around}
 use Rattle.carrying.proofs.Placed.{up_to_index, past_index, copies_yes, copies_no}
@@ -57,18 +56,18 @@ module _ (T : ℕ → List ℕ) (d : Change) where
 
 -- ---- the loop over a node's sources, of which the first i are done: from m₀, l₀, count, at, where it began, to m, l, n, rest
 
-pub record Going (counts lists old : List ℕ) (size : ℕ) (adding : Bool) (source target v : ℕ) (m₀ l₀ : List ℕ) (count at : ℕ) (m l : List ℕ) (n rest i : ℕ) : Type 0 where
+pub record Going (counts lists old : List ℕ) (size : ℕ) (adding : Bool) (source target v : ℕ) (m₀ : List Bool) (l₀ : List ℕ) (count at : ℕ) (m : List Bool) (l : List ℕ) (n rest i : ℕ) : Type 0 where
   pub within : i ≤ get_or counts v 0
-  pub grown : Grown m₀ l₀ count m l n
+  pub grown : Grown m₀ count m n
   pub rest_in : rest ≤ size
   pub walk : (T : ℕ → List ℕ) → Holds T counts lists → (k : ℕ) → unmarked m₀ ≤ k → (c : Carried) → Stands old size m₀ l₀ count at c
       → Stands old size m l n rest (through (go_at (skim_all T (edit adding source target) k) (edit adding source target) v) (take i (T v)) c)
 
-module _ (counts lists old : List ℕ) (size : ℕ) (adding : Bool) (source target v : ℕ) (node : v < 64) (m₀ l₀ : List ℕ) (count at : ℕ) where
+module _ (counts lists old : List ℕ) (size : ℕ) (adding : Bool) (source target v : ℕ) (node : v < 64) (m₀ : List Bool) (l₀ : List ℕ) (count at : ℕ) where
   pub going_start : at ≤ size → Going counts lists old size adding source target v m₀ l₀ count at m₀ l₀ count at 0
-  going_start h = record { within = omega arith; grown = grown_refl m₀ l₀ count; rest_in = h; walk = λ T t k le c s. s }
+  going_start h = record { within = omega arith; grown = grown_refl m₀ count; rest_in = h; walk = λ T t k le c s. s }
 
-  module _ (m l : List ℕ) (n rest i u : ℕ) (g : Going counts lists old size adding source target v m₀ l₀ count at m l n rest i)
+  module _ (m : List Bool) (l : List ℕ) (n rest i u : ℕ) (g : Going counts lists old size adding source target v m₀ l₀ count at m l n rest i)
       (h : i < get_or counts v 0) (is : u ≡ get_or lists (8 * v + i) 0) (below : u < 64) where
     -- the source u comes after the first i
     one_more : (T : ℕ → List ℕ) → Holds T counts lists → (f : ℕ → Carried → Carried) (c : Carried)
@@ -81,7 +80,7 @@ module _ (counts lists old : List ℕ) (size : ℕ) (adding : Bool) (source targ
         ap (λ (us : List ℕ). through f us c) split ∙ through-append f (take i (T v)) (u ∷ []) c
 
     -- it is marked already
-    pub going_past : (get_or m u 0 ≡ 0 → ⊥) → Going counts lists old size adding source target v m₀ l₀ count at m l n rest (i + 1)
+    pub going_past : get_or m u false ≡ true → Going counts lists old size adding source target v m₀ l₀ count at m l n rest (i + 1)
     going_past seen = record {
       within = omega arith;
       grown = g.grown;
@@ -94,17 +93,17 @@ module _ (counts lists old : List ℕ) (size : ℕ) (adding : Bool) (source targ
     }
 
     -- it is gone to, and is not the change's
-    pub going_into : (eqb v target && eqb u source) ≡ false → (m' l' : List ℕ) (r : Stand) → Skimmed counts lists old size adding source target u m l n rest m' l' r
-        → Going counts lists old size adding source target v m₀ l₀ count at m' l' r.count r.at (i + 1)
-    going_into other m' l' r x = record {
+    pub going_into : (eqb v target && eqb u source) ≡ false → (m' : List Bool) (l' : List ℕ) (n' at' : ℕ) → Skimmed counts lists old size adding source target u m l n rest m' l' n' at'
+        → Going counts lists old size adding source target v m₀ l₀ count at m' l' n' at' (i + 1)
+    going_into other m' l' n' at' x = record {
       within = omega arith;
-      grown = grown_trans m₀ l₀ count m l n m' l' r.count g.grown x.grown;
+      grown = grown_trans m₀ count m n m' n' g.grown x.grown;
       rest_in = x.at_in;
       walk = λ T t k le c s.
           let d : Change = edit adding source target in
           let y : Carried = through (go_at (skim_all T d k) d v) (take i (T v)) c in
           let go_on : go_at (skim_all T d k) d v u y ≡ skim_all T d k u y = ap (λ (b : Bool). choose b (λ _. turn (skim_all T d k) d y) (λ _. skim_all T d k u y)) other in
-          subst⁻¹ (Stands old size m' l' r.count r.at) (one_more T t (go_at (skim_all T d k) d v) c ∙ go_on)
+          subst⁻¹ (Stands old size m' l' n' at') (one_more T t (go_at (skim_all T d k) d v) c ∙ go_on)
           (x.walk T t k (le_trans g.grown.fewer le) y (g.walk T t k le c s));
     }
 
@@ -112,12 +111,12 @@ module _ (counts lists old : List ℕ) (size : ℕ) (adding : Bool) (source targ
     none_left long fits = drop_of_length-le (take size old) {i = size} (omega (arith, length-take-le size old (omega arith)))
 
     -- the change itself: an added wire's source is gone to with nothing to copy
-    pub going_add : length old ≡ 64 → size ≤ 64 → adding ≡ true → (eqb v target && eqb u source) ≡ true → u ≡ source → (m' l' : List ℕ) (r : Stand)
-        → Skimmed counts lists old size adding source target u m l n size m' l' r
-        → Going counts lists old size adding source target v m₀ l₀ count at m' l' r.count rest (i + 1)
-    going_add long fits add here same m' l' r x = record {
+    pub going_add : length old ≡ 64 → size ≤ 64 → adding ≡ true → (eqb v target && eqb u source) ≡ true → u ≡ source → (m' : List Bool) (l' : List ℕ) (n' at' : ℕ)
+        → Skimmed counts lists old size adding source target u m l n size m' l' n' at'
+        → Going counts lists old size adding source target v m₀ l₀ count at m' l' n' rest (i + 1)
+    going_add long fits add here same m' l' n' at' x = record {
       within = omega arith;
-      grown = grown_trans m₀ l₀ count m l n m' l' r.count g.grown x.grown;
+      grown = grown_trans m₀ count m n m' n' g.grown x.grown;
       rest_in = g.rest_in;
       walk = λ T t k le c s.
           let d : Change = edit adding source target in
@@ -127,7 +126,7 @@ module _ (counts lists old : List ℕ) (size : ℕ) (adding : Bool) (source targ
           ap (λ (b : Bool). choose b (λ _. turn (skim_all T d k) d y) (λ _. skim_all T d k u y)) here
           ∙ ap (λ (b : Bool). choose b (λ _. with_rest y.rest (skim_all T d k source (with_rest [] y))) (λ _. choose (y.way.marks source) (λ _. y) (λ _. with_rest [] y))) add
           ∙ ap (λ (j : ℕ). with_rest y.rest (skim_all T d k j (with_rest [] y))) (sym same) in
-          subst⁻¹ (Stands old size m' l' r.count rest) (one_more T t (go_at (skim_all T d k) d v) c ∙ turns)
+          subst⁻¹ (Stands old size m' l' n' rest) (one_more T t (go_at (skim_all T d k) d v) c ∙ turns)
           (record {
             shows = (x.walk T t k (le_trans g.grown.fewer le) (with_rest [] y) (record { shows = now.shows; rest = sym (none_left long fits) })).shows;
             rest = now.rest;
@@ -135,7 +134,7 @@ module _ (counts lists old : List ℕ) (size : ℕ) (adding : Bool) (source targ
     }
 
     -- and at a pulled wire's source that is not marked the rest is given up
-    pub going_pull : length old ≡ 64 → size ≤ 64 → adding ≡ false → (eqb v target && eqb u source) ≡ true → u ≡ source → get_or m u 0 ≡ 0
+    pub going_pull : length old ≡ 64 → size ≤ 64 → adding ≡ false → (eqb v target && eqb u source) ≡ true → u ≡ source → get_or m u false ≡ false
         → Going counts lists old size adding source target v m₀ l₀ count at m l n size (i + 1)
     going_pull long fits add here same new = record {
       within = omega arith;
@@ -157,7 +156,7 @@ module _ (counts lists old : List ℕ) (size : ℕ) (adding : Bool) (source targ
 -- ---- a whole call
 
 module _ (counts lists old places : List ℕ) (size : ℕ) (adding : Bool) (source target v : ℕ) (was : Old old places size) (node : v < 64) (goal-in : target < 64)
-    (m l : List ℕ) (count at : ℕ) (room : Room m l count) (unseen : get_or m v 0 ≡ 0) where
+    (m : List Bool) (l : List ℕ) (count at : ℕ) (room : Room m count) (unseen : get_or m v false ≡ false) where
   abbrev L : List ℕ
   L = take size old
 
@@ -168,14 +167,14 @@ module _ (counts lists old places : List ℕ) (size : ℕ) (adding : Bool) (sour
   in_m = omega (arith, room.marks_size)
 
   -- the depth suffices for one node more
-  deeper : (k : ℕ) → unmarked m ≤ k → (k' : ℕ) × (k ≡ suc k') × (unmarked (set m v 1) ≤ k')
+  deeper : (k : ℕ) → unmarked m ≤ k → (k' : ℕ) × (k ≡ suc k') × (unmarked (set m v true) ≤ k')
   deeper zero h = absurd (not-suc-le-zero (subst (λ (x : ℕ). x ≤ 0) (unmarked-set m v in_m unseen) h))
   deeper (suc k) h = (k, refl, le_of_suc-le-suc (subst (λ (x : ℕ). x ≤ suc k) (unmarked-set m v in_m unseen) h))
 
   -- copied from the old list
   module _ (p : ℕ) (p-is : p ≡ place L v) (from : at ≤ p) (inside : p < size)
-      (free : (get_or m target 0 ≡ 1 → ⊥) → at ≤ place L target → place L target ≤ p → ⊥) where
-    copied_walk : (m' l' : List ℕ) (n : ℕ) → LaidPart old at (p + 1) m l count m' l' n
+      (free : (get_or m target false ≡ true → ⊥) → at ≤ place L target → place L target ≤ p → ⊥) where
+    copied_walk : (m' : List Bool) (l' : List ℕ) (n : ℕ) → LaidPart old at (p + 1) m l count m' l' n
         → (T : ℕ → List ℕ) → Holds T counts lists → (k : ℕ) → unmarked m ≤ k → (c : Carried) → Stands old size m l count at c
         → Stands old size m' l' n (p + 1) (skim_all T (edit adding source target) k v c)
     copied_walk m' l' n x T t k h c s =
@@ -185,7 +184,7 @@ module _ (counts lists old places : List ℕ) (size : ℕ) (adding : Bool) (sour
         let a_in : at ≤ place L v = subst (λ (j : ℕ). at ≤ j) p-is from in
         let in-L : place L v < length L = omega (arith, LLong) in
         let open-goal : c.way.marks target ≡ false → at ≤ place L target → place L target ≤ place L v → ⊥ =
-        λ e a b. free (λ one. let z : ◌≡◌ {A = ℕ} 0 1 = sym (s.shows.marks target goal-in ∙ ap (λ (y : Bool). cond y 1 0) e) ∙ one in omega arith) a (omega arith) in
+        λ e a b. free (λ one. false≢true (sym e ∙ sym (s.shows.marks target goal-in) ∙ one)) a (omega arith) in
         let yes : copies d v c ≡ true =
         ap (λ (r : List ℕ). copies d v (record { way = c.way; rest = r })) s.rest ∙ copies_yes L was.once at v target (c.way.marks target) a_in in-L open-goal in
         let next : suc (place L v) ≡ p + 1 = omega arith in
@@ -197,14 +196,14 @@ module _ (counts lists old places : List ℕ) (size : ℕ) (adding : Bool) (sour
         subst⁻¹ (Stands old size m' l' n (p + 1)) (ap (λ (j : ℕ). skim_all T d j v c) deep.1 ∙ all_new T d deep.0 v c new true yes)
         (record { shows = subst⁻¹ (λ (r : List ℕ). Shows m' l' n (lay r c.way)) part (x.shows c.way s.shows); rest = behind })
 
-    pub skimmed_copied : (m' l' : List ℕ) (n : ℕ) → LaidPart old at (p + 1) m l count m' l' n
-        → Skimmed counts lists old size adding source target v m l count at m' l' (record { count = n; at = p + 1 })
+    pub skimmed_copied : (m' : List Bool) (l' : List ℕ) (n : ℕ) → LaidPart old at (p + 1) m l count m' l' n
+        → Skimmed counts lists old size adding source target v m l count at m' l' n (p + 1)
     skimmed_copied m' l' n x = record { grown = x.grown; at_in = omega arith; walk = copied_walk m' l' n x }
 
   -- or walked
   module _ (p : ℕ) (p-is : p ≡ place L v)
-      (not-Free : at ≤ p → p < size → ((get_or m target 0 ≡ 1 → ⊥) → at ≤ place L target → place L target ≤ p → ⊥) → ⊥)
-      (m' l' : List ℕ) (n rest i : ℕ) (g : Going counts lists old size adding source target v (set m v 1) l count at m' l' n rest i)
+      (not-Free : at ≤ p → p < size → ((get_or m target false ≡ true → ⊥) → at ≤ place L target → place L target ≤ p → ⊥) → ⊥)
+      (m' : List Bool) (l' : List ℕ) (n rest i : ℕ) (g : Going counts lists old size adding source target v (set m v true) l count at m' l' n rest i)
       (all : get_or counts v 0 ≤ i) (in-l : n < length l') where
     walked_walk : (T : ℕ → List ℕ) → Holds T counts lists → (k : ℕ) → unmarked m ≤ k → (c : Carried) → Stands old size m l count at c
         → Stands old size m' (set l' n v) (n + 1) rest (skim_all T (edit adding source target) k v c)
@@ -222,8 +221,8 @@ module _ (counts lists old places : List ℕ) (size : ℕ) (adding : Bool) (sour
         subst⁻¹ (Stands old size m' (set l' n v) (n + 1) rest) (ap (λ (j : ℕ). skim_all T d j v c) deep.1 ∙ all_new T d deep.0 v c new false no_copy)
         (record { shows = shows_enter m' l' n v _ in-l y.shows; rest = y.rest })
       where
-        shut : (c : Carried) → Stands old size m l count at c → (get_or m target 0 ≡ 1 → ⊥) → c.way.marks target ≡ false
-        shut c s un = else_false (c.way.marks target) (λ e. un (s.shows.marks target goal-in ∙ ap (λ (b : Bool). cond b 1 0) e))
+        shut : (c : Carried) → Stands old size m l count at c → (get_or m target false ≡ true → ⊥) → c.way.marks target ≡ false
+        shut c s un = else_false (c.way.marks target) (λ e. un (s.shows.marks target goal-in ∙ e))
 
-    pub skimmed_walked : Skimmed counts lists old size adding source target v m l count at m' (set l' n v) (record { count = n + 1; at = rest })
-    skimmed_walked = record { grown = grown_around m l count v m' l' n node in_m unseen in-l g.grown; at_in = g.rest_in; walk = walked_walk }
+    pub skimmed_walked : Skimmed counts lists old size adding source target v m l count at m' (set l' n v) (n + 1) rest
+    skimmed_walked = record { grown = grown_around m count v m' n in_m unseen g.grown; at_in = g.rest_in; walk = walked_walk }

@@ -6,7 +6,7 @@ use native.Mathlib.Decide.{ℕ_discrete}
 use native.Mathlib.Omega.{arith}
 use mathlib.Core.Bool.{Bool, true, false, cond, not, ◌||◌, ◌&&◌, false≢true, true≢false}
 use mathlib.Core.List.{List, [], ◌∷◌}
-use borrow.Author.Tests.{eq-eqb, ne_eqb, eqb-true, eqb-false, ltb-true, ltb-false, leb-true, lt-ltb, le-leb}
+use borrow.Author.Tests.{eq-eqb, ne_eqb, ltb-true, ltb-false, leb-true, lt-ltb, le-leb}
 use lib.Dec.{ltb, leb, eqb}
 use lib.ListN.{length, take, drop}
 use lib.Seq.{take_all}
@@ -134,28 +134,28 @@ module _ (l : List ℕ) (once : Once l) (a k t : ℕ) where
 
 -- ---- the code's test in numbers: the mark of the target, its place, the node's place p, and where the rest begins
 
-pub test_yes : (a p size m goal : ℕ) → ((leb a p && ltb p size) && (eqb m 1 || (ltb goal a || ltb p goal))) ≡ true
-    → (a ≤ p) × (p < size) × ((m ≡ 1 → ⊥) → a ≤ goal → goal ≤ p → ⊥)
-test_yes a p size m goal e = pick (leb a p) (ltb p size) (eqb m 1) (ltb goal a) (ltb p goal) refl refl refl refl refl e
+pub test_yes : (a p size : ℕ) (m : Bool) (goal : ℕ) → ((leb a p && ltb p size) && (m || (ltb goal a || ltb p goal))) ≡ true
+    → (a ≤ p) × (p < size) × ((m ≡ true → ⊥) → a ≤ goal → goal ≤ p → ⊥)
+test_yes a p size m goal e = pick (leb a p) (ltb p size) (m) (ltb goal a) (ltb p goal) refl refl refl refl refl e
   where
-    pick : (b c d g h : Bool) → leb a p ≡ b → ltb p size ≡ c → eqb m 1 ≡ d → ltb goal a ≡ g → ltb p goal ≡ h → ((b && c) && (d || (g || h))) ≡ true
-        → (a ≤ p) × (p < size) × ((m ≡ 1 → ⊥) → a ≤ goal → goal ≤ p → ⊥)
-    pick true true true g h x y z u v t = (leb-true _ _ x, ltb-true _ _ y, λ n i j. n (eqb-true m 1 z))
+    pick : (b c d g h : Bool) → leb a p ≡ b → ltb p size ≡ c → m ≡ d → ltb goal a ≡ g → ltb p goal ≡ h → ((b && c) && (d || (g || h))) ≡ true
+        → (a ≤ p) × (p < size) × ((m ≡ true → ⊥) → a ≤ goal → goal ≤ p → ⊥)
+    pick true true true g h x y z u v t = (leb-true _ _ x, ltb-true _ _ y, λ n i j. n z)
     pick true true false true h x y z u v t = (leb-true _ _ x, ltb-true _ _ y, λ n i j. let q = ltb-true goal a u in omega arith)
     pick true true false false true x y z u v t = (leb-true _ _ x, ltb-true _ _ y, λ n i j. let q = ltb-true p goal v in omega arith)
     pick true true false false false x y z u v t = absurd (false≢true t)
     pick true false d g h x y z u v t = absurd (false≢true t)
     pick false c d g h x y z u v t = absurd (false≢true t)
 
-pub test_no : (a p size m goal : ℕ) → ((leb a p && ltb p size) && (eqb m 1 || (ltb goal a || ltb p goal))) ≡ false
-    → a ≤ p → p < size → ((m ≡ 1 → ⊥) → a ≤ goal → goal ≤ p → ⊥) → ⊥
-test_no a p size m goal e = pick (leb a p) (ltb p size) (eqb m 1) (ltb goal a) (ltb p goal) refl refl refl refl refl e
+pub test_no : (a p size : ℕ) (m : Bool) (goal : ℕ) → ((leb a p && ltb p size) && (m || (ltb goal a || ltb p goal))) ≡ false
+    → a ≤ p → p < size → ((m ≡ true → ⊥) → a ≤ goal → goal ≤ p → ⊥) → ⊥
+test_no a p size m goal e = pick (leb a p) (ltb p size) (m) (ltb goal a) (ltb p goal) refl refl refl refl refl e
   where
-    pick : (b c d g h : Bool) → leb a p ≡ b → ltb p size ≡ c → eqb m 1 ≡ d → ltb goal a ≡ g → ltb p goal ≡ h → ((b && c) && (d || (g || h))) ≡ false
-        → a ≤ p → p < size → ((m ≡ 1 → ⊥) → a ≤ goal → goal ≤ p → ⊥) → ⊥
+    pick : (b c d g h : Bool) → leb a p ≡ b → ltb p size ≡ c → m ≡ d → ltb goal a ≡ g → ltb p goal ≡ h → ((b && c) && (d || (g || h))) ≡ false
+        → a ≤ p → p < size → ((m ≡ true → ⊥) → a ≤ goal → goal ≤ p → ⊥) → ⊥
     pick true true true g h x y z u v t i j f = true≢false t
     pick true true false true h x y z u v t i j f = true≢false t
     pick true true false false true x y z u v t i j f = true≢false t
-    pick true true false false false x y z u v t i j f = f (eqb-false m 1 z) (ltb-false _ _ u) (ltb-false _ _ v)
+    pick true true false false false x y z u v t i j f = f (λ y. false≢true (sym z ∙ y)) (ltb-false _ _ u) (ltb-false _ _ v)
     pick true false d g h x y z u v t i j f = not_both (lt-ltb p size j) y
     pick false c d g h x y z u v t i j f = not_both (le-leb a p i) x

@@ -1,6 +1,6 @@
 -- The carried walk as the code takes it, in arrays, over a table of sources that has the wire: the new board's table when a wire is added,
 -- the old board's when one is pulled. Definitions only.
-use Rattle.std.specs.Prelude.{◌≡◌, ℕ, zero, suc, ◌+◌, ◌*◌, ◌<◌, ◌≤◌, Bool, true, false, cond, ◌&&◌, List, [], eqb, length, get_or, take, drop}
+use Rattle.std.specs.Prelude.{◌≡◌, ℕ, zero, suc, ◌+◌, ◌*◌, ◌<◌, ◌≤◌, Bool, true, false, ◌&&◌, List, [], eqb, length, get_or, take, drop}
 use Rattle.reading.specs.Table.{mem}
 use Rattle.reading.specs.Order.{Wire, sources, Once}
 use Rattle.reading.specs.Visit.{choose}
@@ -10,7 +10,8 @@ use Rattle.graph.specs.Visit.{visiting_list, Lists}
 use Rattle.graph.specs.Listed.{SourcesBelow}
 use Rattle.graph.specs.Late.{Placed}
 use Rattle.carrying.specs.Carried.{Way, Carried, Change, mark, enter, through, lay, on_way, copies, copy, turn, added, wired, pulled}
-use Rattle.carrying.specs.declared.carried.Stand.{Stand}
+use Rattle.carrying.specs.declared.carried.Ground.{Ground}
+use Rattle.carrying.specs.declared.carried.Walk.{Walk}
 
 -- ---- the walk over one table T, in which the target has the source once
 
@@ -35,12 +36,12 @@ pub record Holds (T : ℕ → List ℕ) (counts lists : List ℕ) : Type 0 where
   pub source : (v j : ℕ) → v < 64 → j < get_or counts v 0 → get_or lists (8 * v + j) 0 ≡ get_or (T v) j 0
 
 -- the marks m, and the first c nodes of l, stand for a walk under way
-pub record Shows (m l : List ℕ) (c : ℕ) (w : Way) : Type 0 where
-  pub marks : (u : ℕ) → u < 64 → get_or m u 0 ≡ cond (w.marks u) 1 0
+pub record Shows (m : List Bool) (l : List ℕ) (c : ℕ) (w : Way) : Type 0 where
+  pub marks : (u : ℕ) → u < 64 → get_or m u false ≡ w.marks u
   pub list : take c l ≡ w.listed
 
 -- and with the old list from the place at on for a carried one
-pub record Stands (old : List ℕ) (size : ℕ) (m l : List ℕ) (count at : ℕ) (c : Carried) : Type 0 where
+pub record Stands (old : List ℕ) (size : ℕ) (m : List Bool) (l : List ℕ) (count at : ℕ) (c : Carried) : Type 0 where
   pub shows : Shows m l count c.way
   pub rest : c.rest ≡ drop at (take size old)
 
@@ -52,42 +53,50 @@ pub record Old (old places : List ℕ) (size : ℕ) : Type 0 where
   pub once : Once (take size old)
   pub placed : Placed (take size old) places
 
--- marks and list that have room for each other
-pub record Room (m l : List ℕ) (count : ℕ) : Type 0 where
+-- marks that the list has room for
+pub record Room (m : List Bool) (count : ℕ) : Type 0 where
   pub marks_size : length m ≡ 64
-  pub list_size : length l ≡ 64
   pub room : count + unmarked m ≤ 64
 
--- from m, l, count to m', l', count'
-pub record Grown (m l : List ℕ) (count : ℕ) (m' l' : List ℕ) (count' : ℕ) : Type 0 where
+-- from m, count to m', count'
+pub record Grown (m : List Bool) (count : ℕ) (m' : List Bool) (count' : ℕ) : Type 0 where
   pub marks_kept : length m' ≡ length m
-  pub list_kept : length l' ≡ length l
   pub fewer : unmarked m' ≤ unmarked m
   pub total : count' + unmarked m' ≡ count + unmarked m
-  pub below : Within 64 l count → Within 64 l' count'
 
 -- what `lay_part` leaves: the part of the old list from a place to another is copied
-pub record LaidPart (old : List ℕ) (start end : ℕ) (m l : List ℕ) (count : ℕ) (m' l' : List ℕ) (count' : ℕ) : Type 0 where
-  pub grown : Grown m l count m' l' count'
+pub record LaidPart (old : List ℕ) (start end : ℕ) (m : List Bool) (l : List ℕ) (count : ℕ) (m' : List Bool) (l' : List ℕ) (count' : ℕ) : Type 0 where
+  pub grown : Grown m count m' count'
   pub shows : (w : Way) → Shows m l count w → Shows m' l' count' (lay (drop start (take end old)) w)
 
 -- what `skim` asks
-pub record Asks (counts lists old places : List ℕ) (size source target node : ℕ) (m l : List ℕ) (count at : ℕ) : Type 0 where
+pub record Asks (counts lists old places : List ℕ) (size source target node : ℕ) (m : List Bool) (count at : ℕ) : Type 0 where
   pub table : Table counts lists
   pub was : Old old places size
   pub node_in : node < 64
   pub source_in : source < 64
   pub target_in : target < 64
-  pub room : Room m l count
-  pub unseen : get_or m node 0 ≡ 0
+  pub room : Room m count
+  pub unseen : get_or m node false ≡ false
   pub at_in : at ≤ size
 
 -- what `skim` leaves: the carried walk, at every depth that suffices
-pub record Skimmed (counts lists old : List ℕ) (size : ℕ) (adding : Bool) (source target node : ℕ) (m l : List ℕ) (count at : ℕ) (m' l' : List ℕ) (r : Stand) : Type 0 where
-  pub grown : Grown m l count m' l' r.count
-  pub at_in : r.at ≤ size
+pub record Skimmed (counts lists old : List ℕ) (size : ℕ) (adding : Bool) (source target node : ℕ) (m : List Bool) (l : List ℕ) (count at : ℕ) (m' : List Bool) (l' : List ℕ)
+    (count' at' : ℕ) : Type 0 where
+  pub grown : Grown m count m' count'
+  pub at_in : at' ≤ size
   pub walk : (T : ℕ → List ℕ) → Holds T counts lists → (k : ℕ) → unmarked m ≤ k → (c : Carried) → Stands old size m l count at c
-      → Stands old size m' l' r.count r.at (skim_all T (edit adding source target) k node c)
+      → Stands old size m' l' count' at' (skim_all T (edit adding source target) k node c)
+
+-- both of the code's structs
+abbrev pub AsksOf : Ground → ℕ → Walk → Type 0
+AsksOf g node w =
+    Asks g.sources.now.counts g.sources.now.lists g.old.now.nodes g.places.now.at g.old.now.count g.change.source g.change.target node w.marks w.order.count w.at
+
+abbrev pub SkimmedBy : Ground → ℕ → Walk → Walk → Type 0
+SkimmedBy g node w w' =
+    Skimmed g.sources.now.counts g.sources.now.lists g.old.now.nodes g.old.now.count g.change.adding g.change.source g.change.target node
+    w.marks w.order.nodes w.order.count w.at w'.marks w'.order.nodes w'.order.count w'.at
 
 -- ---- the call
 

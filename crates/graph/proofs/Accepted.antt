@@ -4,6 +4,7 @@ use mathlib.Core.Path.{◌≡◌, refl, sym, subst, ◌∙◌}
 use mathlib.Core.List.{List, [], ◌∷◌}
 use mathlib.Core.Bool.{Bool, true, false}
 use native.Mathlib.Omega.{arith}
+use Rattle.std.specs.Prelude.{Ok}
 use borrow.Author.Tests.{ltb-true, ltb-false, leb-true, ne_eqb}
 use lib.Dec.{ltb, leb}
 use lib.ListN.{length, get_or, take}
@@ -12,7 +13,7 @@ use Rattle.kinds.specs.Kind.{cell_size, fewest, most}
 use Rattle.kinds.specs.declared.kind.NodeRecord.{NodeRecord}
 use Rattle.reading.specs.Order.{Wire, Each, sources}
 use Rattle.reading.proofs.Order.{each-source}
-use Rattle.boards.specs.Board.{Parsed, blank, refused, whole, cells_of}
+use Rattle.boards.specs.Board.{Parsed, blank, whole, cells_of}
 use Rattle.sources.specs.Sources.{distinct, distinct_sources}
 use Rattle.boards.specs.Wires.{wires_of}
 use Rattle.boards.specs.Judge.{read_board}
@@ -22,7 +23,6 @@ use Rattle.graph.specs.Listed.{SourcesBelow}
 use Rattle.boards.specs.Obeys.{WireObeys}
 use Rattle.boards.specs.declared.board.Board.{Board}
 use Rattle.reading.proofs.Choice.{both}
-use Rattle.boards.proofs.Answers.{or-accepts, or_refuses}
 use Rattle.boards.proofs.Six.{sources_few}
 use Rattle.graph.proofs.Listed.{mem_at}
 use Rattle.boards.proofs.RoundSources.{mem_distinct}
@@ -70,29 +70,25 @@ few_sources p f v = split (ltb v (length p.nodes)) refl
 
 -- ---- the board in arrays
 
-module _ (s : List ℕ) (b : Board) (read : Read (read_board s) b) where
-  pub refused_board : (b.refused.number ≡ 0 → ⊥) → read_board s ≡ refused b.refused.number b.refused.place
-  refused_board other = read.reading ∙ or_refuses b.refused _ other
+module _ (s : List ℕ) (b : Board) (read : Read (read_board s) (Ok b)) where
+  pub accepted_board : read_board s ≡ whole (parsed_of b)
+  accepted_board = read.0
 
-  module _ (accepted : b.refused.number ≡ 0) where
-    pub accepted_board : read_board s ≡ whole (parsed_of b)
-    accepted_board = read.reading ∙ or-accepts b.refused _ accepted
+  pub accepted_formed : Formed (parsed_of b)
+  accepted_formed = whole_formed s (parsed_of b) read.0
 
-    pub accepted_formed : Formed (parsed_of b)
-    accepted_formed = whole_formed s (parsed_of b) accepted_board
+  pub count_is : length (take b.count b.nodes) ≡ b.count
+  count_is = length-take-le b.count b.nodes (omega (arith, read.1.nodes_long, read.1.few_nodes))
 
-    pub count_is : length (take b.count b.nodes) ≡ b.count
-    count_is = length-take-le b.count b.nodes (omega (arith, read.sound.nodes_long, read.sound.few_nodes))
-
-    pub table_at : (v : ℕ) → v < 64 → TableAt b v
-    table_at v l =
-        let ws = wires_of b.sources b.targets b.wires in
-        let table = read.sound.table in
-        let few : length (distinct_sources ws v) ≤ 8 = few_sources (parsed_of b) accepted_formed v in
-        let all : get_or b.counts v 0 ≡ length (distinct_sources ws v) = omega (arith, table.counted v l) in
-        record {
-          few = omega arith;
-          count_is = all;
-          source_is = λ j q. table.listed v j l (omega arith) (omega arith);
-          source_in = λ j q. rw (table.listed v j l (omega arith) (omega arith)) (rw count_is at (distinct_below (length (take b.count b.nodes)) ws v accepted_formed.joins j (omega arith)));
-        }
+  pub table_at : (v : ℕ) → v < 64 → TableAt b v
+  table_at v l =
+      let ws = wires_of b.wires.list b.wires.count in
+      let table = read.1.table in
+      let few : length (distinct_sources ws v) ≤ 8 = few_sources (parsed_of b) accepted_formed v in
+      let all : get_or b.sources.counts v 0 ≡ length (distinct_sources ws v) = omega (arith, table.counted v l) in
+      record {
+        few = omega arith;
+        count_is = all;
+        source_is = λ j q. table.listed v j l (omega arith) (omega arith);
+        source_in = λ j q. rw (table.listed v j l (omega arith) (omega arith)) (rw count_is at (distinct_below (length (take b.count b.nodes)) ws v accepted_formed.joins j (omega arith)));
+      }

@@ -14,9 +14,9 @@ use Rattle.reading.specs.Table.{mem}
 use Rattle.reading.specs.Order.{Wire, before, earlier, wire}
 use Rattle.reading.proofs.Table.{mem-head, mem_other}
 use Rattle.reading.proofs.Order.{before_head, before_other}
-use Rattle.boards.specs.Wires.{wires_of}
-use Rattle.graph.specs.Late.{is_late, late_wires, place, Placed}
+use Rattle.boards.specs.Wires.{wire_of, wires_of}
 use Rattle.boards.proofs.Wiring.{wires_snoc}
+use Rattle.graph.specs.Late.{is_late, late_wires, place, Placed}
 
 -- ---- places
 
@@ -78,8 +78,9 @@ late-append l (x ∷ xs) w = ap (λ (ys : List Wire). cond (is_late l x) (x ∷ 
     keep true = refl
     keep false = refl
 
-pub late-more : (l ss ts : List ℕ) (i s t : ℕ) (b : Bool) → s ≡ get_or ss i 0 → t ≡ get_or ts i 0 → is_late l (wire s t) ≡ b
-    → late_wires l (wires_of ss ts (i + 1)) ≡ late_wires l (wires_of ss ts i) ++ cond b (wire s t ∷ []) []
-late-more l ss ts i s t b p q e =
-    ap (late_wires l) (wires_snoc ss ts i ∙ rw (← p, ← q))
-    ∙ late-append l (wires_of ss ts i) (wire s t) ∙ ap (λ (c : Bool). late_wires l (wires_of ss ts i) ++ cond c (wire s t ∷ []) []) e
+pub late-more : (l : List ℕ) (ws : List (ℕ × ℕ)) (i : ℕ) (b : Bool) → i < length ws → is_late l (wire_of (get_or ws i (0, 0))) ≡ b
+    → late_wires l (wires_of ws (i + 1)) ≡ late_wires l (wires_of ws i) ++ cond b (wire_of (get_or ws i (0, 0)) ∷ []) []
+late-more l ws i b h e =
+    let w = wire_of (get_or ws i (0, 0)) in
+    ap (late_wires l) (wires_snoc ws i h)
+    ∙ late-append l (wires_of ws i) w ∙ ap (λ (c : Bool). late_wires l (wires_of ws i) ++ cond c (w ∷ []) []) e

@@ -19,6 +19,8 @@ use Rattle.graph.specs.Visit.{visiting_list}
 use Rattle.graph.specs.Listed.{SourcesBelow}
 use Rattle.graph.specs.Late.{late_wires}
 use Rattle.graph.specs.Tail.{delays, kind_in, only_delays, listed_lines, endless, tail_by, tail_of, LinesFit}
+use Rattle.graph.specs.Walking.{tail_if}
+use Rattle.std.specs.Prelude.{Some, None, unwrap_or}
 use Rattle.graph.proofs.Listed.{lists_reached}
 
 -- ---- one listed node more
@@ -63,6 +65,16 @@ pub tail_on_time : (ns : List NodeRecord) (ws : List Wire) (l : List ℕ) → eq
     → tail_by ns ws l ≡ cond (only_delays ns l) (listed_lines ns l) endless
 unfolding tail_by
 tail_on_time ns ws l e = ap (λ (b : Bool). cond (b && only_delays ns l) (listed_lines ns l) endless) e
+
+-- a tail that is found, or the number for an endless one
+pub tail_or : (ns : List NodeRecord) (ws : List Wire) (l : List ℕ) → unwrap_or (tail_if ns ws l) endless ≡ tail_by ns ws l
+unfolding tail_by
+tail_or ns ws l = split (eqb (length (late_wires l ws)) 0) (only_delays ns l)
+  where
+    split : (b c : Bool) → unwrap_or (cond b (cond c (Some (listed_lines ns l)) None) None) endless ≡ cond (b && c) (listed_lines ns l) endless
+    split true true = refl
+    split true false = refl
+    split false c = refl
 
 -- ---- a board's nodes, the first n of an array
 

@@ -1,10 +1,12 @@
--- The walk as the code takes it, in arrays: what `visit` asks and gives. Definitions only.
-use Rattle.std.specs.Prelude.{◌≡◌, ℕ, zero, suc, ◌+◌, ◌*◌, ◌<◌, ◌≤◌, cond, List, [], ◌∷◌, length, get_or, take}
+-- The walk as the code takes it, in arrays: what `visit` asks and gives; and the tail as the code finds it. Definitions only.
+use Rattle.std.specs.Prelude.{◌≡◌, ℕ, zero, suc, ◌+◌, ◌*◌, ◌<◌, ◌≤◌, Bool, true, false, cond, Option, Some, None, List, [], ◌∷◌, length, get_or, take, eqb}
 use Rattle.reading.specs.Table.{mem}
 use Rattle.reading.specs.Order.{Wire}
 use Rattle.reading.specs.Visit.{Walk, go}
+use Rattle.kinds.specs.declared.kind.NodeRecord.{NodeRecord}
 use Rattle.sources.specs.Sources.{distinct_sources}
-use Rattle.boards.specs.Wires.{Within}
+use Rattle.graph.specs.Late.{late_wires}
+use Rattle.graph.specs.Tail.{only_delays, listed_lines}
 
 -- ---- the sources gathered in two arrays: node v's stand in `lists` from 8 v on, as many as `counts` says
 
@@ -20,32 +22,37 @@ pub record Gathered (ws : List Wire) (counts lists : List ℕ) : Type 0 where
 
 -- ---- a walk under way, in arrays
 
--- the marks m, 1 for a marked node and else 0, and the first c nodes of l stand for the walk w
-pub record Stands (m l : List ℕ) (c : ℕ) (w : Walk) : Type 0 where
-  pub marks : (u : ℕ) → u < 64 → get_or m u 0 ≡ cond (mem u w.marked) 1 0
+-- the marks m, and the first c nodes of l, stand for the walk w
+pub record Stands (m : List Bool) (l : List ℕ) (c : ℕ) (w : Walk) : Type 0 where
+  pub marks : (u : ℕ) → u < 64 → get_or m u false ≡ mem u w.marked
   pub list : take c l ≡ w.listed
 
 -- the nodes that are not marked yet
-unfoldable pub unmarked : List ℕ → ℕ
+unfoldable pub unmarked : List Bool → ℕ
 unmarked [] = zero
-unmarked (zero ∷ m) = suc (unmarked m)
-unmarked (suc k ∷ m) = unmarked m
+unmarked (false ∷ m) = suc (unmarked m)
+unmarked (true ∷ m) = unmarked m
 
 -- what `visit` asks of the sources, the node v, the marks and the list
-pub record Ready (counts lists : List ℕ) (v : ℕ) (m l : List ℕ) (count : ℕ) : Type 0 where
+pub record Ready (counts lists : List ℕ) (v : ℕ) (m : List Bool) (l : List ℕ) (count : ℕ) : Type 0 where
   pub table : Table counts lists
   pub marks_size : length m ≡ 64
-  pub list_size : length l ≡ 64
   pub node : v < 64
-  pub unseen : get_or m v 0 ≡ 0
+  pub unseen : get_or m v false ≡ false
   pub room : count + unmarked m ≤ 64
 
 -- what `visit` leaves
-pub record Visited (counts lists : List ℕ) (v : ℕ) (m l : List ℕ) (count : ℕ) (m' l' : List ℕ) (count' : ℕ) : Type 0 where
+pub record Visited (counts lists : List ℕ) (v : ℕ) (m : List Bool) (l : List ℕ) (count : ℕ) (m' : List Bool) (l' : List ℕ) (count' : ℕ) : Type 0 where
   pub marks_kept : length m' ≡ length m
-  pub list_kept : length l' ≡ length l
   pub fewer : unmarked m' ≤ unmarked m
   pub total : count' + unmarked m' ≡ count + unmarked m
-  pub below : Within 64 l count → Within 64 l' count'
   -- the walk goes on as `go` says, at every depth that suffices
   pub walk : (ws : List Wire) → Gathered ws counts lists → (k : ℕ) → unmarked m ≤ k → (w : Walk) → Stands m l count w → Stands m' l' count' (go ws k v w)
+
+-- ---- the tail as the code finds it, without a number where it is endless
+
+abbrev pub lines_by : List NodeRecord → List ℕ → Option ℕ
+lines_by ns l = cond (only_delays ns l) (Some (listed_lines ns l)) None
+
+abbrev pub tail_if : List NodeRecord → List Wire → List ℕ → Option ℕ
+tail_if ns ws l = cond (eqb (length (late_wires l ws)) 0) (lines_by ns l) None

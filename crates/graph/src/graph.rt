@@ -1,107 +1,126 @@
 // The visiting list of a board, and its late wires.
-ghost use Rattle.std.specs.Prelude.{◌≡◌, List, ℕ, ◌<◌, ◌≤◌, length, take};
+ghost use Rattle.std.specs.Prelude.{◌≡◌, List, ℕ, ◌+◌, ◌<◌, ◌≤◌, length, take, set};
 ghost use Rattle.reading.specs.Order.{Wire, wire};
-ghost use Rattle.boards.specs.Wires.{Within, wires_of};
+ghost use Rattle.boards.specs.Wires.{Within, Joined, wires_of};
 ghost use Rattle.graph.specs.Visit.{visiting_list, Lists};
 ghost use Rattle.graph.specs.Walking.{Table, Gathered, Ready, Visited};
 ghost use Rattle.graph.specs.Late.{is_late, late_wires, Placed};
 
-use values::bytes::wide;
-
-// The walk from `node`, which is not marked yet: marks it, goes to each of its sources that is not
-// marked, then lists it after the `count` nodes listed so far. Returns how many are listed then.
-fn visit(
-    node: usize,
-    counts: &[u8; 64],
-    lists: &[u8; 512],
-    marks: &mut [u8; 64],
-    list: &mut [u8; 64],
-    count: usize,
-) -> usize
-    requires { Ready counts.now lists.now node marks.old list.old count }
-    ensures { Visited counts.now lists.now node marks.old list.old count marks.new list.new result }
-{
-    marks[node] = 1;
-    let first = 8 * node;
-    let size = wide(counts[node]);
-    let mut n = count;
-    let mut i = 0;
-    while i < size {
-        let source = wide(lists[first + i]);
-        if marks[source] == 0 {
-            n = visit(source, counts, lists, marks, list, n);
-        }
-        i += 1;
-    }
-    list[n] = node as u8;
-    n + 1
-}
+use boards::board::Wires;
+use sources::sources::Sources;
 
 // A visiting list: the first `count` entries of `nodes`.
 #[derive(Clone, Copy)]
 pub struct Order {
     pub nodes: [u8; 64],
     pub count: usize,
+    pub ghost long: { length nodes ≡ 64 },
+    pub ghost fits: { count ≤ 64 },
+    pub ghost below: { Within 64 nodes count },
 }
 
-// The visiting list of the wires whose sources are gathered in the two arrays.
+impl Order {
+    // The listed nodes.
+    // Ruled out, and tried by a must-fail edit: the whole array (listed_all).
+    pub fn listed(&self) -> &[u8]
+        ensures { result.now ≡ take self.now.count self.now.nodes }
+    {
+        &self.nodes[..self.count]
+    }
+
+    // One node more, at the end.
+    // Ruled out, and tried by a must-fail edit: a node over the first one (push_over_first).
+    pub fn push(&mut self, node: usize)
+        requires { (self.old.count < 64) × (node < 64) }
+        ensures nodes { self.new.nodes ≡ set self.old.nodes self.old.count node }
+        ensures count { self.new.count ≡ self.old.count + 1 }
+    {
+        self.nodes[self.count] = node as u8;
+        self.count += 1;
+    }
+
+    // Each node's place in the list.
+    pub fn places(&self) -> Places
+        ensures size { result.count ≡ self.now.count }
+        ensures placed { Placed (take self.now.count self.now.nodes) result.at }
+    {
+        let mut at = [self.count as u8; 64];
+        for i in (0..self.count).rev() {
+            at[usize::from(self.nodes[i])] = i as u8;
+        }
+        Places {
+            at,
+            count: self.count,
+        }
+    }
+}
+
+// Each node's place in a list of `count` nodes; `count` for a node that is not in it.
+#[derive(Clone, Copy)]
+pub struct Places {
+    pub at: [u8; 64],
+    pub count: usize,
+    pub ghost long: { length at ≡ 64 },
+}
+
+impl Places {
+    // Whether a wire is late.
+    // Ruled out, and tried by a must-fail edit: the plate's loop broken at fb2 to wet7
+    // (plate_board, loop_elsewhere).
+    pub fn is_late(&self, source: usize, target: usize) -> bool
+        requires { (source < 64) × (target < 64) }
+        ensures { (l : List ℕ) → length l ≡ self.now.count → Placed l self.now.at → result ≡ is_late l (wire source target) }
+    {
+        let s = usize::from(self.at[source]);
+        let t = usize::from(self.at[target]);
+        s < self.count && t < self.count && s >= t
+    }
+
+    // How many of the wires are late.
+    pub fn late_count(&self, wires: &Wires) -> usize
+        requires { (wires.now.count ≤ 128) × Joined 64 wires.now.list wires.now.count }
+        ensures { (l : List ℕ) → length l ≡ self.now.count → Placed l self.now.at → result ≡ length (late_wires l (wires_of wires.now.list wires.now.count)) }
+    {
+        let mut late = 0;
+        for &(source, target) in &wires.list[..wires.count] {
+            if self.is_late(usize::from(source), usize::from(target)) {
+                late += 1;
+            }
+        }
+        late
+    }
+}
+
+// The walk from `node`, which is not marked yet: marks it, goes to each of its sources that is not
+// marked, then lists it.
+fn visit(node: usize, sources: &Sources, marks: &mut [bool; 64], order: &mut Order)
+    requires { Ready sources.now.counts sources.now.lists node marks.old order.old.nodes order.old.count }
+    ensures { Visited sources.now.counts sources.now.lists node marks.old order.old.nodes order.old.count marks.new order.new.nodes order.new.count }
+{
+    marks[node] = true;
+    let first = 8 * node;
+    let size = usize::from(sources.counts[node]);
+    for &source in &sources.lists[first..first + size] {
+        let source = usize::from(source);
+        if !marks[source] {
+            visit(source, sources, marks, order);
+        }
+    }
+    order.push(node);
+}
+
+// The visiting list of the wires whose sources are gathered.
 // Ruled out, and tried by must-fail edits: a node listed before its sources (lists_before_sources), the
 // newest wire first (sources, newest_wire_first).
-pub fn visiting_list<'a>(counts: &'a [u8; 64], lists: &'a [u8; 512]) -> Order
-    requires { Table counts.now lists.now }
-    ensures { (ws : List Wire) → Gathered ws counts.now lists.now → Lists (visiting_list ws) result.nodes result.count }
+pub fn visiting_list(sources: &Sources) -> Order
+    requires { Table sources.now.counts sources.now.lists }
+    ensures { (ws : List Wire) → Gathered ws sources.now.counts sources.now.lists → Lists (visiting_list ws) result.nodes result.count }
 {
-    let mut marks = [0u8; 64];
-    let mut nodes = [0u8; 64];
-    let count = visit(0, counts, lists, &mut marks, &mut nodes, 0);
-    Order { nodes, count }
-}
-
-// Each node's place in a list; `count` for a node that is not in it.
-pub fn places(nodes: &[u8; 64], count: usize) -> [u8; 64]
-    requires { (length nodes.now ≡ 64) × (count ≤ 64) × Within 64 nodes.now count }
-    ensures { Placed (take count nodes.now) result }
-{
-    let mut r = [count as u8; 64];
-    let mut i = count;
-    while 0 < i {
-        i -= 1;
-        let v = wide(nodes[i]);
-        r[v] = i as u8;
-    }
-    r
-}
-
-// Whether a wire is late in the list of `count` nodes whose places are given.
-// Ruled out, and tried by a must-fail edit: the plate's loop broken at fb2 to wet7
-// (plate_loop_elsewhere).
-pub fn is_late(places: &[u8; 64], count: usize, source: usize, target: usize) -> bool
-    requires { (source < 64) × (target < 64) }
-    ensures { (l : List ℕ) → length l ≡ count → Placed l places.now → result ≡ is_late l (wire source target) }
-{
-    let s = wide(places[source]);
-    let t = wide(places[target]);
-    ((s < count) & (t < count)) & !(s < t)
-}
-
-// How many of the wires are late in the list of `count` nodes whose places are given.
-pub fn late_count<'a>(
-    sources: &'a [u8; 128],
-    targets: &'a [u8; 128],
-    wires: usize,
-    places: &[u8; 64],
-    count: usize,
-) -> usize
-    requires { (wires ≤ 128) × Within 64 sources.now wires × Within 64 targets.now wires }
-    ensures { (l : List ℕ) → length l ≡ count → Placed l places.now → result ≡ length (late_wires l (wires_of sources.now targets.now wires)) }
-{
-    let mut n = 0;
-    let mut i = 0;
-    while i < wires {
-        if is_late(places, count, wide(sources[i]), wide(targets[i])) {
-            n += 1;
-        }
-        i += 1;
-    }
-    n
+    let mut marks = [false; 64];
+    let mut order = Order {
+        nodes: [0; 64],
+        count: 0,
+    };
+    visit(0, sources, &mut marks, &mut order);
+    order
 }

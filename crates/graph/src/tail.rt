@@ -1,69 +1,56 @@
 // The tail: how many samples a board's output can go on after its input has turned zero for good.
-ghost use Rattle.std.specs.Prelude.{◌≡◌, cond, ◌≤◌, length, take};
-ghost use Rattle.boards.specs.Wires.{Within, wires_of};
-ghost use Rattle.graph.specs.Tail.{delays, only_delays, listed_lines, endless, tail_by, tail_answer, LinesFit};
+ghost use Rattle.std.specs.Prelude.{◌≡◌, Option, Some, ℕ, ◌≤◌, length, take};
+ghost use Rattle.boards.specs.Wires.{Joined, wires_of};
+ghost use Rattle.graph.specs.Tail.{delays, endless, tail_answer, LinesFit};
+ghost use Rattle.graph.specs.Walking.{lines_by, tail_if};
 
-use crate::graph::{late_count, places, visiting_list};
+use crate::graph::{Order, visiting_list};
+use boards::board::Board;
 use boards::judge::read_board;
 use kinds::kind::{NodeKind, NodeRecord, line_of};
 use records::answer::Answer;
-use values::bytes::wide;
 
 // The answer of a board whose output may never end.
 pub const ENDLESS: usize = 4294967295;
 
 // Whether a node of this type is silent as soon as its sources and its line are.
-fn delays(k: NodeKind) -> bool
-    ensures { result ≡ delays k }
+fn delays(kind: NodeKind) -> bool
+    ensures { result ≡ delays kind }
 {
-    match k {
-        NodeKind::Add(_) | NodeKind::AllPass(_, _) | NodeKind::OnePole(_) | NodeKind::Sine(_) =>
-            false,
-        _ => true,
-    }
+    !matches!(
+        kind,
+        NodeKind::Add(_) | NodeKind::AllPass(_, _) | NodeKind::OnePole(_) | NodeKind::Sine(_)
+    )
 }
 
-// The sum of the lines of the first `count` nodes of the list; endless if one of them does not only
-// delay.
-fn listed_lines(nodes: [NodeRecord; 64], list: &[u8; 64], count: usize) -> usize
-    requires { (length list.now ≡ 64) × (count ≤ 64) × Within 64 list.now count × LinesFit nodes list.now count }
-    ensures { (result ≡ cond (only_delays nodes (take count list.now)) (listed_lines nodes (take count list.now)) endless) × (result ≤ endless) }
+// The sum of the listed nodes' lines; none if one of them does not only delay.
+fn listed_lines(nodes: &[NodeRecord; 64], order: &Order) -> Option<usize>
+    requires { LinesFit nodes.now order.now.nodes order.now.count }
+    ensures sum { result ≡ lines_by nodes.now (take order.now.count order.now.nodes) }
+    ensures few { (n : ℕ) → result ≡ Some n → n ≤ endless }
 {
     let mut sum = 0;
-    let mut i = 0;
-    while i < count {
-        let v = wide(list[i]);
-        let node = nodes[v];
-        let kind = node.kind;
-        if delays(kind) {
-            sum += line_of(kind);
-            i += 1;
-        } else {
-            return ENDLESS;
+    for &node in order.listed() {
+        let kind = nodes[usize::from(node)].kind;
+        if !delays(kind) {
+            return None;
         }
+        sum += line_of(kind);
     }
-    sum
+    Some(sum)
 }
 
-// The tail of a board with these nodes, wires and visiting list.
-fn tail<'a>(
-    nodes: [NodeRecord; 64],
-    sources: &'a [u8; 128],
-    targets: &'a [u8; 128],
-    wires: usize,
-    list: &[u8; 64],
-    count: usize,
-) -> usize
-    requires wires_bound { (wires ≤ 128) × Within 64 sources.now wires × Within 64 targets.now wires }
-    requires list_len { (length list.now ≡ 64) × (count ≤ 64) × Within 64 list.now count × LinesFit nodes list.now count }
-    ensures { (result ≡ tail_by nodes (wires_of sources.now targets.now wires) (take count list.now)) × (result ≤ endless) }
+// The tail of a board with this visiting list; none if it is endless.
+fn tail(board: &Board, order: &Order) -> Option<usize>
+    requires wires { (board.now.wires.count ≤ 128) × Joined 64 board.now.wires.list board.now.wires.count }
+    requires lines { LinesFit board.now.nodes order.now.nodes order.now.count }
+    ensures sum { result ≡ tail_if board.now.nodes (wires_of board.now.wires.list board.now.wires.count) (take order.now.count order.now.nodes) }
+    ensures few { (n : ℕ) → result ≡ Some n → n ≤ endless }
 {
-    let at = places(list, count);
-    if late_count(sources, targets, wires, &at, count) == 0 {
-        listed_lines(nodes, list, count)
-    } else {
-        ENDLESS
+    if order.places().late_count(&board.wires) != 0 {
+        return None;
     }
+    listed_lines(&board.nodes, order)
 }
 
 // The tail call: a refusal, or 0 and the tail.
@@ -72,23 +59,10 @@ fn tail<'a>(
 pub fn tail_of(s: &[u8]) -> Answer
     ensures { result ≡ tail_answer s.now }
 {
-    let board = read_board(s);
-    let refused = board.refused;
-    if refused.number != 0 {
-        return refused;
-    }
-    let order = visiting_list(&board.counts, &board.lists);
-    let nodes = board.nodes;
-    let list = order.nodes;
-    Answer::new(
-        0,
-        tail(
-            nodes,
-            &board.sources,
-            &board.targets,
-            board.wires,
-            &list,
-            order.count,
-        ),
-    )
+    let board = match read_board(s) {
+        Ok(board) => board,
+        Err(refused) => return refused,
+    };
+    let order = visiting_list(&board.sources);
+    Answer::new(0, tail(&board, &order).unwrap_or(ENDLESS))
 }

@@ -1,8 +1,6 @@
 -- The two calls on bytes.
 pub mod Sixth
 pub mod Gathers
-pub mod Closing
-pub mod Closed
 pub mod Newest
 pub mod Written
 pub mod Boards

@@ -1,20 +1,20 @@
 // A wire added to a board that plays, or pulled from it: the calls on lent bytes. Everything is judged
 // before anything is written.
-ghost use Rattle.std.specs.Prelude.{◌≡◌, ◌++◌, ◌+◌, ◌≤◌, min, ltb, length, take};
+ghost use Rattle.std.specs.Prelude.{◌≡◌, ◌++◌, ◌+◌, ◌≤◌, min, ltb, length, take, map};
 ghost use Rattle.std.proofs.lemmas.List.Edits.{sets};
 ghost use Rattle.reading.specs.Order.{wire};
-ghost use Rattle.boards.specs.Wires.{wires_of};
+ghost use Rattle.boards.specs.Wires.{wire_of};
 ghost use Rattle.records.specs.Write.{wire_bytes, end_bytes};
-ghost use Rattle.wiring.specs.Rewire.{wiring, refusal, closed_up, in_front, added_board, add_of, pull_of};
-ghost use Rattle.wiring.specs.Rewiring.{newest_place, Pulls};
+ghost use Rattle.wiring.specs.Rewire.{wiring, refusal, closed_up, in_front, add_of, pull_of};
+ghost use Rattle.wiring.specs.Rewiring.{newest_place, Adds, Pulls};
 
 use boards::board::wire_fits;
 use boards::judge::read_board;
-use carrying::carried::carried_list;
+use carrying::carried::{Change, carried_list};
 use graph::graph::{Order, visiting_list};
 use kinds::kind::sources_fit;
+use records::answer::Answer;
 use records::writer::{put_end, put_wire};
-use values::bytes::wide;
 
 // What a change of wires gives back: number and place as every call, and the new board's visiting list,
 // the first `count` bytes of `listed`, with zeros behind them. A refusal's list is empty.
@@ -42,7 +42,7 @@ fn refusal(number: u32, place: u32) -> Wiring
 fn too_short(lent: usize, n: usize, more: usize) -> bool
     ensures { result ≡ ltb lent (n + more) }
 {
-    if lent < more { true } else { lent - more < n }
+    lent < more || lent - more < n
 }
 
 // 15: the length needed, n + more, held at the largest place.
@@ -58,136 +58,90 @@ fn no_room(n: usize, more: usize) -> Wiring
 }
 
 // 0 and a visiting list.
-fn listing(order: Order) -> Wiring
-    requires { (length order.nodes ≡ 64) × (order.count ≤ 64) }
-    ensures { result ≡ wiring 0 0 (take order.count order.nodes) }
+fn listing(order: &Order) -> Wiring
+    ensures { result ≡ wiring 0 0 (take order.now.count order.now.nodes) }
 {
-    let nodes = order.nodes;
-    let count = order.count;
-    let mut listed = [0u8; 64];
-    let mut i = 0;
-    while i < count {
-        listed[i] = nodes[i];
-        i += 1;
-    }
+    let mut listed = [0; 64];
+    listed[..order.count].copy_from_slice(order.listed());
     Wiring {
         number: 0,
         place: 0,
-        count: count as u32,
+        count: order.count as u32,
         listed,
     }
 }
 
-// The place of the newest wire from `source` to `target` among the first `wires`; `wires` if there is
-// none.
-fn newest<'a>(
-    sources: &'a [u8; 128],
-    targets: &'a [u8; 128],
-    wires: usize,
-    source: usize,
-    target: usize,
-) -> usize
-    requires { wires ≤ 128 }
-    ensures { result ≡ newest_place (wires_of sources.now targets.now wires) source target }
+// The place of the newest of these wires from `source` to `target`.
+fn newest(wires: &[(u8, u8)], source: usize, target: usize) -> Option<usize>
+    ensures { result ≡ newest_place (map wire_of wires.now) source target }
 {
-    let mut i = wires;
-    while 0 < i {
-        i -= 1;
-        if (wide(sources[i]) == source) & (wide(targets[i]) == target) {
-            return i;
-        }
-    }
-    wires
+    wires.iter().rposition(|w| usize::from(w.0) == source && usize::from(w.1) == target)
 }
 
-// The answer of a wire added to a board. Check 6 of the changed board can only fail at the target: the
+// The visiting list with a wire added. Check 6 of the changed board can only fail at the target: the
 // other nodes have the sources they had. If there is a like wire already, nothing changes. Else the
 // table of sources has one entry more.
-fn added(s: &[u8], source: u16, target: u16) -> Wiring
-    ensures { result ≡ (added_board source target s.now).0 }
+fn added(s: &[u8], source: u16, target: u16) -> Result<Order, Answer>
+    ensures { Adds s.now source target result }
 {
-    let board = read_board(s);
-    let refused = board.refused;
-    if refused.number != 0 {
-        return refusal(refused.number, refused.place);
+    let board = read_board(s)?;
+    let wires = &board.wires.list[..board.wires.count];
+    if !wire_fits(board.count, wires.len(), source, target) {
+        return Err(Answer::new(5, s.len() - 4));
     }
-    let wires = board.wires;
-    if !wire_fits(board.count, wires, source, target) {
-        return refusal(5, (s.len() - 4) as u32);
-    }
-    let from = source as usize;
-    let to = target as usize;
+    let from = usize::from(source);
+    let to = usize::from(target);
     if to == board.input {
-        return refusal(6, target as u32);
+        return Err(Answer::new(6, to));
     }
-    let was = visiting_list(&board.counts, &board.lists);
-    if newest(&board.sources, &board.targets, wires, from, to) < wires {
-        return listing(was);
+    let was = visiting_list(&board.sources);
+    if newest(wires, from, to).is_some() {
+        return Ok(was);
     }
-    let mut counts = board.counts;
-    let mut lists = board.lists;
-    let n = wide(counts[to]);
-    let node = board.nodes[to];
-    let kind = node.kind;
+    let mut sources = board.sources;
+    let n = usize::from(sources.counts[to]);
+    let kind = board.nodes[to].kind;
     if !sources_fit(kind, n + 1) {
-        return refusal(6, target as u32);
+        return Err(Answer::new(6, to));
     }
-    counts[to] = (n + 1) as u8;
-    lists[8 * to + n] = source as u8;
-    let nodes = was.nodes;
-    listing(carried_list(&counts, &lists, &nodes, was.count, true, from, to))
+    sources.counts[to] = (n + 1) as u8;
+    sources.lists[8 * to + n] = source as u8;
+    let change = Change {
+        adding: true,
+        source: from,
+        target: to,
+    };
+    Ok(carried_list(&sources, &was, change))
 }
 
-// The answer of a wire pulled from a board, and where its record stands if it is 0.
-#[derive(Clone, Copy)]
-struct Pull {
-    answer: Wiring,
-    at: usize,
-}
-
-fn pull_of(answer: Wiring, at: usize) -> Pull
-    ensures { (result.answer ≡ answer) × (result.at ≡ at) }
-{
-    Pull { answer, at }
-}
-
-// Check 6 of the changed board can only fail at the target. If an older like wire stays, nothing changes.
-fn pulled(s: &[u8], source: u16, target: u16) -> Pull
+// The visiting list with a wire pulled, and where its record stands. Check 6 of the changed board can
+// only fail at the target. If an older like wire stays, nothing changes.
+fn pulled(s: &[u8], source: u16, target: u16) -> Result<(Order, usize), Answer>
     ensures { Pulls s.now source target result }
 {
-    let board = read_board(s);
-    let refused = board.refused;
-    if refused.number != 0 {
-        return pull_of(refusal(refused.number, refused.place), 0);
-    }
-    let wires = board.wires;
-    let from = source as usize;
-    let to = target as usize;
-    let place = newest(&board.sources, &board.targets, wires, from, to);
-    if place == wires {
-        return pull_of(refusal(16, target as u32), 0);
-    }
+    let board = read_board(s)?; // 1 to 6 come before 16.
+    let wires = &board.wires.list[..board.wires.count];
+    let from = usize::from(source);
+    let to = usize::from(target);
+    let Some(place) = newest(wires, from, to) else {
+        return Err(Answer::new(16, to));
+    };
     let at = 8 + 14 * board.count + 8 * place;
-    let was = visiting_list(&board.counts, &board.lists);
-    if newest(&board.sources, &board.targets, place, from, to) < place {
-        return pull_of(listing(was), at);
+    let was = visiting_list(&board.sources);
+    if newest(&wires[..place], from, to).is_some() {
+        return Ok((was, at));
     }
-    let node = board.nodes[to];
-    let kind = node.kind;
-    if !sources_fit(kind, wide(board.counts[to]) - 1) {
-        return pull_of(refusal(6, target as u32), at);
+    let n = usize::from(board.sources.counts[to]);
+    let kind = board.nodes[to].kind;
+    if !sources_fit(kind, n - 1) {
+        return Err(Answer::new(6, to));
     }
-    let nodes = was.nodes;
-    let order = carried_list(
-        &board.counts,
-        &board.lists,
-        &nodes,
-        was.count,
-        false,
-        from,
-        to,
-    );
-    pull_of(listing(order), at)
+    let change = Change {
+        adding: false,
+        source: from,
+        target: to,
+    };
+    Ok((carried_list(&board.sources, &was, change), at))
 }
 
 // A wire record and the end record behind it.
@@ -204,11 +158,7 @@ fn close_bytes(bytes: &mut [u8], at: usize, n: usize)
     requires { (at + 8 ≤ n) × (n ≤ length bytes.old) }
     ensures { bytes.new ≡ in_front (closed_up at (take n bytes.old)) bytes.old }
 {
-    let mut i = at + 8;
-    while i < n {
-        bytes[i - 8] = bytes[i];
-        i += 1;
-    }
+    bytes.copy_within(at + 8..n, at);
 }
 
 // Adds a wire to the board that the first n bytes are: its record comes before the end record, into the
@@ -223,11 +173,13 @@ pub fn add_wire(bytes: &mut [u8], n: usize, source: u16, target: u16) -> Wiring
     if too_short(bytes.len(), n, 8) {
         return no_room(n, 8);
     }
-    let answer = added(&bytes[..n], source, target);
-    if answer.number == 0 {
-        put_last(bytes, n - 4, source, target);
+    match added(&bytes[..n], source, target) {
+        Ok(order) => {
+            put_last(bytes, n - 4, source, target);
+            listing(&order)
+        }
+        Err(refused) => refusal(refused.number, refused.place),
     }
-    answer
 }
 
 // Pulls the newest wire from `source` to `target` of the board that the first n bytes are, and closes up.
@@ -242,10 +194,11 @@ pub fn pull_wire(bytes: &mut [u8], n: usize, source: u16, target: u16) -> Wiring
     if bytes.len() < n {
         return no_room(n, 0);
     }
-    let pull = pulled(&bytes[..n], source, target);
-    let answer = pull.answer;
-    if answer.number == 0 {
-        close_bytes(bytes, pull.at, n);
+    match pulled(&bytes[..n], source, target) {
+        Ok((order, at)) => {
+            close_bytes(bytes, at, n);
+            listing(&order)
+        }
+        Err(refused) => refusal(refused.number, refused.place),
     }
-    answer
 }

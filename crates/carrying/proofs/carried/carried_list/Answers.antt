@@ -6,20 +6,21 @@ use Rattle.graph.specs.Walking.{unmarked}
 use Rattle.carrying.proofs.Called.{carries}
 use Rattle.carrying.proofs.carried.carried_list.Goals as goal
 
-pub skim-r-requires : goal.skim-r-requires
+pub skim-requires : goal.skim-requires
 unfolding unmarked
-skim-r-requires c =
+skim-requires c =
     let pre = c.requires in
+    let o = c.args.old.now in
     record {
       table = pre.0;
-      was = record { long = pre.1; fits = pre.2; below = pre.3; once = pre.4; placed = c.places-place.ensures };
+      was = record { long = o.long; fits = o.fits; below = o.below; once = pre.1; placed = c.places-places.ensures.placed };
       node_in = omega arith;
-      source_in = pre.5;
-      target_in = pre.6;
-      room = record { marks_size = refl; list_size = refl; room = omega arith };
+      source_in = pre.2;
+      target_in = pre.3;
+      room = record { marks_size = refl; room = omega arith };
       unseen = refl;
       at_in = omega arith;
     }
 
 pub returns : goal.returns
-returns c = carries _ _ _ _ _ _ _ c.requires.5 _ _ _ c.skim-r.ensures
+returns c = carries _ _ _ _ _ _ _ c.requires.2 _ c.skim.new.self.order _ c.skim.ensures

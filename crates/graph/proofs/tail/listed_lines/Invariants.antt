@@ -1,10 +1,7 @@
-use Prim.Native.Nat.{◌*◌, ◌-◌, ◌≤◌}
+use Prim.Native.Nat.{◌*◌, ◌≤◌}
 use lib.ListN.{take}
 use Rattle.graph.proofs.Lines.{Summed}
 use Rattle.graph.proofs.tail.listed_lines.Given as goal
 
-abbrev pub invariant-loop-i : goal.invariant-loop-i
-invariant-loop-i l = (l.i ≤ l.count) × (l.sum ≤ 262144 * l.i) × Summed l.nodes (take l.count l.list) l.sum l.i
-
-abbrev pub decreases-loop-i : goal.decreases-loop-i
-decreases-loop-i l = l.count - l.i
+abbrev pub invariant-loop-node : goal.invariant-loop-node
+invariant-loop-node l = (l.sum ≤ 262144 * l.node-index) × Summed l.nodes (take l.order.count l.order.nodes) l.sum l.node-index

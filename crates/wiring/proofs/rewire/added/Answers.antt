@@ -1,12 +1,15 @@
 -- `wiring::rewire::added` meets its contract: the old board is judged, then the wire, then its target by check 6. Assumes nothing.
 use Prim.Native.Nat.{ℕ, ◌+◌, ◌*◌, ◌<◌, ◌≤◌}
-use mathlib.Core.Path.{◌≡◌, refl, sym, ap, subst, ◌∙◌}
+use mathlib.Core.Path.{◌≡◌, refl, sym, ap, ap₂, subst, subst₂, ◌∙◌}
 use mathlib.Core.Bool.{Bool, true, false}
 use mathlib.Core.List.{List}
 use native.Mathlib.Nat.{le_trans}
 use native.Mathlib.Omega.{arith}
-use lib.ListN.{length, get_or, set}
+use lib.ListN.{length, get_or, set, take}
+use lib.Seq.{length-take-le}
+use Rattle.std.specs.Prelude.{Ok, Option, is_some}
 use Rattle.values.specs.Words.{Bytes}
+use Rattle.records.specs.declared.answer.Answer.{Answer}
 use Rattle.kinds.specs.Kind.{sources_fit}
 use Rattle.reading.specs.Table.{mem}
 use Rattle.reading.specs.Order.{sources}
@@ -16,177 +19,211 @@ use Rattle.boards.specs.Read.{Read, parsed_of}
 use Rattle.graph.specs.Visit.{visiting_list, Lists}
 use Rattle.graph.specs.Walking.{Table, Gathered}
 use Rattle.boards.specs.declared.board.Board.{Board}
-use Rattle.graph.proofs.Accepted.{refused_board, accepted_board, count_is}
+use Rattle.graph.proofs.Accepted.{count_is}
 use Rattle.boards.proofs.Fits.{wire_fits_lem}
 use Rattle.graph.proofs.Wired as graph
-use Rattle.boards.proofs.Wiring.{wires_length}
 use Rattle.carrying.specs.Carried.{added, wired}
 use Rattle.carrying.specs.Skimming.{Carries}
+use Rattle.wiring.specs.Rewire.{refusal, added_board}
 use Rattle.wiring.specs.Rewiring.{newest_place}
 use Rattle.wiring.specs.declared.rewire.Wiring.{Wiring}
-use Rattle.wiring.proofs.Answered.{added_refused, added_five}
-use Rattle.wiring.proofs.Boards.{takes, below_64, listed_once, eight, added_into, added_like, added_over, added_new}
+use Rattle.wiring.proofs.Answered.{added_five}
+use Rattle.wiring.proofs.Boards.{takes, add_refused, below_64, listed_once, wires_are, eight, added_into, added_like, added_over, added_new}
 use Rattle.wiring.proofs.Gathers.{table_more, gathered_more}
-use Rattle.wiring.proofs.Newest.{found, not_found}
+use Rattle.wiring.proofs.Newest.{some_there}
 use Rattle.carrying.proofs.Tables.{wired-mem}
 use Rattle.wiring.proofs.Written.{read_long}
 use Rattle.wiring.proofs.rewire.added.Goals as goal
 
 -- ---- the bytes of an accepted board, the board, and the wire's ends
 
-module _ (s : List ℕ) (b : Board) (read : Read (read_board s) b) (accepted : b.refused.number ≡ 0) (from to : ℕ) where
-  wires_are : length (parsed_of b).wires ≡ b.wires
-  wires_are = wires_length b.sources b.targets b.wires
-
+module _ (s : List ℕ) (b : Board) (read : Read (read_board s) (Ok b)) (from to : ℕ) where
   -- how long the board is
   long : Bytes s → (4 ≤ length s) × (length s ≤ 1932)
   long small =
-      let l = read_long s small (parsed_of b) (accepted_board _ _ read accepted) in
-      (omega (arith, l), omega (arith, l, count_is _ _ read accepted, wires_are, read.sound.few_nodes, read.sound.few_wires))
+      let l = read_long s small (parsed_of b) read.0 in
+      (omega (arith, l), omega (arith, l, count_is s b read, wires_are s b read, read.1.few_nodes, read.1.few_wires))
+
+  -- the wires in their array are as many as are counted
+  counted : (f : Bool) → wire_fits b.count (length (take b.wires.count b.wires.list)) from to ≡ f → wire_fits b.count b.wires.count from to ≡ f
+  counted f e =
+      ap (λ (n : ℕ). wire_fits b.count n from to) (sym (length-take-le b.wires.count b.wires.list (omega (arith, read.1.wires_long, read.1.few_wires)))) ∙ e
 
   -- the list of the old board
-  was : {nodes : List ℕ} {count : ℕ} → ((ws : _) → Gathered ws b.counts b.lists → Lists (visiting_list ws) nodes count) → Lists (visiting_list (parsed_of b).wires) nodes count
-  was h = h (parsed_of b).wires (graph.gathered s b read accepted)
+  was : {nodes : List ℕ} {count : ℕ} → ((ws : _) → Gathered ws b.sources.counts b.sources.lists → Lists (visiting_list ws) nodes count)
+      → Lists (visiting_list (parsed_of b).wires) nodes count
+  was h = h (parsed_of b).wires (graph.gathered s b read)
 
-  -- a like wire is there
-  there : {n : ℕ} → n ≡ newest_place (parsed_of b).wires from to → n < b.wires → wired (parsed_of b).wires from to ≡ true
-  there e h = (found (parsed_of b).wires from to (λ q. omega (arith, h, e, q, wires_are))).there
+  -- a like wire is there, or none
+  there : {o : Option ℕ} {t : Bool} (f : Bool) → o ≡ newest_place (parsed_of b).wires from to → t ≡ is_some o → t ≡ f → wired (parsed_of b).wires from to ≡ f
+  there f e i h = some_there (parsed_of b).wires from to f (ap is_some (sym e) ∙ sym i ∙ h)
 
-  -- there is none
-  none : {n : ℕ} → n ≡ newest_place (parsed_of b).wires from to → b.wires ≤ n → mem from (sources (parsed_of b).wires to) ≡ false
-  none e h = sym (wired-mem (parsed_of b).wires from to) ∙ not_found (parsed_of b).wires from to (omega (arith, h, e, wires_are))
+  none : wired (parsed_of b).wires from to ≡ false → mem from (sources (parsed_of b).wires to) ≡ false
+  none e = sym (wired-mem (parsed_of b).wires from to) ∙ e
 
-  module _ (fits : wire_fits b.count b.wires from to ≡ true) where
+  module _ (fits : wire_fits b.count b.wires.count from to ≡ true) where
     -- the ends are nodes
     ends : (from < 64) × (to < 64)
     ends =
-        let f = wire_fits_lem b.count b.wires from to fits in
-        (le_trans f.obeys.source_there read.sound.few_nodes, le_trans f.obeys.target_there read.sound.few_nodes)
+        let f = wire_fits_lem b.count b.wires.count from to fits in
+        (le_trans f.obeys.source_there read.1.few_nodes, le_trans f.obeys.target_there read.1.few_nodes)
 
-    module _ (passes : takes b to (get_or b.counts to 0 + 1) ≡ true) where
-      room : get_or b.counts to 0 < 8
-      room = omega (arith, eight s b read accepted to _ passes)
+    module _ (passes : takes b to (get_or b.sources.counts to 0 + 1) ≡ true) where
+      room : get_or b.sources.counts to 0 < 8
+      room = omega (arith, eight s b read to _ passes)
 
       -- the table with the wire
-      table : {n : ℕ} → n ≡ get_or b.counts to 0 → Table (set b.counts to (n + 1)) (set b.lists (8 * to + n) from)
+      table : {n : ℕ} → n ≡ get_or b.sources.counts to 0 → Table (set b.sources.counts to (n + 1)) (set b.sources.lists (8 * to + n) from)
       table e =
-          subst (λ (n : ℕ). Table (set b.counts to (n + 1)) (set b.lists (8 * to + n) from)) (sym e)
-          (table_more b.counts b.lists (graph.table s b read accepted) read.sound.table.counts_long read.sound.table.lists_long from to ends.1 room ends.0)
+          subst (λ (n : ℕ). Table (set b.sources.counts to (n + 1)) (set b.sources.lists (8 * to + n) from)) (sym e)
+          (table_more b.sources.counts b.sources.lists (graph.table s b read) read.1.table.counts_long read.1.table.lists_long from to ends.1 room ends.0)
 
-      gathered : {n : ℕ} → n ≡ get_or b.counts to 0 → mem from (sources (parsed_of b).wires to) ≡ false
-          → Gathered (added (parsed_of b).wires from to) (set b.counts to (n + 1)) (set b.lists (8 * to + n) from)
+      gathered : {n : ℕ} → n ≡ get_or b.sources.counts to 0 → mem from (sources (parsed_of b).wires to) ≡ false
+          → Gathered (added (parsed_of b).wires from to) (set b.sources.counts to (n + 1)) (set b.sources.lists (8 * to + n) from)
       gathered e new =
-          subst (λ (n : ℕ). Gathered (added (parsed_of b).wires from to) (set b.counts to (n + 1)) (set b.lists (8 * to + n) from)) (sym e)
-          (gathered_more b.counts b.lists (graph.table s b read accepted) read.sound.table.counts_long read.sound.table.lists_long from to ends.1 room (parsed_of b).wires
-          (graph.gathered s b read accepted) new)
+          subst (λ (n : ℕ). Gathered (added (parsed_of b).wires from to) (set b.sources.counts to (n + 1)) (set b.sources.lists (8 * to + n) from)) (sym e)
+          (gathered_more b.sources.counts b.sources.lists (graph.table s b read) read.1.table.counts_long read.1.table.lists_long from to ends.1 room (parsed_of b).wires
+          (graph.gathered s b read) new)
 
       -- the list carried over
-      now_listed : {n size count : ℕ} {old nodes : List ℕ} → n ≡ get_or b.counts to 0 → mem from (sources (parsed_of b).wires to) ≡ false
-          → Lists (visiting_list (parsed_of b).wires) old size → Carries (set b.counts to (n + 1)) (set b.lists (8 * to + n) from) old size true from to nodes count
+      now_listed : {n size count : ℕ} {old nodes : List ℕ} → n ≡ get_or b.sources.counts to 0 → mem from (sources (parsed_of b).wires to) ≡ false
+          → Lists (visiting_list (parsed_of b).wires) old size
+          → Carries (set b.sources.counts to (n + 1)) (set b.sources.lists (8 * to + n) from) old size true from to nodes count
           → Lists (visiting_list (added (parsed_of b).wires from to)) nodes count
-      now_listed e new l h = h.added_list refl (parsed_of b).wires (below_64 s b read accepted) new (gathered e new) l.same
+      now_listed e new l h = h.added_list refl (parsed_of b).wires (below_64 s b read) new (gathered e new) l.same
 
 -- what check 6 makes of the target
-judged : (b : Board) (to : ℕ) {n : ℕ} {f : Bool} → f ≡ sources_fit (get_or b.nodes to blank).kind (n + 1) → n ≡ get_or b.counts to 0 → takes b to (get_or b.counts to 0 + 1) ≡ f
+judged : (b : Board) (to : ℕ) {n : ℕ} {f : Bool} → f ≡ sources_fit (get_or b.nodes to blank).kind (n + 1) → n ≡ get_or b.sources.counts to 0
+    → takes b to (get_or b.sources.counts to 0 + 1) ≡ f
 judged b to h e = sym (h ∙ ap (λ (n : ℕ). takes b to (n + 1)) e)
 
-pub returns-then-refused-ne0 : goal.returns-then-refused-ne0
-returns-then-refused-ne0 c =
-    let a = c.args in
-    c.refusal.ensures
-    ∙ sym (ap (λ (d : Wiring × List ℕ). d.0) (added_refused a.s.now a.source a.target _ _ (refused_board _ _ c.read_board-board.ensures c.if-refused-ne0.true)))
+pub returns-in_err-board : goal.returns-in_err-board
+returns-in_err-board c = add_refused _ _ _ _ _ c.from_residual.ensures.1 c.in_err-board.ensures
 
 pub overflow_sub-s : goal.overflow_sub-s
-overflow_sub-s c = (long _ _ c.read_board-board.ensures c.if-refused-ne0.false c.args.source c.args.target (λ i. omega (arith, c.type_inv.s i))).0
+overflow_sub-s c = (long _ _ c.in_ok-board.ensures c.args.source c.args.target (λ i. omega (arith, c.type_inv.s i))).0
 
-pub overflow_cast-s : goal.overflow_cast-s
-overflow_cast-s c = omega (arith, long _ _ c.read_board-board.ensures c.if-refused-ne0.false c.args.source c.args.target (λ i. omega (arith, c.type_inv.s i)))
+pub new-requires : goal.new-requires
+new-requires c = omega (arith, long _ _ c.in_ok-board.ensures c.args.source c.args.target (λ i. omega (arith, c.type_inv.s i)))
 
 pub returns-then-not-wire_fits : goal.returns-then-not-wire_fits
 returns-then-not-wire_fits c =
     let a = c.args in
-    let b = c.read_board-board.result in
-    let read = c.read_board-board.ensures in
-    let accepted = c.if-refused-ne0.false in
-    c.refusal-then-not-wire_fits.ensures
-    ∙ sym (added_five a.s.now a.source a.target (parsed_of b) (accepted_board _ _ read accepted) (λ i. omega (arith, c.type_inv.s i)) (omega arith) (omega arith)
-    ((λ i. wire_fits (count_is _ _ read accepted i) (wires_are a.s.now b read accepted a.source a.target i) a.source a.target) ∙ sym c.wire_fits.ensures ∙ c.if-not-wire_fits.true))
+    let s = a.s.now in
+    let b = c.in_ok-board.board in
+    let read = c.in_ok-board.ensures in
+    let fails : wire_fits (length (parsed_of b).nodes) (length (parsed_of b).wires) a.source a.target ≡ false =
+    (λ i. wire_fits (count_is s b read i) (wires_are s b read i) a.source a.target)
+    ∙ counted s b read a.source a.target false (sym c.wire_fits.ensures ∙ c.if-not-wire_fits.true) in
+    let answer = c.new.ensures in (
+      omega (arith, ap (λ (r : Answer). r.number) answer),
+      ap (λ (r : Answer). refusal r.number r.place) answer
+          ∙ sym (added_five s a.source a.target (parsed_of b) read.0 (λ i. omega (arith, c.type_inv.s i)) (omega arith) (omega arith) fails),
+    )
 
 pub returns-then-to-board : goal.returns-then-to-board
 returns-then-to-board c =
     let a = c.args in
-    c.refusal-then-to-board.ensures
-    ∙ added_into a.s.now c.read_board-board.result c.read_board-board.ensures c.if-refused-ne0.false (λ i. omega (arith, c.type_inv.s i)) a.source a.target
-    (sym c.wire_fits.ensures ∙ c.if-not-wire_fits.false) c.if-to-board.true
+    let s = a.s.now in
+    let b = c.in_ok-board.board in
+    let read = c.in_ok-board.ensures in
+    let x = c.from-from.result in
+    let y = c.from-to.result in
+    let small : Bytes s = λ i. omega (arith, c.type_inv.s i) in
+    let at = λ (r : Wiring). λ (h : r ≡ (added_board x y s).0). subst₂ (λ (x y : ℕ). r ≡ (added_board x y s).0) c.from-from.ensures c.from-to.ensures h in
+    let told : (f : Bool) → c.wire_fits.result ≡ f → wire_fits b.count b.wires.count x y ≡ f =
+    λ f e. counted s b read x y f (ap₂ (wire_fits b.count (length (take b.wires.count b.wires.list))) c.from-from.ensures c.from-to.ensures ∙ sym c.wire_fits.ensures ∙ e) in
+    let fits = told true c.if-not-wire_fits.false in
+    let answer = c.new-then-to-board.ensures in (
+      omega (arith, ap (λ (r : Answer). r.number) answer),
+      ap (λ (r : Answer). refusal r.number r.place) answer ∙ at _ (added_into s b read small x y fits c.if-to-board.true),
+    )
 
 -- ---- the old list, and a like wire
 
 pub visiting_list-was-requires : goal.visiting_list-was-requires
-visiting_list-was-requires c = graph.table c.args.s.now c.read_board-board.result c.read_board-board.ensures c.if-refused-ne0.false
+visiting_list-was-requires c = graph.table _ _ c.in_ok-board.ensures
 
-pub listing-requires : goal.listing-requires
-listing-requires c =
-    let l = was _ _ c.read_board-board.ensures c.if-refused-ne0.false c.args.source c.args.target c.visiting_list-was.ensures in
-    (l.size, l.fits)
-
-pub returns-then-newest-wires : goal.returns-then-newest-wires
-returns-then-newest-wires c =
+pub returns-then-is_some : goal.returns-then-is_some
+returns-then-is_some c =
     let a = c.args in
-    let b = c.read_board-board.result in
-    let read = c.read_board-board.ensures in
-    let accepted = c.if-refused-ne0.false in
-    c.listing.ensures
-    ∙ added_like a.s.now b read accepted (λ i. omega (arith, c.type_inv.s i)) a.source a.target (sym c.wire_fits.ensures ∙ c.if-not-wire_fits.false) c.if-to-board.false
-    (there a.s.now b read accepted a.source a.target c.newest.ensures c.if-newest-wires.true) _ _ (was a.s.now b read accepted a.source a.target c.visiting_list-was.ensures)
+    let s = a.s.now in
+    let b = c.in_ok-board.board in
+    let read = c.in_ok-board.ensures in
+    let x = c.from-from.result in
+    let y = c.from-to.result in
+    let small : Bytes s = λ i. omega (arith, c.type_inv.s i) in
+    let at = λ (r : Wiring). λ (h : r ≡ (added_board x y s).0). subst₂ (λ (x y : ℕ). r ≡ (added_board x y s).0) c.from-from.ensures c.from-to.ensures h in
+    let told : (f : Bool) → c.wire_fits.result ≡ f → wire_fits b.count b.wires.count x y ≡ f =
+    λ f e. counted s b read x y f (ap₂ (wire_fits b.count (length (take b.wires.count b.wires.list))) c.from-from.ensures c.from-to.ensures ∙ sym c.wire_fits.ensures ∙ e) in
+    let fits = told true c.if-not-wire_fits.false in
+    at _ (added_like s b read small x y fits c.if-to-board.false (there s b read x y true c.newest.ensures c.is_some.ensures c.if-is_some.true) _ _
+    (was s b read x y c.visiting_list-was.ensures))
 
 pub returns-then-not-sources_fit : goal.returns-then-not-sources_fit
 returns-then-not-sources_fit c =
     let a = c.args in
-    let b = c.read_board-board.result in
-    let read = c.read_board-board.ensures in
-    let accepted = c.if-refused-ne0.false in
-    c.refusal-then-not-sources_fit.ensures
-    ∙ added_over a.s.now b read accepted (λ i. omega (arith, c.type_inv.s i)) a.source a.target (sym c.wire_fits.ensures ∙ c.if-not-wire_fits.false) c.if-to-board.false
-    (none a.s.now b read accepted a.source a.target c.newest.ensures c.if-newest-wires.false)
-    (judged b a.target c.sources_fit.ensures c.wide-n.ensures ∙ c.if-not-sources_fit.true)
+    let s = a.s.now in
+    let b = c.in_ok-board.board in
+    let read = c.in_ok-board.ensures in
+    let x = c.from-from.result in
+    let y = c.from-to.result in
+    let small : Bytes s = λ i. omega (arith, c.type_inv.s i) in
+    let at = λ (r : Wiring). λ (h : r ≡ (added_board x y s).0). subst₂ (λ (x y : ℕ). r ≡ (added_board x y s).0) c.from-from.ensures c.from-to.ensures h in
+    let told : (f : Bool) → c.wire_fits.result ≡ f → wire_fits b.count b.wires.count x y ≡ f =
+    λ f e. counted s b read x y f (ap₂ (wire_fits b.count (length (take b.wires.count b.wires.list))) c.from-from.ensures c.from-to.ensures ∙ sym c.wire_fits.ensures ∙ e) in
+    let fits = told true c.if-not-wire_fits.false in
+    let new = none s b read x y (there s b read x y false c.newest.ensures c.is_some.ensures c.if-is_some.false) in
+    let answer = c.new-then-not-sources_fit.ensures in (
+      omega (arith, ap (λ (r : Answer). r.number) answer),
+      ap (λ (r : Answer). refusal r.number r.place) answer
+          ∙ at _ (added_over s b read small x y fits c.if-to-board.false new (judged b y c.sources_fit.ensures c.from-n.ensures ∙ c.if-not-sources_fit.true)),
+    )
 
 -- ---- the table with the wire, and the list carried over
 
 pub carried_list-requires : goal.carried_list-requires
 carried_list-requires c =
     let a = c.args in
-    let b = c.read_board-board.result in
-    let read = c.read_board-board.ensures in
-    let accepted = c.if-refused-ne0.false in
-    let l = was a.s.now b read accepted a.source a.target c.visiting_list-was.ensures in
-    let fits = sym c.wire_fits.ensures ∙ c.if-not-wire_fits.false in
-    let e = ends a.s.now b read accepted a.source a.target fits in
-    let passes = judged b a.target c.sources_fit.ensures c.wide-n.ensures ∙ c.if-not-sources_fit.false in
-    (table a.s.now b read accepted a.source a.target fits passes c.wide-n.ensures, l.size, l.fits, l.below, listed_once a.s.now b read accepted _ _ l, e.0, e.1)
-
-pub listing-requires-2 : goal.listing-requires-2
-listing-requires-2 c =
-    let a = c.args in
-    let b = c.read_board-board.result in
-    let read = c.read_board-board.ensures in
-    let accepted = c.if-refused-ne0.false in
-    let fits = sym c.wire_fits.ensures ∙ c.if-not-wire_fits.false in
-    let passes = judged b a.target c.sources_fit.ensures c.wide-n.ensures ∙ c.if-not-sources_fit.false in
-    let new = none a.s.now b read accepted a.source a.target c.newest.ensures c.if-newest-wires.false in
-    let l = was a.s.now b read accepted a.source a.target c.visiting_list-was.ensures in
-    let m = now_listed a.s.now b read accepted a.source a.target fits passes c.wide-n.ensures new l c.carried_list.ensures in
-    (m.size, m.fits)
+    let s = a.s.now in
+    let b = c.in_ok-board.board in
+    let read = c.in_ok-board.ensures in
+    let x = c.from-from.result in
+    let y = c.from-to.result in
+    let small : Bytes s = λ i. omega (arith, c.type_inv.s i) in
+    let at = λ (r : Wiring). λ (h : r ≡ (added_board x y s).0). subst₂ (λ (x y : ℕ). r ≡ (added_board x y s).0) c.from-from.ensures c.from-to.ensures h in
+    let told : (f : Bool) → c.wire_fits.result ≡ f → wire_fits b.count b.wires.count x y ≡ f =
+    λ f e. counted s b read x y f (ap₂ (wire_fits b.count (length (take b.wires.count b.wires.list))) c.from-from.ensures c.from-to.ensures ∙ sym c.wire_fits.ensures ∙ e) in
+    let fits = told true c.if-not-wire_fits.false in
+    let l = was s b read x y c.visiting_list-was.ensures in
+    let e = ends s b read x y fits in
+    let passes = judged b y c.sources_fit.ensures c.from-n.ensures ∙ c.if-not-sources_fit.false in (
+      subst (λ (v : ℕ). Table (set b.sources.counts y (c.from-n.result + 1)) (set b.sources.lists (8 * y + c.from-n.result) v)) c.from-from.ensures
+          (table s b read x y fits passes c.from-n.ensures),
+      listed_once s b read _ _ l,
+      e.0,
+      e.1,
+    )
 
 pub returns : goal.returns
 returns c =
     let a = c.args in
-    let b = c.read_board-board.result in
-    let read = c.read_board-board.ensures in
-    let accepted = c.if-refused-ne0.false in
-    let fits = sym c.wire_fits.ensures ∙ c.if-not-wire_fits.false in
-    let passes = judged b a.target c.sources_fit.ensures c.wide-n.ensures ∙ c.if-not-sources_fit.false in
-    let new = none a.s.now b read accepted a.source a.target c.newest.ensures c.if-newest-wires.false in
-    let l = was a.s.now b read accepted a.source a.target c.visiting_list-was.ensures in
-    let m = now_listed a.s.now b read accepted a.source a.target fits passes c.wide-n.ensures new l c.carried_list.ensures in
-    c.listing-2.ensures
-    ∙ added_new a.s.now b read accepted (λ i. omega (arith, c.type_inv.s i)) a.source a.target fits c.if-to-board.false new passes _ _ m
+    let s = a.s.now in
+    let b = c.in_ok-board.board in
+    let read = c.in_ok-board.ensures in
+    let x = c.from-from.result in
+    let y = c.from-to.result in
+    let small : Bytes s = λ i. omega (arith, c.type_inv.s i) in
+    let at = λ (r : Wiring). λ (h : r ≡ (added_board x y s).0). subst₂ (λ (x y : ℕ). r ≡ (added_board x y s).0) c.from-from.ensures c.from-to.ensures h in
+    let told : (f : Bool) → c.wire_fits.result ≡ f → wire_fits b.count b.wires.count x y ≡ f =
+    λ f e. counted s b read x y f (ap₂ (wire_fits b.count (length (take b.wires.count b.wires.list))) c.from-from.ensures c.from-to.ensures ∙ sym c.wire_fits.ensures ∙ e) in
+    let fits = told true c.if-not-wire_fits.false in
+    let new = none s b read x y (there s b read x y false c.newest.ensures c.is_some.ensures c.if-is_some.false) in
+    let passes = judged b y c.sources_fit.ensures c.from-n.ensures ∙ c.if-not-sources_fit.false in
+    let l = was s b read x y c.visiting_list-was.ensures in
+    let o = c.carried_list.result in
+    let w = c.visiting_list-was.result in
+    let carries = subst (λ (v : ℕ). Carries (set b.sources.counts y (c.from-n.result + 1)) (set b.sources.lists (8 * y + c.from-n.result) v) w.nodes w.count true x y o.nodes o.count)
+    (sym c.from-from.ensures) c.carried_list.ensures in
+    let m = now_listed s b read x y fits passes c.from-n.ensures new l carries in
+    at _ (added_new s b read small x y fits c.if-to-board.false new passes _ _ m)

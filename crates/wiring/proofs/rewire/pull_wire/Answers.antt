@@ -3,6 +3,7 @@ use Prim.Native.Nat.{ℕ, ◌+◌, min}
 use mathlib.Core.Path.{◌≡◌, sym, ap, ◌∙◌}
 use mathlib.Core.List.{List}
 use native.Mathlib.Nat.{add-zero}
+use native.Mathlib.Omega.{arith}
 use borrow.Author.Tests.{lt-ltb, le-ltb}
 use lib.ListN.{length, take}
 use Rattle.wiring.specs.Rewire.{refusal, in_front, pulled_board, pull_of}
@@ -21,25 +22,25 @@ returns-then-bytes-n c =
       bytes = sym (ap (λ (d : Wiring × List ℕ). d.1) short);
     }
 
-pub returns-then-answer-eq0 : goal.returns-then-answer-eq0
+pub returns-in-Ok : goal.returns-in-Ok
 unfolding pull_of
-returns-then-answer-eq0 c =
+returns-in-Ok c =
     let a = c.args in
-    let pull = c.pulled-pull.ensures in
+    let pull = c.in-Ok.ensures in
     let done = lent_done a.bytes.now a.n (pulled_board a.source a.target (take a.n a.bytes.now))
-    (le-ltb (length a.bytes.now) a.n c.if-bytes-n.false) (sym (ap (λ (r : Wiring). r.number) pull.answered) ∙ c.if-answer-eq0.true) in
+    (le-ltb (length a.bytes.now) a.n c.if-bytes-n.false) (sym (ap (λ (r : Wiring). r.number) pull.0)) in
     record {
-      answered = pull.answered ∙ sym (ap (λ (d : Wiring × List ℕ). d.0) done);
+      answered = c.listing.ensures ∙ pull.0 ∙ sym (ap (λ (d : Wiring × List ℕ). d.0) done);
       bytes =
           c.close_bytes.ensures
-          ∙ sym (ap (λ (d : Wiring × List ℕ). d.1) done ∙ ap (λ (l : List ℕ). in_front l a.bytes.now) (pull.stands c.if-answer-eq0.true).1);
+          ∙ sym (ap (λ (d : Wiring × List ℕ). d.1) done ∙ ap (λ (l : List ℕ). in_front l a.bytes.now) pull.2);
     }
 
-pub returns-else-answer-eq0 : goal.returns-else-answer-eq0
+pub returns-in-Err : goal.returns-in-Err
 unfolding pull_of
-returns-else-answer-eq0 c =
+returns-in-Err c =
     let a = c.args in
-    let pull = c.pulled-pull.ensures in
+    let e = c.in-Err.ensures in
     let kept = lent_kept a.bytes.now a.n (pulled_board a.source a.target (take a.n a.bytes.now))
-    (le-ltb (length a.bytes.now) a.n c.if-bytes-n.false) (λ z. c.if-answer-eq0.false (ap (λ (r : Wiring). r.number) pull.answered ∙ z)) in
-    record { answered = pull.answered ∙ sym (ap (λ (d : Wiring × List ℕ). d.0) kept); bytes = sym (ap (λ (d : Wiring × List ℕ). d.1) kept) }
+    (le-ltb (length a.bytes.now) a.n c.if-bytes-n.false) (λ z. omega (arith, e.0, ap (λ (r : Wiring). r.number) e.1, z)) in
+    record { answered = c.refusal.ensures ∙ e.1 ∙ sym (ap (λ (d : Wiring × List ℕ). d.0) kept); bytes = sym (ap (λ (d : Wiring × List ℕ). d.1) kept) }

@@ -1,228 +1,245 @@
 -- `wiring::rewire::pulled` meets its contract: the old board is judged, then there is such a wire, then its target by check 6. Assumes nothing.
-use Prim.Native.Nat.{ℕ, ◌-◌, ◌<◌, ◌≤◌}
-use mathlib.Core.Path.{◌≡◌, refl, sym, ap, subst, ◌∙◌}
+use Prim.Native.Nat.{ℕ, ◌+◌, ◌-◌, ◌*◌, ◌<◌, ◌≤◌}
+use mathlib.Core.Path.{◌≡◌, refl, sym, ap, subst₂, ◌∙◌}
 use mathlib.Core.Bool.{Bool, true, false}
 use mathlib.Core.List.{List}
 use native.Mathlib.Nat.{le_trans}
 use native.Mathlib.Omega.{arith}
-use lib.ListN.{length, get_or}
+use lib.ListN.{length, get_or, take}
+use lib.Seq.{length-take-le}
+use Rattle.std.specs.Prelude.{Ok, Option, Some, is_some, map}
 use Rattle.values.specs.Words.{Bytes}
 use Rattle.kinds.specs.Kind.{sources_fit}
 use Rattle.reading.specs.Order.{Wire}
+use Rattle.records.specs.declared.answer.Answer.{Answer}
 use Rattle.boards.specs.Board.{blank}
 use Rattle.boards.specs.Judge.{read_board}
 use Rattle.boards.specs.Read.{Read, parsed_of}
+use Rattle.boards.specs.Wires.{wire_of}
+use Rattle.boards.specs.declared.board.Board.{Board}
 use Rattle.graph.specs.Visit.{visiting_list, Lists}
 use Rattle.graph.specs.Walking.{Gathered}
-use Rattle.boards.specs.Wires.{wires_of}
-use Rattle.boards.specs.declared.board.Board.{Board}
-use Rattle.graph.proofs.Accepted.{refused_board, accepted_board}
+use Rattle.graph.specs.declared.graph.Order.{Order}
 use Rattle.graph.proofs.Wired as graph
-use Rattle.boards.proofs.Wiring.{wires_length}
 use Rattle.carrying.specs.Carried.{wired, older, pulled}
 use Rattle.carrying.specs.Skimming.{Carries}
-use Rattle.wiring.specs.Rewiring.{newest_place}
+use Rattle.wiring.specs.Rewire.{refusal, pulled_board}
+use Rattle.wiring.specs.Rewiring.{newest_place, Pulls}
 use Rattle.wiring.specs.declared.rewire.Wiring.{Wiring}
-use Rattle.wiring.proofs.Answered.{pulled_refused, pulled_by}
-use Rattle.wiring.proofs.Boards.{takes, listed_once, pulled_ends, pulls, pulled_like, gone, one_less, pulled_under, pulled_only}
-use Rattle.wiring.proofs.Newest.{Found, found, not_found, older_wires}
+use Rattle.wiring.proofs.Answered.{pulled_by}
+use Rattle.wiring.proofs.Boards.{takes, pull_refused, listed_once, wires_are, pulled_ends, pulls, pulled_like, gone, one_less, pulled_under, pulled_only}
+use Rattle.wiring.proofs.Newest.{Found, found, some_there, none_found, older_wires}
 use Rattle.wiring.proofs.rewire.pulled.Goals as goal
 
 -- ---- the bytes of an accepted board, the board, and the wire's ends
 
-module _ (s : List ℕ) (b : Board) (read : Read (read_board s) b) (accepted : b.refused.number ≡ 0) (from to : ℕ) where
-  wires_are : length (parsed_of b).wires ≡ b.wires
-  wires_are = wires_length b.sources b.targets b.wires
-
+module _ (s : List ℕ) (b : Board) (read : Read (read_board s) (Ok b)) (from to : ℕ) where
   -- the list of the old board
-  was : {nodes : List ℕ} {count : ℕ} → ((ws : List Wire) → Gathered ws b.counts b.lists → Lists (visiting_list ws) nodes count)
+  was : {nodes : List ℕ} {count : ℕ} → ((ws : List Wire) → Gathered ws b.sources.counts b.sources.lists → Lists (visiting_list ws) nodes count)
       → Lists (visiting_list (parsed_of b).wires) nodes count
-  was h = h (parsed_of b).wires (graph.gathered s b read accepted)
+  was h = h (parsed_of b).wires (graph.gathered s b read)
 
   -- ---- the wire is at the place j
 
-  module _ (j : ℕ) (newest : j ≡ newest_place (parsed_of b).wires from to) (some : j ≡ b.wires → ⊥) where
-    there : Found (parsed_of b).wires from to
-    there = found (parsed_of b).wires from to (λ e. some (newest ∙ e ∙ wires_are))
+  module _ (j : ℕ) where
+    there : newest_place (parsed_of b).wires from to ≡ Some j → Found (parsed_of b).wires from to j
+    there = found (parsed_of b).wires from to j
 
-    place : j ≡ length (older (parsed_of b).wires from to)
-    place = newest ∙ there.place_is
+    module _ (it : Found (parsed_of b).wires from to j) where
+      few : (b.count ≤ 64) × (j < b.wires.count) × (j < 128)
+      few = (read.1.few_nodes, omega (arith, it.inside, wires_are s b read), omega (arith, it.inside, wires_are s b read, read.1.few_wires))
 
-    few : (b.count ≤ 64) × (j < 128)
-    few = (read.sound.few_nodes, omega (arith, there.inside, newest, wires_are, read.sound.few_wires))
+      -- its ends are nodes
+      ends : Bytes s → (from < 64) × (to < 64)
+      ends small =
+          let e = pulled_ends s b read small from to it.there in
+          (le_trans e.0 few.0, le_trans e.1 few.0)
 
-    -- its ends are nodes
-    ends : Bytes s → (from < 64) × (to < 64)
-    ends small =
-        let e = pulled_ends s b read accepted small from to there.there in
-        (le_trans e.0 few.0, le_trans e.1 few.0)
+      -- the wires that are looked at are the older ones
+      looked : map wire_of (take j (take b.wires.count b.wires.list)) ≡ older (parsed_of b).wires from to
+      looked =
+          ap (λ (n : ℕ). map wire_of (take n (take b.wires.count b.wires.list))) it.place_is
+          ∙ older_wires (take b.wires.count b.wires.list) from to it.there
 
-    -- the wires that are looked at are the older ones
-    looked : wires_of b.sources b.targets j ≡ older (parsed_of b).wires from to
-    looked = ap (wires_of b.sources b.targets) place ∙ older_wires b.sources b.targets b.wires from to there.there
+      -- there is one, or none
+      older_has : {o : Option ℕ} {t : Bool} (f : Bool) → o ≡ newest_place (map wire_of (take j (take b.wires.count b.wires.list))) from to → t ≡ is_some o → t ≡ f
+          → wired (older (parsed_of b).wires from to) from to ≡ f
+      older_has f e i h =
+          ap (λ (ws : List Wire). wired ws from to) (sym looked)
+          ∙ some_there (map wire_of (take j (take b.wires.count b.wires.list))) from to f (ap is_some (sym e) ∙ sym i ∙ h)
 
-    -- there is one
-    stays : {i : ℕ} → i ≡ newest_place (wires_of b.sources b.targets j) from to → i < j → wired (older (parsed_of b).wires from to) from to ≡ true
-    stays e h =
-        subst (λ (ws : List Wire). wired ws from to ≡ true) looked
-        (found (wires_of b.sources b.targets j) from to (λ q. omega (arith, h, e, q, wires_length b.sources b.targets j))).there
-
-    -- there is none
-    only : {i : ℕ} → i ≡ newest_place (wires_of b.sources b.targets j) from to → j ≤ i → wired (older (parsed_of b).wires from to) from to ≡ false
-    only e h =
-        subst (λ (ws : List Wire). wired ws from to ≡ false) looked
-        (not_found (wires_of b.sources b.targets j) from to (omega (arith, h, e, wires_length b.sources b.targets j)))
-
-    -- the list carried over
-    now_listed : {size count : ℕ} {old nodes : List ℕ} → Bytes s → wired (older (parsed_of b).wires from to) from to ≡ false
-        → Lists (visiting_list (parsed_of b).wires) old size → Carries b.counts b.lists old size false from to nodes count
-        → Lists (visiting_list (pulled (parsed_of b).wires from to)) nodes count
-    now_listed small last l h =
-        h.pulled_list refl (parsed_of b).wires there.there (gone s b read accepted small from to there.there last) (graph.gathered s b read accepted) l.same
+      -- the list carried over
+      now_listed : {size count : ℕ} {old nodes : List ℕ} → Bytes s → wired (older (parsed_of b).wires from to) from to ≡ false
+          → Lists (visiting_list (parsed_of b).wires) old size → Carries b.sources.counts b.sources.lists old size false from to nodes count
+          → Lists (visiting_list (pulled (parsed_of b).wires from to)) nodes count
+      now_listed small last l h =
+          h.pulled_list refl (parsed_of b).wires it.there (gone s b read small from to it.there last) (graph.gathered s b read) l.same
 
 -- what check 6 makes of the target
-judged : (b : Board) (to : ℕ) {n : ℕ} {f : Bool} → f ≡ sources_fit (get_or b.nodes to blank).kind (n - 1) → n ≡ get_or b.counts to 0 → takes b to (get_or b.counts to 0 - 1) ≡ f
+judged : (b : Board) (to : ℕ) {n : ℕ} {f : Bool} → f ≡ sources_fit (get_or b.nodes to blank).kind (n - 1) → n ≡ get_or b.sources.counts to 0
+    → takes b to (get_or b.sources.counts to 0 - 1) ≡ f
 judged b to h e = sym (h ∙ ap (λ (n : ℕ). takes b to (n - 1)) e)
 
-pub returns-then-refused-ne0 : goal.returns-then-refused-ne0
-returns-then-refused-ne0 c =
-    let a = c.args in
-    let answer = c.pull_of.ensures.0 ∙ c.refusal.ensures in
-    record {
-      answered = answer
-          ∙ sym (ap (λ (d : Wiring × List ℕ). d.0) (pulled_refused a.s.now a.source a.target _ _ (refused_board _ _ c.read_board-board.ensures c.if-refused-ne0.true)));
-      stands = λ z. absurd (c.if-refused-ne0.true (sym (ap (λ (r : Wiring). r.number) answer) ∙ z));
-    }
+pub returns-in_err-board : goal.returns-in_err-board
+returns-in_err-board c = pull_refused _ _ _ _ _ c.from_residual.ensures.1 c.in_err-board.ensures
 
 -- ---- 16
 
-pub returns-then-place-wires : goal.returns-then-place-wires
-returns-then-place-wires c =
-    let a = c.args in
-    let b = c.read_board-board.result in
-    let read = c.read_board-board.ensures in
-    let accepted = c.if-refused-ne0.false in
+pub returns-in_default : goal.returns-in_default
+returns-in_default c =
+    let s = c.args.s.now in
+    let b = c.in_ok-board.board in
+    let read = c.in_ok-board.ensures in
+    let x = c.from-from.result in
+    let y = c.from-to.result in
+    let small : Bytes s = λ i. omega (arith, c.type_inv.s i) in
     let p = parsed_of b in
-    let none = not_found p.wires a.source a.target (omega (arith, c.if-place-wires.true, c.newest-place.ensures, wires_are a.s.now b read accepted a.source a.target)) in
-    let answer = c.pull_of-then-place-wires.ensures.0 ∙ c.refusal-then-place-wires.ensures in
-    record {
-      answered = answer
-          ∙ sym (ap (λ (d : Wiring × List ℕ). d.0) (pulled_by a.s.now a.source a.target p (accepted_board _ _ read accepted) false none));
-      stands = λ z. absurd (omega (arith, sym (ap (λ (r : Wiring). r.number) answer) ∙ z));
-    }
+    let none = none_found p.wires x y (sym c.newest.ensures ∙ c.in_default.is) in
+    let answer = c.new.ensures in
+    let sixteen : refusal 16 y ≡ (pulled_board x y s).0 = sym (ap (λ (d : Wiring × List ℕ). d.0) (pulled_by s x y p read.0 false none)) in (
+      omega (arith, ap (λ (r : Answer). r.number) answer),
+      ap (λ (r : Answer). refusal r.number r.place) answer
+          ∙ subst₂ (λ (v w : ℕ). refusal 16 y ≡ (pulled_board v w s).0) c.from-from.ensures c.from-to.ensures sixteen,
+    )
 
 pub overflow_mul-at-2 : goal.overflow_mul-at-2
 overflow_mul-at-2 c =
-    omega (arith, few _ _ c.read_board-board.ensures c.if-refused-ne0.false c.args.source c.args.target _ c.newest-place.ensures c.if-place-wires.false)
+    let s = c.args.s.now in
+    let b = c.in_ok-board.board in
+    let read = c.in_ok-board.ensures in
+    let x = c.from-from.result in
+    let y = c.from-to.result in
+    let small : Bytes s = λ i. omega (arith, c.type_inv.s i) in
+    let it = there s b read x y c.in-Some.place (sym c.newest.ensures ∙ c.in-Some.is) in
+    omega (arith, few s b read x y c.in-Some.place it)
 
 pub overflow_add-at-2 : goal.overflow_add-at-2
 overflow_add-at-2 c =
-    omega (arith, few _ _ c.read_board-board.ensures c.if-refused-ne0.false c.args.source c.args.target _ c.newest-place.ensures c.if-place-wires.false)
+    let s = c.args.s.now in
+    let b = c.in_ok-board.board in
+    let read = c.in_ok-board.ensures in
+    let x = c.from-from.result in
+    let y = c.from-to.result in
+    let small : Bytes s = λ i. omega (arith, c.type_inv.s i) in
+    let it = there s b read x y c.in-Some.place (sym c.newest.ensures ∙ c.in-Some.is) in
+    omega (arith, few s b read x y c.in-Some.place it)
 
 -- ---- the old list, and an older like wire
 
 pub visiting_list-was-requires : goal.visiting_list-was-requires
-visiting_list-was-requires c = graph.table c.args.s.now c.read_board-board.result c.read_board-board.ensures c.if-refused-ne0.false
+visiting_list-was-requires c = graph.table _ _ c.in_ok-board.ensures
 
-pub newest-requires : goal.newest-requires
-newest-requires c =
-    omega (arith, few _ _ c.read_board-board.ensures c.if-refused-ne0.false c.args.source c.args.target _ c.newest-place.ensures c.if-place-wires.false)
+pub slice_bounds-newest-end : goal.slice_bounds-newest-end
+slice_bounds-newest-end c =
+    let s = c.args.s.now in
+    let b = c.in_ok-board.board in
+    let read = c.in_ok-board.ensures in
+    let x = c.from-from.result in
+    let y = c.from-to.result in
+    let small : Bytes s = λ i. omega (arith, c.type_inv.s i) in
+    let it = there s b read x y c.in-Some.place (sym c.newest.ensures ∙ c.in-Some.is) in
+    let n = few s b read x y c.in-Some.place it in
+    let long : length (take b.wires.count b.wires.list) ≡ b.wires.count = length-take-le b.wires.count b.wires.list (omega (arith, read.1.wires_long, read.1.few_wires)) in
+    sym (length-take-le c.in-Some.place (take b.wires.count b.wires.list) (omega (arith, n.1)))
 
-pub listing-requires : goal.listing-requires
-listing-requires c =
-    let l = was _ _ c.read_board-board.ensures c.if-refused-ne0.false c.args.source c.args.target c.visiting_list-was.ensures in
-    (l.size, l.fits)
-
-pub returns-then-newest-place : goal.returns-then-newest-place
-returns-then-newest-place c =
-    let a = c.args in
-    let b = c.read_board-board.result in
-    let read = c.read_board-board.ensures in
-    let accepted = c.if-refused-ne0.false in
-    let j = c.newest-place.result in
-    let small : Bytes a.s.now = λ i. omega (arith, c.type_inv.s i) in
-    let is = (there a.s.now b read accepted a.source a.target j c.newest-place.ensures c.if-place-wires.false).there in
-    let older_stays = stays a.s.now b read accepted a.source a.target j c.newest-place.ensures c.if-place-wires.false c.newest.ensures c.if-newest-place.true in
-    let r = c.pull_of-then-newest-place in
-    pulls a.s.now b read accepted small a.source a.target is r.result j (place a.s.now b read accepted a.source a.target j c.newest-place.ensures c.if-place-wires.false) r.ensures.1
-    (r.ensures.0 ∙ c.listing.ensures
-    ∙ pulled_like a.s.now b read accepted small a.source a.target is older_stays _ _ (was a.s.now b read accepted a.source a.target c.visiting_list-was.ensures))
+pub returns-then-is_some : goal.returns-then-is_some
+returns-then-is_some c =
+    let s = c.args.s.now in
+    let b = c.in_ok-board.board in
+    let read = c.in_ok-board.ensures in
+    let x = c.from-from.result in
+    let y = c.from-to.result in
+    let small : Bytes s = λ i. omega (arith, c.type_inv.s i) in
+    let it = there s b read x y c.in-Some.place (sym c.newest.ensures ∙ c.in-Some.is) in
+    let at = λ (o : Order). λ (n : ℕ). λ (h : Pulls s x y (Ok (o, n))). subst₂ (λ (x y : ℕ). Pulls s x y (Ok (o, n))) c.from-from.ensures c.from-to.ensures h in
+    let offset : ℕ = 8 + 14 * b.count + 8 * c.in-Some.place in
+    let o = c.visiting_list-was.result in
+    let stays = older_has s b read x y c.in-Some.place it true c.newest-2.ensures c.is_some.ensures c.if-is_some.true in
+    at o offset (pulls s b read small x y it.there o offset c.in-Some.place it.place_is refl
+    (pulled_like s b read small x y it.there stays _ _ (was s b read x y c.visiting_list-was.ensures)))
 
 pub bounds-board-to : goal.bounds-board-to
 bounds-board-to c =
-    (ends _ _ c.read_board-board.ensures c.if-refused-ne0.false c.args.source c.args.target _ c.newest-place.ensures c.if-place-wires.false (λ i. omega (arith, c.type_inv.s i))).1
+    let s = c.args.s.now in
+    let b = c.in_ok-board.board in
+    let read = c.in_ok-board.ensures in
+    let x = c.from-from.result in
+    let y = c.from-to.result in
+    let small : Bytes s = λ i. omega (arith, c.type_inv.s i) in
+    let it = there s b read x y c.in-Some.place (sym c.newest.ensures ∙ c.in-Some.is) in
+    (ends s b read x y c.in-Some.place it small).1
 
 pub bounds-board-to-2 : goal.bounds-board-to-2
 bounds-board-to-2 c =
-    (ends _ _ c.read_board-board.ensures c.if-refused-ne0.false c.args.source c.args.target _ c.newest-place.ensures c.if-place-wires.false (λ i. omega (arith, c.type_inv.s i))).1
+    let s = c.args.s.now in
+    let b = c.in_ok-board.board in
+    let read = c.in_ok-board.ensures in
+    let x = c.from-from.result in
+    let y = c.from-to.result in
+    let small : Bytes s = λ i. omega (arith, c.type_inv.s i) in
+    let it = there s b read x y c.in-Some.place (sym c.newest.ensures ∙ c.in-Some.is) in
+    (ends s b read x y c.in-Some.place it small).1
 
 -- ---- 6 at the target
 
-pub overflow_sub-wide : goal.overflow_sub-wide
-overflow_sub-wide c =
-    let a = c.args in
-    let b = c.read_board-board.result in
-    let read = c.read_board-board.ensures in
-    let accepted = c.if-refused-ne0.false in
-    let j = c.newest-place.result in
-    let small : Bytes a.s.now = λ i. omega (arith, c.type_inv.s i) in
-    let is = (there a.s.now b read accepted a.source a.target j c.newest-place.ensures c.if-place-wires.false).there in
-    let last = only a.s.now b read accepted a.source a.target j c.newest-place.ensures c.if-place-wires.false c.newest.ensures c.if-newest-place.false in
-    omega (arith, c.wide.ensures, one_less a.s.now b read accepted small a.source a.target is last)
+pub overflow_sub-n : goal.overflow_sub-n
+overflow_sub-n c =
+    let s = c.args.s.now in
+    let b = c.in_ok-board.board in
+    let read = c.in_ok-board.ensures in
+    let x = c.from-from.result in
+    let y = c.from-to.result in
+    let small : Bytes s = λ i. omega (arith, c.type_inv.s i) in
+    let it = there s b read x y c.in-Some.place (sym c.newest.ensures ∙ c.in-Some.is) in
+    let last = older_has s b read x y c.in-Some.place it false c.newest-2.ensures c.is_some.ensures c.if-is_some.false in
+    omega (arith, c.from-n.ensures, one_less s b read small x y it.there last)
 
 pub returns-then-not-sources_fit : goal.returns-then-not-sources_fit
 returns-then-not-sources_fit c =
-    let a = c.args in
-    let b = c.read_board-board.result in
-    let read = c.read_board-board.ensures in
-    let accepted = c.if-refused-ne0.false in
-    let j = c.newest-place.result in
-    let small : Bytes a.s.now = λ i. omega (arith, c.type_inv.s i) in
-    let is = (there a.s.now b read accepted a.source a.target j c.newest-place.ensures c.if-place-wires.false).there in
-    let last = only a.s.now b read accepted a.source a.target j c.newest-place.ensures c.if-place-wires.false c.newest.ensures c.if-newest-place.false in
-    let r = c.pull_of-then-not-sources_fit in
-    pulls a.s.now b read accepted small a.source a.target is r.result j (place a.s.now b read accepted a.source a.target j c.newest-place.ensures c.if-place-wires.false) r.ensures.1
-    (r.ensures.0 ∙ c.refusal-then-not-sources_fit.ensures
-    ∙ pulled_under a.s.now b read accepted small a.source a.target is last (judged b a.target c.sources_fit.ensures c.wide.ensures ∙ c.if-not-sources_fit.true))
+    let s = c.args.s.now in
+    let b = c.in_ok-board.board in
+    let read = c.in_ok-board.ensures in
+    let x = c.from-from.result in
+    let y = c.from-to.result in
+    let small : Bytes s = λ i. omega (arith, c.type_inv.s i) in
+    let it = there s b read x y c.in-Some.place (sym c.newest.ensures ∙ c.in-Some.is) in
+    let last = older_has s b read x y c.in-Some.place it false c.newest-2.ensures c.is_some.ensures c.if-is_some.false in
+    let answer = c.new-then-not-sources_fit.ensures in
+    let six = pulled_under s b read small x y it.there last (judged b y c.sources_fit.ensures c.from-n.ensures ∙ c.if-not-sources_fit.true) in (
+      omega (arith, ap (λ (r : Answer). r.number) answer),
+      ap (λ (r : Answer). refusal r.number r.place) answer
+          ∙ subst₂ (λ (v w : ℕ). refusal 6 y ≡ (pulled_board v w s).0) c.from-from.ensures c.from-to.ensures six,
+    )
 
 -- ---- the list carried over
 
-pub carried_list-order-requires : goal.carried_list-order-requires
-carried_list-order-requires c =
-    let a = c.args in
-    let b = c.read_board-board.result in
-    let read = c.read_board-board.ensures in
-    let accepted = c.if-refused-ne0.false in
-    let l = was a.s.now b read accepted a.source a.target c.visiting_list-was.ensures in
-    let e = ends a.s.now b read accepted a.source a.target _ c.newest-place.ensures c.if-place-wires.false (λ i. omega (arith, c.type_inv.s i)) in
-    (graph.table a.s.now b read accepted, l.size, l.fits, l.below, listed_once a.s.now b read accepted _ _ l, e.0, e.1)
-
-pub listing-requires-2 : goal.listing-requires-2
-listing-requires-2 c =
-    let a = c.args in
-    let b = c.read_board-board.result in
-    let read = c.read_board-board.ensures in
-    let accepted = c.if-refused-ne0.false in
-    let j = c.newest-place.result in
-    let small : Bytes a.s.now = λ i. omega (arith, c.type_inv.s i) in
-    let last = only a.s.now b read accepted a.source a.target j c.newest-place.ensures c.if-place-wires.false c.newest.ensures c.if-newest-place.false in
-    let l = was a.s.now b read accepted a.source a.target c.visiting_list-was.ensures in
-    let m = now_listed a.s.now b read accepted a.source a.target j c.newest-place.ensures c.if-place-wires.false small last l c.carried_list-order.ensures in
-    (m.size, m.fits)
+pub carried_list-requires : goal.carried_list-requires
+carried_list-requires c =
+    let s = c.args.s.now in
+    let b = c.in_ok-board.board in
+    let read = c.in_ok-board.ensures in
+    let x = c.from-from.result in
+    let y = c.from-to.result in
+    let small : Bytes s = λ i. omega (arith, c.type_inv.s i) in
+    let it = there s b read x y c.in-Some.place (sym c.newest.ensures ∙ c.in-Some.is) in
+    let l = was s b read x y c.visiting_list-was.ensures in
+    let e = ends s b read x y c.in-Some.place it small in
+    (graph.table s b read, listed_once s b read _ _ l, e.0, e.1)
 
 pub returns : goal.returns
 returns c =
-    let a = c.args in
-    let b = c.read_board-board.result in
-    let read = c.read_board-board.ensures in
-    let accepted = c.if-refused-ne0.false in
-    let j = c.newest-place.result in
-    let small : Bytes a.s.now = λ i. omega (arith, c.type_inv.s i) in
-    let is = (there a.s.now b read accepted a.source a.target j c.newest-place.ensures c.if-place-wires.false).there in
-    let last = only a.s.now b read accepted a.source a.target j c.newest-place.ensures c.if-place-wires.false c.newest.ensures c.if-newest-place.false in
-    let l = was a.s.now b read accepted a.source a.target c.visiting_list-was.ensures in
-    let m = now_listed a.s.now b read accepted a.source a.target j c.newest-place.ensures c.if-place-wires.false small last l c.carried_list-order.ensures in
-    let r = c.pull_of-2 in
-    pulls a.s.now b read accepted small a.source a.target is r.result j (place a.s.now b read accepted a.source a.target j c.newest-place.ensures c.if-place-wires.false) r.ensures.1
-    (r.ensures.0 ∙ c.listing-2.ensures
-    ∙ pulled_only a.s.now b read accepted small a.source a.target is last (judged b a.target c.sources_fit.ensures c.wide.ensures ∙ c.if-not-sources_fit.false) _ _ m)
+    let s = c.args.s.now in
+    let b = c.in_ok-board.board in
+    let read = c.in_ok-board.ensures in
+    let x = c.from-from.result in
+    let y = c.from-to.result in
+    let small : Bytes s = λ i. omega (arith, c.type_inv.s i) in
+    let it = there s b read x y c.in-Some.place (sym c.newest.ensures ∙ c.in-Some.is) in
+    let at = λ (o : Order). λ (n : ℕ). λ (h : Pulls s x y (Ok (o, n))). subst₂ (λ (x y : ℕ). Pulls s x y (Ok (o, n))) c.from-from.ensures c.from-to.ensures h in
+    let offset : ℕ = 8 + 14 * b.count + 8 * c.in-Some.place in
+    let last = older_has s b read x y c.in-Some.place it false c.newest-2.ensures c.is_some.ensures c.if-is_some.false in
+    let l = was s b read x y c.visiting_list-was.ensures in
+    let m = now_listed s b read x y c.in-Some.place it small last l c.carried_list.ensures in
+    let o = c.carried_list.result in
+    at o offset (pulls s b read small x y it.there o offset c.in-Some.place it.place_is refl
+    (pulled_only s b read small x y it.there last (judged b y c.sources_fit.ensures c.from-n.ensures ∙ c.if-not-sources_fit.false) _ _ m))
