@@ -24,7 +24,8 @@ use Rattle.memory.specs.Calls.{and_then}
 use Rattle.context.specs.Block.{check_blocks, check_samples}
 use Rattle.boards.specs.Read.{parsed_of, Sound}
 use Rattle.memory.specs.Fine.{Fine}
-use Rattle.running.specs.Lent.{Runs}
+use Rattle.running.specs.Lent.{StartsOf, Runs}
+use Rattle.nodes.specs.declared.node.Starts.{Starts}
 use Rattle.boards.specs.declared.board.Board.{Board}
 use Rattle.graph.specs.declared.graph.Order.{Order}
 use Rattle.memory.proofs.CallCells.{cell_in, node_in_lem, count_nodes}
@@ -58,10 +59,10 @@ pub record Checked (p : Parsed) (m x l r : List ℕ) : Type 0 where
 
 module _ (b : Board) (sound : Sound b) (table : (v : ℕ) → v < 64 → TableAt b v) where
   -- the sources, as the visiting list asks for them
-  pub board_table : Table b.counts b.lists
+  pub board_table : Table b.sources.counts b.sources.lists
   board_table = record { few = λ v h. (table v h).few; nodes = λ v j h l. omega (arith, (table v h).source_in j l, sound.few_nodes) }
 
-  pub board_gathered : Gathered (parsed_of b).wires b.counts b.lists
+  pub board_gathered : Gathered (parsed_of b).wires b.sources.counts b.sources.lists
   board_gathered = record { size = λ v h. (table v h).count_is; source = λ v j h l. (table v h).source_is j l }
 
 -- ---- the call
@@ -117,14 +118,15 @@ module _ {m x l r : List ℕ} {b : Board} (run : AcceptedRun m x l r b) where
         ap words put ∙ words-paste m x start b.size (omega (arith, input_room)) (omega (arith, checked.input_long))
         ∙ ap (λ (n : ℕ). paste (words m) n (words x) b.size) (sym start_is)
 
-    pub input_runs : (o : Order) → Lists (listed (parsed_of b)) o.nodes o.count → Runs b o m₁
-    input_runs o lists =
+    pub input_runs : (st : Starts) → StartsOf (take b.count b.nodes) b.size st → (o : Order) → Lists (listed (parsed_of b)) o.nodes o.count → Runs b st o m₁
+    input_runs st starts o lists =
         let block : length (words x) ≡ b.size = length-words x ∙ omega (arith, checked.input_long) in
         let whole-memory : Whole (parsed_of b) (words m) = length-words m ∙ omega (arith, checked.long) in
         record {
           sound = run.sound;
           fine = run.fine;
           table = run.table;
+          starts = starts;
           lists = lists;
           long = ap length put ∙ length-paste m (4 * start) x (4 * b.size) (omega (arith, input_room)) (omega (arith, checked.input_long)) ∙ checked.long;
           judged = judged_passed (parsed_of b) (words m₁) (rw input_put (input_judged (parsed_of b) run.fine (words m) whole-memory (words x) block checked.judged));

@@ -2,10 +2,13 @@
 ghost use Rattle.std.specs.Prelude.{◌≡◌, ◌*◌, ◌≤◌, length};
 ghost use Rattle.values.specs.Words.{words};
 ghost use Rattle.memory.specs.Calls.{and_then};
-ghost use Rattle.context.specs.Block.{check_size, check_sizes, check_samples, as_left, block_of};
+ghost use Rattle.records.specs.Answer.{checked};
+ghost use Rattle.context.specs.Block.{check_sizes, check_samples, as_left, block_of};
 
 use boards::judge::read_board;
 use graph::graph::visiting_list;
+use memory::open::length_judged;
+use nodes::node::Starts;
 use records::answer::Answer;
 use running::run::{give, memory_judged, put_input, run};
 use values::bytes::word_at;
@@ -14,58 +17,35 @@ use values::float::finite_bits;
 // ---- checks
 
 // Check 10: the first infinite or NaN sample.
-fn samples_judged(input: &[u8], size: usize) -> Answer
+fn samples_judged(input: &[u8], size: usize) -> Result<(), Answer>
     requires { (size ≤ 128) × (length input.now ≡ 4 * size) }
-    ensures { result ≡ check_samples 0 (words input.now) }
+    ensures { result ≡ checked (check_samples 0 (words input.now)) }
 {
-    let mut i = 0;
-    while i < size {
-        if finite_bits(word_at(input, i)) {
-            i += 1;
-        } else {
-            return Answer::new(10, i);
+    for i in 0..size {
+        if !finite_bits(word_at(input, i)) {
+            return Err(Answer::new(10, i));
         }
     }
-    Answer::new(0, 0)
-}
-
-// Check 9 of one block.
-pub fn size_judged(size: usize, lent: usize) -> Answer
-    requires { size ≤ 128 }
-    ensures { result ≡ check_size size lent }
-{
-    if lent == 4 * size {
-        Answer::new(0, 0)
-    } else {
-        Answer::new(9, size)
-    }
+    Ok(())
 }
 
 // Check 9: the input block, then the output blocks.
-fn sizes_judged(size: usize, input: usize, left: usize, right: usize) -> Answer
+fn sizes_judged(size: usize, input: usize, left: usize, right: usize) -> Result<(), Answer>
     requires { size ≤ 128 }
-    ensures { result ≡ check_sizes size input left right }
+    ensures { result ≡ checked (check_sizes size input left right) }
 {
-    let taken = size_judged(size, input);
-    if taken.number != 0 {
-        return taken;
-    }
-    let given = size_judged(size, left);
-    if given.number != 0 {
-        return given;
-    }
-    size_judged(size, right)
+    let refusal = Answer::new(9, size);
+    length_judged(input, 4 * size, refusal)?;
+    length_judged(left, 4 * size, refusal)?;
+    length_judged(right, 4 * size, refusal)
 }
 
 // Checks 9 and 10: the blocks' lengths, then the input's samples.
-fn blocks_judged(size: usize, input: &[u8], left: usize, right: usize) -> Answer
+fn blocks_judged(size: usize, input: &[u8], left: usize, right: usize) -> Result<(), Answer>
     requires { size ≤ 128 }
-    ensures { result ≡ and_then (check_sizes size (length input.now) left right) (check_samples 0 (words input.now)) }
+    ensures { result ≡ checked (and_then (check_sizes size (length input.now) left right) (check_samples 0 (words input.now))) }
 {
-    let sized = sizes_judged(size, input.len(), left, right);
-    if sized.number != 0 {
-        return sized;
-    }
+    sizes_judged(size, input.len(), left, right)?;
     samples_judged(input, size)
 }
 
@@ -79,46 +59,25 @@ pub fn block(s: &[u8], memory: &mut [u8], input: &[u8], out0: &mut [u8], out1: &
     ensures { as_left result memory.new out0.new out1.new
         ≡ block_of s.now memory.old input.now out0.old out1.old }
 {
-    let board = read_board(s);
-    let read = board.refused;
-    if read.number != 0 {
-        return read;
+    let board = match read_board(s) {
+        Ok(board) => board,
+        Err(refused) => return refused,
+    };
+    let mut starts = Starts {
+        lefts: [0; 64],
+        rights: [0; 64],
+    };
+    if let Err(refused) = memory_judged(&board, memory, &mut starts) {
+        return refused;
     }
     let size = board.size;
-    let nodes = board.nodes;
-    let mut lefts = [0usize; 64];
-    let mut rights = [0usize; 64];
-    let judged = memory_judged(
-        board.values,
-        nodes,
-        board.count,
-        size,
-        memory,
-        &mut lefts,
-        &mut rights,
-    );
-    if judged.number != 0 {
-        return judged;
+    if let Err(refused) = blocks_judged(size, input, out0.len(), out1.len()) {
+        return refused;
     }
-    let sized = blocks_judged(size, input, out0.len(), out1.len());
-    if sized.number != 0 {
-        return sized;
-    }
-    let k = board.input;
-    let node = board.nodes[k];
-    put_input(input, node.cell as usize, size, memory);
-    let order = visiting_list(&board.counts, &board.lists);
-    run(
-        nodes,
-        size,
-        &board.counts,
-        &board.lists,
-        &board.seconds,
-        &lefts,
-        &rights,
-        order,
-        memory,
-    );
+    let cell = board.nodes[board.input].cell as usize;
+    put_input(input, cell, size, memory);
+    let order = visiting_list(&board.sources);
+    run(&board, &starts, &order, memory);
     give(memory, size, out0, out1);
     Answer::new(0, 0)
 }

@@ -1,6 +1,6 @@
 -- Where the cells of a fine board lie: one after the other, within the memory.
 --     cell_in, cell_apart    a node's cell lies within the memory, and behind the cells of the nodes before it
---     cells_in               the same of the judged values, in the code's arrays
+--     cells_fit, cells_in    the same of the judged values, in the code's arrays
 -- Assumes nothing.
 use Prim.Native.Nat.{ℕ, ◌+◌, ◌*◌, ◌≤◌, ◌<◌}
 use mathlib.Core.Path.{◌≡◌, ap}
@@ -46,5 +46,6 @@ module _ (b : Board) (sound : Sound b) where
       let at : (node_at (parsed_of b) k).cell ≡ (node_in b.nodes k).cell = ap (λ (r : NodeRecord). r.cell) (node_in_lem k h) in
       omega (arith, cell_in (parsed_of b) fine k (omega (arith, count_nodes)), sound.values_sum)
 
-  pub cells_in : Fine (parsed_of b) → (m : List ℕ) → length m ≡ 4 * b.values → CellsIn b.nodes b.count (length m)
-  cells_in fine m long = rw long (cells_fit fine)
+  -- of the part that the nodes fill
+  pub cells_in : Fine (parsed_of b) → (m : List ℕ) → length m ≡ 4 * b.values → CellsIn (take b.count b.nodes) (length (take b.count b.nodes)) (length m)
+  cells_in fine m long k h = omega (arith, cell_in (parsed_of b) fine k h, sound.values_sum, long)

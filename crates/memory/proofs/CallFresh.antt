@@ -8,7 +8,8 @@ use mathlib.Core.Path.{◌≡◌, refl, sym, ap, ◌∙◌}
 use mathlib.Core.List.{List, [], ◌∷◌, ◌++◌, append_assoc}
 use native.Mathlib.Numerals.{add-one}
 use native.Mathlib.Omega.{arith}
-use lib.ListN.{length, set, take, drop, replicate, length-append, replicate-append-replicate}
+use lib.ListN.{length, set, take, drop, replicate, length-append, replicate-append-replicate, drop_of_length-le}
+use lib.Seq.{drop-cons}
 use lib.Ieee.{binary32, to_bits}
 use Rattle.values.specs.Words.{words}
 use Rattle.values.specs.Floats.{set_float}
@@ -22,18 +23,16 @@ use Rattle.boards.specs.Board.{blank, Parsed, cells_of}
 use Rattle.memory.specs.Memory.{node_in, fresh_from, fresh_values}
 use Rattle.memory.specs.Fine.{Fine}
 use Rattle.memory.specs.Stages.{put_numbers}
-use Rattle.boards.proofs.Six.{node_here}
-use Rattle.memory.proofs.CallChecks.{none_left}
 
-module _ (nodes : List NodeRecord) (n : ℕ) (fits : n ≤ length nodes) (ws : List ℕ) where
-  pub numbers_next : (i : ℕ) → i < n
-      → put_numbers (drop (i + 1) (take n nodes)) (set_float ws (node_in nodes i).cell (number_of (node_in nodes i).kind)) ≡ put_numbers (drop i (take n nodes)) ws
+module _ (nodes : List NodeRecord) (ws : List ℕ) (i : ℕ) where
+  pub numbers_next : i < length nodes
+      → put_numbers (drop (i + 1) nodes) (set_float ws (node_in nodes i).cell (number_of (node_in nodes i).kind)) ≡ put_numbers (drop i nodes) ws
   unfolding put_numbers
-  numbers_next i within = rw (add-one, node_here nodes n fits i within blank)
+  numbers_next within = rw (add-one, drop-cons nodes i blank within)
 
-  pub numbers_end : put_numbers (drop n (take n nodes)) ws ≡ ws
+  pub numbers_end : length nodes ≤ i → put_numbers (drop i nodes) ws ≡ ws
   unfolding put_numbers
-  numbers_end = rw (none_left nodes n fits)
+  numbers_end past = rw (drop_of_length-le nodes past)
 
 -- a number stored in a cell's zeros is the fresh cell
 fresh_cell_lem : (N : ℕ) (k : NodeKind) (rest : ℕ)

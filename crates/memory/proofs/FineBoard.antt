@@ -10,6 +10,7 @@ use mathlib.Core.Bool.{true}
 use mathlib.Core.List.{List, [], ◌∷◌}
 use native.Mathlib.Omega.{arith}
 use lib.ListN.{length, get_or, take}
+use Rattle.std.specs.Prelude.{Ok}
 use Rattle.values.specs.Words.{Bytes}
 use Rattle.kinds.specs.Kind.{channels_of, cell_size}
 use Rattle.kinds.specs.Node.{LineFits}
@@ -25,7 +26,6 @@ use Rattle.boards.specs.Read.{parsed_of, Read}
 use Rattle.boards.specs.Formed.{Formed}
 use Rattle.graph.specs.Listed.{ListsReached}
 use Rattle.boards.specs.declared.board.Board.{Board}
-use Rattle.graph.proofs.Accepted.{accepted_board}
 use Rattle.boards.proofs.Formed.{whole_formed}
 use Rattle.graph.proofs.Listed.{lists_reached}
 use Rattle.memory.specs.Memory.{listed, node_at}
@@ -115,8 +115,8 @@ fine_board s b p e =
     subst Fine a.parsed (fine_card a.card a.obeys (subst⁻¹ Formed a.parsed (whole_formed s p e)))
 
 -- of the board as the code holds it
-pub accepted_fine : (s : List ℕ) → Bytes s → (b : Board) → Read (read_board s) b → b.refused.number ≡ 0 → Fine (parsed_of b)
-accepted_fine s small b read accepted = fine_board s small (parsed_of b) (accepted_board s b read accepted)
+pub accepted_fine : (s : List ℕ) → Bytes s → (b : Board) → Read (read_board s) (Ok b) → Fine (parsed_of b)
+accepted_fine s small b read = fine_board s small (parsed_of b) read.0
 
 -- ---- wires and the visiting list
 

@@ -1,13 +1,13 @@
 -- What the parts of the calls ask of the code's arrays, and what they leave. Definitions only.
-use Rattle.std.specs.Prelude.{ℕ, ◌+◌, ◌*◌, ◌≤◌, ◌<◌, ◌≡◌, List, [], ◌∷◌, length}
+use Rattle.std.specs.Prelude.{ℕ, ◌+◌, ◌*◌, ◌≤◌, ◌<◌, ◌≡◌, List, [], ◌∷◌, length, Result, Ok, Err}
 use Rattle.values.specs.Floats.{set_float}
 use Rattle.kinds.specs.Kind.{samples_from}
 use Rattle.kinds.specs.Cell.{number_of}
 use Rattle.kinds.specs.declared.kind.NodeRecord.{NodeRecord}
 use Rattle.boards.specs.Board.{Parsed, Progress, going, refused, whole, memory_length}
 use Rattle.boards.specs.Judge.{read_board}
-use Rattle.boards.specs.BoardParts.{or_refused}
-use Rattle.boards.specs.Read.{parsed_of, Read}
+use Rattle.boards.specs.BoardParts.{or_refused, Refuses}
+use Rattle.boards.specs.Read.{parsed_of, Sound}
 use Rattle.boards.specs.Formed.{TableAt}
 use Rattle.boards.specs.declared.board.Board.{Board}
 use Rattle.memory.specs.Memory.{node_in}
@@ -30,12 +30,18 @@ read_open s lent = held_to (λ p. check_needed (memory_length p) lent) (read_boa
 abbrev pub read_judged : List ℕ → List ℕ → Progress
 read_judged s m = held_to (λ p. check_values p m) (read_open s (length m))
 
--- a board that stands for the reading v: where it is not refused, it is fine, and so many bytes are as many as its memory has
-pub record Opened (v : Progress) (lent : ℕ) (b : Board) : Type 0 where
-  pub read : Read v b
-  pub fine : b.refused.number ≡ 0 → Fine (parsed_of b)
-  pub table : b.refused.number ≡ 0 → (v : ℕ) → v < 64 → TableAt b v
-  pub long : b.refused.number ≡ 0 → lent ≡ 4 * b.values
+-- a board that stands for the reading v: it is fine, and so many bytes are as many as its memory has
+pub record OpenBoard (v : Progress) (lent : ℕ) (b : Board) : Type 0 where
+  pub reading : v ≡ whole (parsed_of b)
+  pub sound : Sound b
+  pub fine : Fine (parsed_of b)
+  pub table : (v : ℕ) → v < 64 → TableAt b v
+  pub long : lent ≡ 4 * b.values
+
+-- what was opened stands for the reading v: such a board, or v's refusal
+abbrev pub Opened : Progress → ℕ → Result Board Answer → Type 0
+Opened v lent (Ok b) = OpenBoard v lent b
+Opened v lent (Err a) = Refuses v a
 
 -- ---- arrays
 

@@ -1,6 +1,7 @@
 // The number message: it sets the number of a node that takes one.
 ghost use Rattle.std.specs.Prelude.{◌≡◌, ◌*◌, ◌<◌, length};
 ghost use Rattle.values.specs.Words.{words};
+ghost use Rattle.records.specs.Answer.{checked};
 ghost use Rattle.boards.specs.Read.{parsed_of, Sound};
 ghost use Rattle.memory.specs.Fine.{Fine};
 ghost use Rattle.memory.specs.Calls.{check_number, put_number, message_of};
@@ -12,36 +13,33 @@ use records::answer::Answer;
 use values::float::store;
 
 // Checks 11 and 12: the node is there and takes a number, and the value is in its range.
-fn number_judged(board: Board, k: usize, value: f32) -> Answer
-    requires sound { Sound board }
+fn number_judged(board: &Board, k: usize, value: f32) -> Result<(), Answer>
+    requires sound { Sound board.now }
     requires k_bound { k < 4294967296 }
-    ensures { result ≡ check_number (parsed_of board) k value }
+    ensures { result ≡ checked (check_number (parsed_of board.now) k value) }
 {
     if board.count <= k {
-        return Answer::new(11, k);
+        return Err(Answer::new(11, k));
     }
-    let node = board.nodes[k];
-    let kind = node.kind;
+    let kind = board.nodes[k].kind;
     if !takes_number(kind) {
-        return Answer::new(11, k);
+        return Err(Answer::new(11, k));
     }
-    if value_fits(kind, value) {
-        Answer::new(0, 0)
-    } else {
-        Answer::new(12, k)
+    if !value_fits(kind, value) {
+        return Err(Answer::new(12, k));
     }
+    Ok(())
 }
 
 // The value as node k's number, in a memory of the board's length.
-pub fn put_number(board: Board, k: usize, value: f32, memory: &mut [u8])
-    requires sound { Sound board }
-    requires fine { Fine (parsed_of board) }
-    requires k_lt_count { k < board.count }
-    requires memory_len { length memory.old ≡ 4 * board.values }
-    ensures { words memory.new ≡ put_number (parsed_of board) k value (words memory.old) }
+pub fn put_number(board: &Board, k: usize, value: f32, memory: &mut [u8])
+    requires sound { Sound board.now }
+    requires fine { Fine (parsed_of board.now) }
+    requires k_lt_count { k < board.now.count }
+    requires memory_len { length memory.old ≡ 4 * board.now.values }
+    ensures { words memory.new ≡ put_number (parsed_of board.now) k value (words memory.old) }
 {
-    let node = board.nodes[k];
-    store(memory, node.cell as usize, value);
+    store(memory, board.nodes[k].cell as usize, value);
 }
 
 // The number message. Every check comes first, so a refusal leaves every byte as found.
@@ -51,16 +49,14 @@ pub fn message(s: &[u8], memory: &mut [u8], node: u32, value: f32) -> Answer
     ensures answered { result ≡ (message_of s.now memory.old node value).0 }
     ensures bytes { memory.new ≡ (message_of s.now memory.old node value).1 }
 {
-    let board = judged(s, memory);
-    let refused = board.refused;
-    if refused.number != 0 {
+    let board = match judged(s, memory) {
+        Ok(board) => board,
+        Err(refused) => return refused,
+    };
+    let k = node as usize;
+    if let Err(refused) = number_judged(&board, k, value) {
         return refused;
     }
-    let k = node as usize;
-    let taken = number_judged(board, k, value);
-    if taken.number != 0 {
-        return taken;
-    }
-    put_number(board, k, value, memory);
+    put_number(&board, k, value, memory);
     Answer::new(0, 0)
 }

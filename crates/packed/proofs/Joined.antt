@@ -3,13 +3,14 @@
 --     packed_refused    refused: the float block's answer, and every byte as found
 -- Assumes nothing.
 use Prim.Native.Nat.{ℕ, ◌*◌}
-use mathlib.Core.Path.{◌≡◌, refl, ap, ◌∙◌}
+use mathlib.Core.Path.{◌≡◌, refl, sym, ap, ◌∙◌}
 use mathlib.Core.Bool.{Bool, true, false, cond}
 use mathlib.Core.List.{List}
 use native.Mathlib.Omega.{arith}
 use borrow.Author.Tests.{eqb-false, eq-eqb}
 use lib.Dec.{eqb}
 use lib.ListN.{length}
+use Rattle.std.specs.Prelude.{Some}
 use Rattle.values.specs.Words.{Bytes, words}
 use Rattle.boards.specs.Board.{Parsed, Progress, going, refused, whole}
 use Rattle.boards.specs.Judge.{read_board}
@@ -23,13 +24,13 @@ use Rattle.packed.specs.Packed.{floats_of, packed, check_packed_blocks, packed_i
 use Rattle.packed.specs.Said.{size_said}
 use Rattle.packed.proofs.Triples.{floats_long}
 use Rattle.packed.proofs.Finite.{words_finite}
-use Rattle.packed.proofs.Head.{said_is}
+use Rattle.packed.proofs.Head.{same_size, said_is}
 
 -- the two calls agree: d is the float block's outcome, e the packed block's, for the bytes m, l and r
 abbrev Agree : List ℕ → List ℕ → List ℕ → Outcome → Outcome → Type 0
 Agree m l r d e = (d.answer.number ≡ 0 → packed d ≡ e) × ((d.answer.number ≡ 0 → ⊥) → as_left d.answer d.memory l r ≡ e)
 
-module _ (s m x l r L R : List ℕ) (n : ℕ) (bytes : Bytes s) (small : Bytes x) (said : n ≡ size_said s)
+module _ (s m x l r L R : List ℕ) (n : ℕ) (bytes : Bytes s) (small : Bytes x) (said : size_said s ≡ Some n)
     (long : (length x ≡ 3 * n) × (length l ≡ 3 * n) × (length r ≡ 3 * n)) (room : (length L ≡ 4 * n) × (length R ≡ 4 * n)) where
   -- for an accepted board both checks come down to 7 and 8
   float_check : (p : Parsed) → n ≡ p.size → check_block p m (floats_of x) L R ≡ check_memory p m passed
@@ -55,7 +56,7 @@ module _ (s m x l r L R : List ℕ) (n : ℕ) (bytes : Bytes s) (small : Bytes x
   agree_by (going at last p) e ended = absurd ended
   agree_by (refused n w) e ended = ((λ z. absurd (omega arith)), (λ h. refl))
   agree_by (whole p) e ended =
-      let size = said ∙ said_is s bytes p e in
+      let size = same_size n p.size (sym said ∙ said_is s bytes p e) in
       rw (float_check p size, packed_check p size) (go (check_memory p m passed) (eqb (check_memory p m passed).number 0) refl)
     where
       go : (a : Answer) (q : Bool) → eqb a.number 0 ≡ q

@@ -12,7 +12,7 @@ use native.Mathlib.Numerals.{add-one}
 use native.Mathlib.Omega.{arith}
 use lib.Dec.{eqb}
 use lib.ListN.{length, get_or, take, drop, length-drop, drop_of_length-le}
-use lib.Seq.{get_or-take, get_or-drop, drop-cons, length-take-le, ext_get_or}
+use lib.Seq.{get_or-take, get_or-drop, drop-cons, length-take-le, take-length, ext_get_or}
 use Rattle.values.specs.Words.{words, length-words}
 use Rattle.values.specs.Floats.{float_at}
 use Rattle.kinds.specs.Row.{Writes, mono, keeping, stereo, row_of}
@@ -34,13 +34,14 @@ use Rattle.boards.specs.Read.{parsed_of, Sound}
 use Rattle.graph.specs.Listed.{SourcesBelow}
 use Rattle.memory.specs.Fine.{Fine}
 use Rattle.boards.specs.Formed.{TableAt}
-use Rattle.running.specs.Lent.{StartFits, StartsFit, Starts, Runs}
+use Rattle.running.specs.Lent.{StartFits, StartsFit, Started, StartsOf, Runs}
+use Rattle.nodes.specs.declared.node.Starts.{Starts}
 use Rattle.records.specs.declared.answer.Answer.{Answer}
 use Rattle.boards.specs.declared.board.Board.{Board}
 use Rattle.graph.specs.declared.graph.Order.{Order}
-use Rattle.graph.proofs.Listed.{listed-within}
+use Rattle.graph.proofs.Listed.{mem_at}
 use Rattle.boards.proofs.RoundSources.{mem_distinct}
-use Rattle.memory.proofs.FineBoard.{lists, source_there}
+use Rattle.memory.proofs.FineBoard.{listed_there, source_there}
 use Rattle.memory.proofs.CallCells.{cell_in, node_in_lem, count_nodes}
 use Rattle.running.proofs.CallStarts.{mapped_at}
 use Rattle.memory.proofs.CallLaws.{Judged, passed_judged}
@@ -109,16 +110,16 @@ module _ (b : Board) (sound : Sound b) (fine : Fine (parsed_of b)) where
     second_there : second_source p.wires k < b.count
     second_there = number_below b.count (sources p.wires k) (omega (arith, fine.formed.some_nodes, count_nodes b sound)) (source_below k) 1
 
-    module _ (r : ℕ) (count_is : r ≡ get_or b.counts k 0) where
+    module _ (r : ℕ) (count_is : r ≡ get_or b.sources.counts k 0) where
       abbrev list : List ℕ
-      list = take r (drop (8 * k) b.lists)
+      list = take r (drop (8 * k) b.sources.lists)
 
       list_long : length list ≡ r
       list_long =
-          length-take-le r (drop (8 * k) b.lists) (omega (arith, length-drop (8 * k) b.lists, sound.table.lists_long, (table k small).few))
+          length-take-le r (drop (8 * k) b.sources.lists) (omega (arith, length-drop (8 * k) b.sources.lists, sound.table.lists_long, (table k small).few))
 
-      list_at : (j : ℕ) → j < r → get_or list j 0 ≡ get_or b.lists (8 * k + j) 0
-      list_at j h = get_or-take r (drop (8 * k) b.lists) j 0 h ∙ get_or-drop (8 * k) b.lists j 0
+      list_at : (j : ℕ) → j < r → get_or list j 0 ≡ get_or b.sources.lists (8 * k + j) 0
+      list_at j h = get_or-take r (drop (8 * k) b.sources.lists) j 0 h ∙ get_or-drop (8 * k) b.sources.lists j 0
 
       list_is : list ≡ distinct_sources p.wires k
       list_is =
@@ -131,9 +132,11 @@ module _ (b : Board) (sound : Sound b) (fine : Fine (parsed_of b)) where
 
       -- ---- the starts of the samples
 
-      module _ (start : NodeRecord → ℕ) (at : List ℕ) (starts : Starts start b.nodes b.count at) where
+      module _ (start : NodeRecord → ℕ) (at : List ℕ) (starts : Started start p.nodes (length p.nodes) at) where
         start_same : (s : ℕ) → s < b.count → get_or at s 0 ≡ get_or (map start p.nodes) s 0
-        start_same s h = sym (get_or-take b.count at s 0 h) ∙ ap (λ (l : List ℕ). get_or l s 0) starts.same
+        start_same s h =
+            sym (get_or-take (length p.nodes) at s 0 (node_there s h))
+            ∙ ap (λ (l : List ℕ). get_or l s 0) (starts.same ∙ ap (map start) (take-length p.nodes))
 
         start_is : (s : ℕ) → s < b.count → get_or at s 0 ≡ start (node_at p s)
         start_is s h = start_same s h ∙ mapped_at start p.nodes s (node_there s h)
@@ -151,8 +154,19 @@ module _ (b : Board) (sound : Sound b) (fine : Fine (parsed_of b)) where
 
       -- ---- a turn
 
-      module _ (at₀ at₁ : List ℕ) (left_starts : Starts left_start b.nodes b.count at₀)
-          (right_starts : Starts (right_start b.size) b.nodes b.count at₁) (second : ℕ) (second_is : second ≡ get_or b.seconds k 0) where
+      module _ (started : Starts) (starts : StartsOf p.nodes b.size started) (second : ℕ) (second_is : second ≡ get_or b.sources.seconds k 0) where
+        abbrev at₀ : List ℕ
+        at₀ = started.lefts
+
+        abbrev at₁ : List ℕ
+        at₁ = started.rights
+
+        abbrev left_starts : Started left_start p.nodes (length p.nodes) at₀
+        left_starts = starts.lefts
+
+        abbrev right_starts : Started (right_start b.size) p.nodes (length p.nodes) at₁
+        right_starts = starts.rights
+
         second_same : second ≡ second_source p.wires k
         second_same = second_is ∙ sound.table.second k small
 
@@ -168,7 +182,7 @@ module _ (b : Board) (sound : Sound b) (fine : Fine (parsed_of b)) where
             omega (arith, (samples_within N (kind_at p s)).right)
 
         module _ (m : List ℕ) where
-          pub turn_run : node_run (node_in b.nodes k).kind b.size (node_in b.nodes k).cell (brought_at (words m) at₀ at₁ (take r (drop (8 * k) b.lists)) second) (words m)
+          pub turn_run : node_run (node_in b.nodes k).kind b.size (node_in b.nodes k).cell (brought_at (words m) at₀ at₁ (take r (drop (8 * k) b.sources.lists)) second) (words m)
               ≡ run_node (parsed_of b) k (words m)
           unfolding run_node
           turn_run =
@@ -185,7 +199,7 @@ module _ (b : Board) (sound : Sound b) (fine : Fine (parsed_of b)) where
               ∙ ap (λ (bs : ℕ → Brought). node_run (kind_at p k) N (node_at p k).cell bs (words m)) (listed_same ∙ started-same)
 
           pub turn_ready : length m ≡ 4 * cells_of b.size p.nodes → Judged (parsed_of b) (words m)
-              → Ready m (node_in b.nodes k).kind b.size (node_in b.nodes k).cell (take r (drop (8 * k) b.lists)) at₀ at₁ second
+              → Ready m (node_in b.nodes k).kind b.size (node_in b.nodes k).cell (take r (drop (8 * k) b.sources.lists)) at₀ at₁ second
           turn_ready long judged =
               let there = node_there k here in
               let length-same : length (distinct_sources p.wires k) ≡ length list = ap length (sym list_is) in
@@ -207,63 +221,48 @@ module _ (b : Board) (sound : Sound b) (fine : Fine (parsed_of b)) where
 -- ---- the run under way
 
 -- after i of the listed nodes the memory m₀ has become m: every cell fits, and the nodes that are left make of m what all make of m₀
-pub record Running (b : Board) (o : Order) (m₀ m : List ℕ) (i : ℕ) : Type 0 where
-  pub few : i ≤ o.count
+pub record Running (b : Board) (m₀ m : List ℕ) (i : ℕ) : Type 0 where
   pub kept : length m ≡ length m₀
   pub judged : Judged (parsed_of b) (words m)
   pub left : run_nodes (parsed_of b) (drop i (listed (parsed_of b))) (words m) ≡ run_nodes (parsed_of b) (listed (parsed_of b)) (words m₀)
 
-module _ (b : Board) (o : Order) (m₀ : List ℕ) (runs : Runs b o m₀) where
+module _ (b : Board) (st : Starts) (o : Order) (m₀ : List ℕ) (runs : Runs b st o m₀) where
   abbrev nodes : List ℕ
   nodes = listed (parsed_of b)
 
-  pub running_none : Running b o m₀ m₀ 0
+  pub running_none : Running b m₀ m₀ 0
   running_none = record {
-    few = omega arith;
     kept = refl;
     judged = passed_judged (parsed_of b) (words m₀) (ap (λ (a : Answer). a.number) runs.judged);
     left = refl;
   }
 
-  nodes_long : length nodes ≡ o.count
-  nodes_long = ap length (sym runs.lists.same) ∙ length-take-le o.count o.nodes (omega (arith, runs.lists.size, runs.lists.fits))
-
-  pub running_end : (m : List ℕ) (i : ℕ) → o.count ≤ i → Running b o m₀ m i → words m ≡ run_nodes (parsed_of b) (listed (parsed_of b)) (words m₀)
+  pub running_end : (m : List ℕ) (i : ℕ) → length (listed (parsed_of b)) ≤ i → Running b m₀ m i → words m ≡ run_nodes (parsed_of b) (listed (parsed_of b)) (words m₀)
   unfolding run_nodes
-  running_end m i all run =
-      let past : length nodes ≤ i = omega (arith, nodes_long) in
+  running_end m i past run =
       let none : drop i nodes ≡ [] = drop_of_length-le nodes past in
       ap (λ (l : List ℕ). run_nodes (parsed_of b) l (words m)) (sym none) ∙ run.left
 
-  module _ (i : ℕ) (more : i < o.count) where
+  module _ (i : ℕ) (more : i < length (listed (parsed_of b))) where
     abbrev k : ℕ
-    k = get_or o.nodes i 0
+    k = get_or nodes i 0
 
-    node_is : get_or nodes i 0 ≡ get_or o.nodes i 0
-    node_is = ap (λ (l : List ℕ). get_or l i 0) (sym runs.lists.same) ∙ get_or-take o.count o.nodes i 0 more
+    pub node_listed : get_or (listed (parsed_of b)) i 0 < b.count
+    node_listed = omega (arith, listed_there (parsed_of b) runs.fine k (mem_at nodes i more), count_nodes b runs.sound)
 
-    next : drop i nodes ≡ k ∷ drop (suc i) nodes
-    next = drop-cons nodes i 0 (omega (arith, nodes_long)) ∙ ap (λ (n : ℕ). n ∷ drop (suc i) nodes) node_is
-
-    pub node_listed : get_or o.nodes i 0 < b.count
-    node_listed =
-        let some : 0 < b.count = omega (arith, runs.fine.formed.some_nodes, count_nodes b runs.sound) in
-        listed-within (parsed_of b).wires o.nodes o.count runs.lists b.count some runs.sound.few_nodes (source_below b runs.sound runs.fine) i more
-
-    pub running_more : (m m' : List ℕ) → Running b o m₀ m i → length m' ≡ length m → words m' ≡ run_node (parsed_of b) (get_or o.nodes i 0) (words m)
-        → Running b o m₀ m' (i + 1)
+    pub running_more : (m m' : List ℕ) → Running b m₀ m i → length m' ≡ length m → words m' ≡ run_node (parsed_of b) (get_or (listed (parsed_of b)) i 0) (words m)
+        → Running b m₀ m' (i + 1)
     unfolding run_nodes
     running_more m m' run long ran =
         let p = parsed_of b in
         let there : k < length p.nodes = omega (arith, node_listed, count_nodes b runs.sound) in
         let size : length (words m) ≡ cells_of p.size p.nodes = omega (arith, length-words m, run.kept, runs.long) in
         record {
-          few = omega arith;
           kept = long ∙ run.kept;
           judged = rw ran (node_judged p runs.fine (words m) size k there run.judged);
           left =
               rw add-one
               (ap (run_nodes p (drop (suc i) nodes)) ran
-              ∙ ap (λ (l : List ℕ). run_nodes p l (words m)) (sym next)
+              ∙ ap (λ (l : List ℕ). run_nodes p l (words m)) (sym (drop-cons nodes i 0 more))
               ∙ run.left);
         }

@@ -12,7 +12,7 @@ use lib.Seq.{take-suc, take-suc-set}
 use Rattle.boards.specs.Board.{blank}
 use Rattle.memory.specs.Memory.{node_in}
 use Rattle.kinds.specs.declared.kind.NodeRecord.{NodeRecord}
-use Rattle.running.specs.Lent.{Starts}
+use Rattle.running.specs.Lent.{Started}
 
 pub mapped_at : (f : NodeRecord → ℕ) (l : List NodeRecord) (k : ℕ) → k < length l → get_or (map f l) k 0 ≡ f (node_in l k)
 mapped_at f [] k h = absurd (omega arith)
@@ -20,10 +20,10 @@ mapped_at f (r ∷ l) zero h = refl
 mapped_at f (r ∷ l) (suc k) h = mapped_at f l k (omega arith)
 
 module _ (start : NodeRecord → ℕ) (nodes : List NodeRecord) where
-  pub starts_none : (at : List ℕ) → length at ≡ 64 → Starts start nodes 0 at
+  pub starts_none : (at : List ℕ) → length at ≡ 64 → Started start nodes 0 at
   starts_none at long = record { long = long; same = refl }
 
-  pub starts_more : (i : ℕ) (at : List ℕ) → i < 64 → i < length nodes → Starts start nodes i at → Starts start nodes (i + 1) (set at i (start (node_in nodes i)))
+  pub starts_more : (i : ℕ) (at : List ℕ) → i < 64 → i < length nodes → Started start nodes i at → Started start nodes (i + 1) (set at i (start (node_in nodes i)))
   starts_more i at small there s = record {
     long = length-set at i (start (node_in nodes i)) ∙ s.long;
     same = rw add-one

@@ -1,130 +1,90 @@
 // The stages of a block run: the memory judged, the input put into it, the listed nodes run, and node
 // 0's two channels given.
-ghost use Rattle.std.specs.Prelude.{◌≡◌, ◌+◌, ◌*◌, ◌≤◌, length, take, drop};
+ghost use Rattle.std.specs.Prelude.{◌≡◌, ◌+◌, ◌*◌, ◌≤◌, OnOk, length, take, drop};
 ghost use Rattle.std.proofs.Math.Seq.{paste};
 ghost use Rattle.values.specs.Words.{words};
 ghost use Rattle.kinds.specs.Kind.{samples_from};
+ghost use Rattle.records.specs.Answer.{checked};
 ghost use Rattle.boards.specs.Read.{parsed_of};
 ghost use Rattle.memory.specs.Memory.{listed, check_cells};
 ghost use Rattle.memory.specs.Calls.{and_then, check_needed};
 ghost use Rattle.memory.specs.Stages.{CellsIn};
-ghost use Rattle.running.specs.Run.{left_start, right_start, run_nodes};
-ghost use Rattle.running.specs.Lent.{StartsFit, Starts, lending, LentOf, Lent};
+ghost use Rattle.running.specs.Run.{run_nodes};
+ghost use Rattle.running.specs.Lent.{StartsFit, StartsOf, Runs};
 
 use boards::board::Board;
 use graph::graph::Order;
 use kinds::cell::{SAMPLES, cell_fits};
 use kinds::kind::NodeRecord;
 use memory::open::length_judged;
-use nodes::node::step;
+use nodes::node::{Inputs, Starts, step};
 use records::answer::Answer;
-use values::bytes::wide;
 
 // The bytes of `from` from `start` on into `to` from `at` on, `count` of them.
 fn copy(from: &[u8], start: usize, to: &mut [u8], at: usize, count: usize)
     requires { (start + count ≤ length from.now) × (at + count ≤ length to.old) }
     ensures { to.new ≡ paste to.old at (drop start from.now) count }
 {
-    let mut i = 0;
-    while i < count {
-        to[at + i] = from[start + i];
-        i += 1;
-    }
+    to[at..at + count].copy_from_slice(&from[start..start + count]);
 }
 
-// Check 8, and where each node's samples start and where what the destination's channel 1 reads of it
-// does: one pass over the nodes.
+// Check 8, and the starts of the nodes' samples. One pass over the nodes, measured: memory's
+// `cells_judged` and a loop for the starts would be two.
 fn starts_judged(
-    nodes: [NodeRecord; 64],
-    count: usize,
+    nodes: &[NodeRecord],
     size: usize,
     memory: &[u8],
-    lefts: &mut [usize; 64],
-    rights: &mut [usize; 64],
-) -> Answer
-    requires nodes_len { (length nodes ≡ 64) × (count ≤ 64) × (size ≤ 128) × StartsFit nodes count × CellsIn nodes count (length memory.now) }
-    requires lefts_len { (length lefts.old ≡ 64) × (length rights.old ≡ 64) }
-    ensures answered { result ≡ check_cells (words memory.now) 0 (take count nodes) }
-    ensures started { result.number ≡ 0 → Starts left_start nodes count lefts.new × Starts (right_start size) nodes count rights.new }
+    starts: &mut Starts,
+) -> Result<(), Answer>
+    requires { (length nodes.now ≤ 64) × (size ≤ 128) × StartsFit nodes.now (length nodes.now) × CellsIn nodes.now (length nodes.now) (length memory.now) }
+    ensures answered { result ≡ checked (check_cells (words memory.now) 0 nodes.now) }
+    ensures started { OnOk result (StartsOf nodes.now size starts.new) }
 {
-    let mut i = 0;
-    while i < count {
-        let node = nodes[i];
-        let kind = node.kind;
-        if cell_fits(memory, node.cell as usize, kind) {
-            let left = node.cell as usize + SAMPLES;
-            lefts[i] = left;
-            rights[i] = left + size * (wide(node.channels) - 1);
-            i += 1;
-        } else {
-            return Answer::new(8, i);
+    for (i, node) in nodes.iter().enumerate() {
+        let cell = node.cell as usize;
+        if !cell_fits(memory, cell, node.kind) {
+            return Err(Answer::new(8, i));
         }
+        let left = cell + SAMPLES;
+        starts.lefts[i] = left;
+        starts.rights[i] = left + size * (usize::from(node.channels) - 1);
     }
-    Answer::new(0, 0)
+    Ok(())
 }
 
 // Checks 7 and 8 of a board that is read whole, with the starts.
-pub fn memory_judged(
-    values: usize,
-    nodes: [NodeRecord; 64],
-    count: usize,
-    size: usize,
-    memory: &[u8],
-    lefts: &mut [usize; 64],
-    rights: &mut [usize; 64],
-) -> Answer
-    requires nodes_len { (length nodes ≡ 64) × (count ≤ 64) × (size ≤ 128) × (values ≤ 278720) × StartsFit nodes count × CellsIn nodes count (4 * values) }
-    requires lefts_len { (length lefts.old ≡ 64) × (length rights.old ≡ 64) }
-    ensures answered { result ≡ and_then (check_needed (4 * values) (length memory.now)) (check_cells (words memory.now) 0 (take count nodes)) }
-    ensures started { result.number ≡ 0 → Starts left_start nodes count lefts.new × Starts (right_start size) nodes count rights.new }
+pub fn memory_judged(board: &Board, memory: &[u8], starts: &mut Starts) -> Result<(), Answer>
+    requires { (board.now.count ≤ 64) × (board.now.size ≤ 128) × (board.now.values ≤ 278720)
+        × StartsFit board.now.nodes board.now.count × CellsIn board.now.nodes board.now.count (4 * board.now.values) }
+    ensures answered { result ≡ checked (and_then (check_needed (4 * board.now.values) (length memory.now))
+        (check_cells (words memory.now) 0 (take board.now.count board.now.nodes))) }
+    ensures started { OnOk result (StartsOf (take board.now.count board.now.nodes) board.now.size starts.new) }
 {
-    let long = length_judged(values, memory.len());
-    if long.number != 0 {
-        return long;
-    }
-    starts_judged(nodes, count, size, memory, lefts, rights)
+    let needed = 4 * board.values;
+    length_judged(memory.len(), needed, Answer::new(7, needed))?;
+    starts_judged(&board.nodes[..board.count], board.size, memory, starts)
 }
 
-// The listed nodes, in order. Lent what the run reads of a board, since a board by value is copied.
-pub fn run<'a>(
-    nodes: [NodeRecord; 64],
-    size: usize,
-    counts: &'a [u8; 64],
-    lists: &'a [u8; 512],
-    seconds: &'a [u8; 64],
-    lefts: &[usize; 64],
-    rights: &[usize; 64],
-    order: Order,
-    memory: &mut [u8],
-)
-    requires { Lent nodes size counts.now lists.now seconds.now lefts.now rights.now order memory.old }
-    ensures { (b : Board) → LentOf b nodes size counts.now lists.now seconds.now lefts.now rights.now order memory.old
-        → words memory.new ≡ run_nodes (parsed_of (lending b nodes size counts.now lists.now seconds.now))
-        (listed (parsed_of (lending b nodes size counts.now lists.now seconds.now))) (words memory.old) }
+// The listed nodes, in order.
+pub fn run(board: &Board, starts: &Starts, order: &Order, memory: &mut [u8])
+    requires { Runs board.now starts.now order.now memory.old }
+    ensures { words memory.new ≡ run_nodes (parsed_of board.now) (listed (parsed_of board.now)) (words memory.old) }
 {
-    let listed = order.nodes;
-    let sources = &lists[..];
+    let table = &board.sources;
     let mut x = [0.0f32; 128];
     let mut m = [0.0f32; 128];
-    let mut i = 0;
-    while i < order.count {
-        let k = wide(listed[i]);
+    let x = &mut x[..board.size];
+    let m = &mut m[..board.size];
+    let listed = order.listed();
+    for node in listed {
+        let k = usize::from(*node);
         let from = 8 * k;
-        let to = from + wide(counts[k]);
-        let second = wide(seconds[k]);
-        let node = nodes[k];
-        step(
-            memory,
-            size,
-            node,
-            &sources[from..to],
-            second,
-            lefts,
-            rights,
-            &mut x,
-            &mut m,
-        );
-        i += 1;
+        let to = from + usize::from(table.counts[k]);
+        let sources = Inputs {
+            list: &table.lists[from..to],
+            second: usize::from(table.seconds[k]),
+        };
+        step(memory, board.nodes[k], sources, starts, x, m);
     }
 }
 

@@ -1,22 +1,26 @@
 -- `context::block::sizes_judged` meets its contract: one block after the other. Assumes nothing.
+use Prim.Native.Nat.{ℕ, ◌*◌}
+use mathlib.Core.Path.{◌≡◌, ◌∙◌}
+use mathlib.Core.Bool.{cond}
+use native.Mathlib.Omega.{arith}
+use lib.Dec.{eqb}
+use Rattle.std.specs.Prelude.{Result, Ok, Err}
+use Rattle.records.specs.Answer.{answer, checked}
+use Rattle.records.specs.declared.answer.Answer.{Answer}
 use Rattle.memory.specs.Calls.{and_then}
 use Rattle.context.specs.Block.{check_size}
-use Rattle.memory.proofs.CallChecks.{then_passed, then_refused}
+use Rattle.memory.proofs.CallChecks.{test_checked, checked_then}
 use Rattle.context.proofs.block.sizes_judged.Goals as goal
 
-pub returns-then-taken-ne0 : goal.returns-then-taken-ne0
-returns-then-taken-ne0 c =
-    let a = c.args in
-    then_refused (check_size a.size a.input) (and_then (check_size a.size a.left) (check_size a.size a.right)) _ c.size_judged-taken.ensures c.if-taken-ne0.true
-
-pub returns-then-given-ne0 : goal.returns-then-given-ne0
-returns-then-given-ne0 c =
-    let a = c.args in
-    then_passed (check_size a.size a.input) (and_then (check_size a.size a.left) (check_size a.size a.right)) _ _ c.size_judged-taken.ensures c.if-taken-ne0.false
-    (then_refused (check_size a.size a.left) (check_size a.size a.right) _ c.size_judged-given.ensures c.if-given-ne0.true)
+-- one block's length
+sized : (N lent : ℕ) (refusal : Answer) → refusal ≡ answer 9 N → (r : Result (Unit {0}) Answer) → r ≡ cond (eqb lent (4 * N)) (Ok tt) (Err refusal)
+    → r ≡ checked (check_size N lent)
+sized N lent refusal e r f = f ∙ test_checked (eqb lent (4 * N)) refusal (answer 9 N) e (omega arith)
 
 pub returns : goal.returns
 returns c =
     let a = c.args in
-    then_passed (check_size a.size a.input) (and_then (check_size a.size a.left) (check_size a.size a.right)) _ _ c.size_judged-taken.ensures c.if-taken-ne0.false
-    (then_passed (check_size a.size a.left) (check_size a.size a.right) _ _ c.size_judged-given.ensures c.if-given-ne0.false c.size_judged.ensures)
+    let refusal = c.new-refusal in
+    checked_then _ (and_then (check_size a.size a.left) (check_size a.size a.right)) _ (sized a.size a.input _ refusal.ensures _ c.in_ok-length_judged.ensures)
+    (checked_then _ (check_size a.size a.right) _ (sized a.size a.left _ refusal.ensures _ c.in_ok-length_judged-2.ensures)
+    (sized a.size a.right _ refusal.ensures _ c.length_judged-3.ensures))

@@ -20,39 +20,35 @@ use Rattle.memory.proofs.fresh.fresh.Goals as goal
 opens : (s m : List ℕ) → change_by m (λ p. check_length p m) fresh_values (read_board s) ≡ change_by m (λ p. passed) fresh_values (read_open s (length m))
 opens s m = held_only (λ p. check_length p m) (λ a. (a, m)) (λ p. (passed, unwords (fresh_values p))) (read_board s)
 
-pub returns-then-refused-ne0 : goal.returns-then-refused-ne0
+pub returns-in-Err-clause-answered : goal.returns-in-Err-clause-answered
 unfolding fresh_of
-returns-then-refused-ne0 c =
-    let board = c.opened-board in
-    let told = change_refused _ board.result board.ensures.read c.args.memory.now (λ p. passed) fresh_values c.if-refused-ne0.true in
-    record {
-      answered = rw (opens c.args.s.now c.args.memory.now) told.0;
-      bytes = rw (opens c.args.s.now c.args.memory.now) told.1;
-    }
+returns-in-Err-clause-answered c =
+    let m = c.args.memory.now in
+    rw (opens c.args.s.now m) (change_refused m (λ p. passed) fresh_values (read_open c.args.s.now (length m)) _ c.in-Err.ensures).0
+
+pub returns-in-Err-clause-bytes : goal.returns-in-Err-clause-bytes
+unfolding fresh_of
+returns-in-Err-clause-bytes c =
+    let m = c.args.memory.now in
+    rw (opens c.args.s.now m) (change_refused m (λ p. passed) fresh_values (read_open c.args.s.now (length m)) _ c.in-Err.ensures).1
 
 pub put_numbers-requires : goal.put_numbers-requires
 put_numbers-requires c =
-    let board = c.opened-board in
-    let cleared = c.clear in
-    let sound = board.ensures.read.sound in
-    let accepted = c.if-refused-ne0.false in
-    (sound.nodes_long, sound.few_nodes, cells_in board.result sound (board.ensures.fine accepted) cleared.new.memory (cleared.auto.memory ∙ board.ensures.long accepted))
+    let opened = c.in-Ok.ensures in
+    cells_in c.in-Ok.board opened.sound opened.fine c.fill.new.self (c.fill.ensures.len ∙ opened.long)
 
 pub returns : goal.returns
 unfolding fresh_of
 returns c =
-    let board = c.opened-board in
-    let cleared = c.clear in
+    let opened = c.in-Ok.ensures in
     let stored = c.put_numbers in
-    let accepted = c.if-refused-ne0.false in
     let m = c.args.memory.now in
-    let p = parsed_of board.result in
-    let long = board.ensures.long accepted in
-    let size : length m ≡ 4 * cells_of p.size p.nodes = long ∙ ap (λ (v : ℕ). 4 * v) board.ensures.read.sound.values_sum in
-    let zeros : words cleared.new.memory ≡ replicate (cells_of p.size p.nodes) 0 =
-    ap words cleared.ensures ∙ ap (λ (k : ℕ). words (replicate k 0)) size ∙ words_zeros (cells_of p.size p.nodes) in
-    let told = change_done _ board.result board.ensures.read m (λ p. passed) fresh_values accepted passed refl refl
-    stored.new.memory (stored.auto.memory ∙ cleared.auto.memory ∙ long) (λ i. omega (arith, c.type_inv.memory i))
-    (stored.ensures ∙ ap (put_numbers p.nodes) zeros ∙ numbers_fresh p (board.ensures.fine accepted))
+    let p = parsed_of c.in-Ok.board in
+    let size : length m ≡ 4 * cells_of p.size p.nodes = opened.long ∙ ap (λ (v : ℕ). 4 * v) opened.sound.values_sum in
+    let zeros : words c.fill.new.self ≡ replicate (cells_of p.size p.nodes) 0 =
+    ap words (c.fill.ensures.after (λ y e. e)) ∙ ap (λ (k : ℕ). words (replicate k 0)) size ∙ words_zeros (cells_of p.size p.nodes) in
+    let told = change_done m (λ p. passed) fresh_values (read_open c.args.s.now (length m)) p opened.reading refl
+    c.in-Ok.board.values stored.new.memory (stored.auto.memory ∙ c.fill.ensures.len ∙ opened.long) (λ i. omega (arith, c.type_inv.memory i))
+    (stored.ensures ∙ ap (put_numbers p.nodes) zeros ∙ numbers_fresh p opened.fine)
     c.new.result c.new.ensures in
     record { answered = rw (opens c.args.s.now m) told.0; bytes = rw (opens c.args.s.now m) told.1 }

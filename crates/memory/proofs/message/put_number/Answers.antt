@@ -4,16 +4,16 @@ use native.Mathlib.Omega.{arith}
 use Rattle.values.specs.Words.{words}
 use Rattle.values.specs.Floats.{set_float}
 use Rattle.kinds.specs.declared.kind.NodeRecord.{NodeRecord}
-use Rattle.memory.proofs.CallCells.{node_in_lem, cells_in}
+use Rattle.memory.proofs.CallCells.{node_in_lem, cells_fit}
 use Rattle.memory.proofs.message.put_number.Goals as goal
 
 pub store-requires : goal.store-requires
 store-requires c =
-    omega (arith, cells_in c.args.board c.requires.sound c.requires.fine c.args.memory.now c.requires.memory_len c.args.k c.requires.k_lt_count)
+    omega (arith, cells_fit c.args.board.now c.requires.sound c.requires.fine c.args.k c.requires.k_lt_count, c.requires.memory_len)
 
 pub returns : goal.returns
 returns c =
-    let b = c.args.board in
+    let b = c.args.board.now in
     let m = words c.args.memory.now in
     c.store.ensures
     ∙ ap (λ (r : NodeRecord). set_float m r.cell c.args.value) (sym (node_in_lem b c.requires.sound c.args.k c.requires.k_lt_count))

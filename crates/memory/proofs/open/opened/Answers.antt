@@ -1,34 +1,29 @@
 -- `memory::open::opened` meets its contract: a board that is read whole is held to its memory's length. Assumes nothing.
 use Prim.Native.Nat.{ℕ, ◌*◌}
-use mathlib.Core.Path.{sym, ap, ◌∙◌}
+use mathlib.Core.Path.{◌≡◌, ap, ◌∙◌}
 use native.Mathlib.Omega.{arith}
-use Rattle.records.specs.declared.answer.Answer.{Answer}
+use lib.Dec.{eqb}
+use Rattle.std.specs.Prelude.{Ok}
+use Rattle.boards.specs.Board.{memory_length}
+use Rattle.records.specs.Answer.{checked}
 use Rattle.graph.proofs.Accepted.{table_at}
 use Rattle.memory.specs.Calls.{check_needed}
 use Rattle.memory.proofs.FineBoard.{accepted_fine}
-use Rattle.memory.proofs.CallBy.{held_refused, held_answered, table_answered}
-use Rattle.memory.proofs.CallChecks.{needed_long}
+use Rattle.memory.proofs.CallBy.{held_passed}
+use Rattle.memory.proofs.CallChecks.{needed_long, test_checked, checked_passed}
 use Rattle.memory.proofs.open.opened.Goals as goal
-
-pub returns-then-read-ne0 : goal.returns-then-read-ne0
-returns-then-read-ne0 c =
-    let board = c.read_board-board in
-    record {
-      read = held_refused _ board.result board.ensures c.if-read-ne0.true;
-      fine = λ z. absurd (c.if-read-ne0.true z);
-      table = λ z. absurd (c.if-read-ne0.true z);
-      long = λ z. absurd (c.if-read-ne0.true z);
-    }
 
 pub returns : goal.returns
 returns c =
-    let board = c.read_board-board in
-    let b = board.result in
-    let accepted = c.if-read-ne0.false in
-    let a = c.length_judged-refused.result in
+    let s = c.args.s.now in
+    let b = c.in_ok-board.board in
+    let read = c.in_ok-board.ensures in
+    let passes : Ok tt ≡ checked (check_needed (4 * b.values) c.args.lent) =
+    c.in_ok-length_judged.ensures ∙ test_checked (eqb c.args.lent (4 * b.values)) _ _ c.new.ensures (omega arith) in
     record {
-      read = held_answered _ b board.ensures accepted a (c.length_judged-refused.ensures ∙ ap (λ (v : ℕ). check_needed (4 * v) c.args.lent) board.ensures.sound.values_sum);
-      fine = λ _. accepted_fine c.args.s.now (λ i. omega (arith, c.type_inv.s i)) b board.ensures accepted;
-      table = λ _ v h. table_answered b a v (table_at c.args.s.now b board.ensures accepted v h);
-      long = λ z. needed_long (4 * b.values) c.args.lent (ap (λ (x : Answer). x.number) (sym c.length_judged-refused.ensures) ∙ z);
+      reading = held_passed (λ p. check_needed (memory_length p) c.args.lent) read.0 (passes ∙ ap (λ (v : ℕ). checked (check_needed (4 * v) c.args.lent)) read.1.values_sum);
+      sound = read.1;
+      fine = accepted_fine s (λ i. omega (arith, c.type_inv.s i)) b read;
+      table = table_at s b read;
+      long = needed_long (4 * b.values) c.args.lent (checked_passed _ passes);
     }

@@ -12,10 +12,7 @@ use Rattle.packed.proofs.block24.give_words.Goals as goal
 
 pub loop-i-init : goal.loop-i-init
 unfolding words_of
-loop-i-init c = (omega arith, refl, refl)
-
-pub to_word-requires : goal.to_word-requires
-to_word-requires c = tt
+loop-i-init c = (refl, refl)
 
 pub loop-i-preserved : goal.loop-i-preserved
 loop-i-preserved c =
@@ -23,8 +20,7 @@ loop-i-preserved c =
     let floats = c.args.floats.now in
     let word = c.to_word.ensures.0 ∙ ap to_word c.load.ensures in (
       omega arith,
-      omega arith,
-      given_next (words floats) l.out _ l.i (omega (arith, length-words floats)) (omega arith) l.invariant.2
+      given_next (words floats) l.out _ l.i (omega (arith, length-words floats)) (omega arith) l.invariant.1
           (c.put_u24.ensures ∙ ap (λ (w : ℕ). sets l.out (3 * l.i) (u24_bytes w)) word),
     )
 
@@ -33,4 +29,4 @@ returns c =
     let floats = c.args.floats.now in
     let l = c.loop-i in
     let all : l.i ≡ c.args.n = omega arith in
-    given_all (words floats) l.out c.args.n (omega (arith, length-words floats)) (omega arith) (rw all at l.invariant.2)
+    given_all (words floats) l.out c.args.n (omega (arith, length-words floats)) (omega arith) (rw all at l.invariant.1)

@@ -1,4 +1,4 @@
-use Prim.Native.Nat.{◌*◌, ◌≤◌, ◌-◌}
+use Prim.Native.Nat.{◌*◌}
 use mathlib.Core.Path.{◌≡◌}
 use lib.ListN.{length, take}
 use Rattle.values.specs.Words.{words}
@@ -6,7 +6,4 @@ use Rattle.packed.specs.Packed.{words_of}
 use Rattle.packed.proofs.block24.give_words.Given as goal
 
 abbrev pub invariant-loop-i : goal.invariant-loop-i
-invariant-loop-i l = (l.i ≤ l.n) × (length l.out ≡ length l.initial.out) × (take (3 * l.i) l.out ≡ words_of (take l.i (words l.floats)))
-
-abbrev pub decreases-loop-i : goal.decreases-loop-i
-decreases-loop-i l = l.n - l.i
+invariant-loop-i l = (length l.out ≡ length l.initial.out) × (take (3 * l.i) l.out ≡ words_of (take l.i (words l.floats)))

@@ -16,7 +16,7 @@ abbrev pattern : ℕ → ℕ
 pattern u = to_bits binary32 (of_word u)
 
 pub loop-i-init : goal.loop-i-init
-loop-i-init c = (omega arith, refl, (λ k. omega (arith, c.type_inv.floats k)), refl)
+loop-i-init c = (refl, (λ k. omega (arith, c.type_inv.floats k)), refl)
 
 pub of_word-requires : goal.of_word-requires
 of_word-requires c = c.u24_at.ensures.1
@@ -27,9 +27,8 @@ loop-i-preserved c =
     let input = c.args.input.now in
     let word = c.u24_at.ensures.0 ∙ sym (triples_at input l.i (omega arith)) in (
       omega arith,
-      omega arith,
       (λ k. omega (arith, c.type_inv.floats k)),
-      taken_next pattern (triples input) (words l.floats) _ l.i (omega (arith, length-words l.floats)) (omega (arith, length-triples input)) l.invariant.3
+      taken_next pattern (triples input) (words l.floats) _ l.i (omega (arith, length-words l.floats)) (omega (arith, length-triples input)) l.invariant.2
           (c.store.ensures ∙ ap (set_float (words l.floats) l.i) (c.of_word.ensures ∙ ap of_word word)),
     )
 
@@ -38,6 +37,6 @@ returns c =
     let input = c.args.input.now in
     let l = c.loop-i in
     let all : l.i ≡ c.args.n = omega arith in
-    unwords-words l.floats c.args.n (omega arith) l.invariant.2
+    unwords-words l.floats c.args.n (omega arith) l.invariant.1
     ∙ ap unwords (taken_all pattern (triples input) (words l.floats) c.args.n (omega (arith, length-words l.floats)) (omega (arith, length-triples input))
-    (rw all at l.invariant.3))
+    (rw all at l.invariant.2))

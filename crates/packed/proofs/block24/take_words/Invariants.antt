@@ -1,4 +1,3 @@
-use Prim.Native.Nat.{◌≤◌, ◌-◌}
 use mathlib.Core.Path.{◌≡◌}
 use mathlib.Core.List.{map}
 use lib.Ieee.{binary32, to_bits}
@@ -9,7 +8,4 @@ use Rattle.packed.specs.Packed.{triples}
 use Rattle.packed.proofs.block24.take_words.Given as goal
 
 abbrev pub invariant-loop-i : goal.invariant-loop-i
-invariant-loop-i l = (l.i ≤ l.n) × (length l.floats ≡ length l.initial.floats) × Bytes l.floats × (take l.i (words l.floats) ≡ take l.i (map (λ u. to_bits binary32 (of_word u)) (triples l.input)))
-
-abbrev pub decreases-loop-i : goal.decreases-loop-i
-decreases-loop-i l = l.n - l.i
+invariant-loop-i l = (length l.floats ≡ length l.initial.floats) × Bytes l.floats × (take l.i (words l.floats) ≡ take l.i (map (λ u. to_bits binary32 (of_word u)) (triples l.input)))

@@ -1,136 +1,115 @@
--- `running::run::run` meets its contract. After each turn the nodes that are left make of the memory what all of them make of the first,
--- whatever board has what is lent. Assumes nothing.
+-- `running::run::run` meets its contract. After each turn the nodes that are left make of the memory what all of them make of the first.
+-- Assumes nothing.
 use Prim.Native.Nat.{ℕ, ◌+◌, ◌-◌, ◌*◌, ◌≤◌, ◌<◌}
-use mathlib.Core.Path.{◌≡◌, refl, sym, ap, subst, ◌∙◌}
+use mathlib.Core.Path.{◌≡◌, sym, ap, subst, ◌∙◌}
 use mathlib.Core.List.{List}
 use native.Mathlib.Omega.{arith}
-use lib.ListN.{get_or, take, drop}
+use lib.ListN.{length, get_or, take, drop, replicate, length-replicate}
+use lib.Seq.{length-take-le}
+use lib.Ieee.{Float}
 use Rattle.values.specs.Words.{words}
 use Rattle.kinds.specs.Node.{brought_at, node_run}
-use Rattle.kinds.specs.declared.kind.NodeRecord.{NodeRecord}
 use Rattle.nodes.specs.Ready.{Ready}
-use Rattle.memory.specs.Memory.{node_in}
+use Rattle.memory.specs.Memory.{node_in, listed}
 use Rattle.running.specs.Run.{run_node}
-use Rattle.running.specs.Lent.{lending, LentOf}
+use Rattle.running.specs.Lent.{Runs}
+use Rattle.nodes.specs.declared.node.Starts.{Starts}
 use Rattle.boards.specs.Read.{parsed_of}
 use Rattle.boards.specs.declared.board.Board.{Board}
 use Rattle.graph.specs.declared.graph.Order.{Order}
 use Rattle.running.proofs.CallRun.{turn_run, turn_ready, Running, running_none, running_end, running_more, node_listed}
 use Rattle.running.proofs.run.run.Goals as goal
 
--- a board with what is lent, and that it is lent of this one
-module _ (b : Board) (nodes : List NodeRecord) (N : ℕ) (counts lists seconds lefts rights : List ℕ) (o : Order) (m₀ : List ℕ)
-    (lent : LentOf b nodes N counts lists seconds lefts rights o m₀) where
-  abbrev board : Board
-  board = lending b nodes N counts lists seconds
+-- a turn, with the i-th of the listed nodes l: the node is the board's, and has few sources
+module _ (b : Board) (st : Starts) (o : Order) (m₀ : List ℕ) (runs : Runs b st o m₀) (l : List ℕ) (l_is : l ≡ take o.count o.nodes) (i : ℕ) (more : i < length l)
+    (k : ℕ) (k_is : k ≡ get_or l i 0) where
+  same : l ≡ listed (parsed_of b)
+  same = l_is ∙ runs.lists.same
 
-  -- a turn, from where its node is read: the node is the board's, and has few sources
-  module _ (i : ℕ) (more : i < o.count) (k : ℕ) (k_is : k ≡ get_or o.nodes i 0) where
-    node_here : k < b.count
-    node_here = subst (λ (j : ℕ). j < b.count) (sym k_is) (node_listed board o m₀ lent.runs i more)
+  left : i < length (listed (parsed_of b))
+  left = subst (λ (r : List ℕ). i < length r) same more
 
-    node_small : k < 64
-    node_small = omega (arith, node_here, lent.runs.sound.few_nodes)
+  k_listed : k ≡ get_or (listed (parsed_of b)) i 0
+  k_listed = k_is ∙ ap (λ (r : List ℕ). get_or r i 0) same
 
-    module _ (n : ℕ) (n_is : n ≡ get_or counts k 0) where
-      count_small : n ≤ 8
-      count_small = subst (λ (r : ℕ). r ≤ 8) (sym n_is) (lent.runs.table k node_small).few
+  here : k < b.count
+  here = subst (λ (j : ℕ). j < b.count) (sym k_listed) (node_listed b st o m₀ runs i left)
 
-      -- the same turn, from where its numbers are read
-      module _ (second : ℕ) (second_is : second ≡ get_or seconds k 0) (memory : List ℕ) (running : Running board o m₀ memory i) where
-        abbrev list : List ℕ
-        list = take (8 * k + n - 8 * k) (drop (8 * k) lists)
+  small : k < 64
+  small = omega (arith, here, runs.sound.few_nodes)
 
-        sized : 8 * k + n - 8 * k ≡ get_or counts k 0
-        sized = omega (arith, n_is)
+  module _ (n : ℕ) (n_is : n ≡ get_or b.sources.counts k 0) where
+    few : n ≤ 8
+    few = subst (λ (r : ℕ). r ≤ 8) (sym n_is) (runs.table k small).few
 
-        ready : Ready memory (node_in nodes k).kind N (node_in nodes k).cell list lefts rights second
-        ready =
-            turn_ready board lent.runs.sound lent.runs.fine lent.runs.table k node_here (8 * k + n - 8 * k) sized
-            lefts rights lent.left_starts lent.right_starts second second_is memory (running.kept ∙ lent.runs.long) running.judged
+    -- the same turn, from where its numbers are read
+    module _ (second : ℕ) (second_is : second ≡ get_or b.sources.seconds k 0) (memory : List ℕ) (running : Running b m₀ memory i) where
+      abbrev list : List ℕ
+      list = take (8 * k + n - 8 * k) (drop (8 * k) b.sources.lists)
 
-        -- the node's block is the definition's
-        ran : (m : List ℕ)
-            → words m ≡ node_run (node_in nodes k).kind N (node_in nodes k).cell (brought_at (words memory) lefts rights list second) (words memory)
-            → words m ≡ run_node (parsed_of board) (get_or o.nodes i 0) (words memory)
-        ran m e =
-            e
-            ∙ turn_run board lent.runs.sound lent.runs.fine lent.runs.table k node_here (8 * k + n - 8 * k) sized
-            lefts rights lent.left_starts lent.right_starts second second_is memory
-            ∙ ap (λ (j : ℕ). run_node (parsed_of board) j (words memory)) k_is
+      sized : 8 * k + n - 8 * k ≡ get_or b.sources.counts k 0
+      sized = omega (arith, n_is)
 
-pub loop-i-init : goal.loop-i-init
-loop-i-init c =
-    let a = c.args in (
-      λ b lent. running_none (lending b a.nodes a.size a.counts.now a.lists.now a.seconds.now) a.order a.memory.now lent.runs,
-      refl,
-      refl,
-    )
-
-pub bounds-listed-i : goal.bounds-listed-i
-bounds-listed-i c = omega (arith, c.requires.lent.runs.lists.fits)
-
-pub overflow_mul-from : goal.overflow_mul-from
-overflow_mul-from c =
-    omega (arith, node_small _ _ _ _ _ _ _ _ _ _ c.requires.lent c.loop-i.i c.loop-i-test.true c.wide-k.result c.wide-k.ensures)
-
-pub bounds-counts-k : goal.bounds-counts-k
-bounds-counts-k c = node_small _ _ _ _ _ _ _ _ _ _ c.requires.lent c.loop-i.i c.loop-i-test.true c.wide-k.result c.wide-k.ensures
-
-pub overflow_add-to : goal.overflow_add-to
-overflow_add-to c =
-    let small = node_small _ _ _ _ _ _ _ _ _ _ c.requires.lent c.loop-i.i c.loop-i-test.true c.wide-k.result c.wide-k.ensures in
-    let few = count_small _ _ _ _ _ _ _ _ _ _ c.requires.lent c.loop-i.i c.loop-i-test.true c.wide-k.result c.wide-k.ensures c.wide.result c.wide.ensures in
-    omega (arith, small, few)
-
-pub bounds-seconds-k : goal.bounds-seconds-k
-bounds-seconds-k c = node_small _ _ _ _ _ _ _ _ _ _ c.requires.lent c.loop-i.i c.loop-i-test.true c.wide-k.result c.wide-k.ensures
-
-pub offset_bounds-nodes-k : goal.offset_bounds-nodes-k
-offset_bounds-nodes-k c =
-    omega (arith, node_small _ _ _ _ _ _ _ _ _ _ c.requires.lent c.loop-i.i c.loop-i-test.true c.wide-k.result c.wide-k.ensures)
-
-pub bounds-nodes-k : goal.bounds-nodes-k
-bounds-nodes-k c = node_small _ _ _ _ _ _ _ _ _ _ c.requires.lent c.loop-i.i c.loop-i-test.true c.wide-k.result c.wide-k.ensures
-
-pub slice_bounds-step-end : goal.slice_bounds-step-end
-slice_bounds-step-end c =
-    let small = node_small _ _ _ _ _ _ _ _ _ _ c.requires.lent c.loop-i.i c.loop-i-test.true c.wide-k.result c.wide-k.ensures in
-    let few = count_small _ _ _ _ _ _ _ _ _ _ c.requires.lent c.loop-i.i c.loop-i-test.true c.wide-k.result c.wide-k.ensures c.wide.result c.wide.ensures in
-    omega (arith, small, few, c.requires.lent.runs.sound.table.lists_long)
-
-pub step-requires : goal.step-requires
-step-requires c =
-    let at = c.loop-i in
-    record {
+      ready : Ready memory (node_in b.nodes k).kind b.size (node_in b.nodes k).cell list st.lefts st.rights second
       ready =
-          ready c.requires.board _ _ _ _ _ _ _ _ _ c.requires.lent at.i c.loop-i-test.true c.wide-k.result c.wide-k.ensures
-          c.wide.result c.wide.ensures c.wide-second.result c.wide-second.ensures at.memory (at.invariant.0 c.requires.board c.requires.lent);
-      x_len = (at.invariant.1, at.invariant.2);
-    }
+          turn_ready b runs.sound runs.fine runs.table k here (8 * k + n - 8 * k) sized
+          st runs.starts second second_is memory (running.kept ∙ runs.long) running.judged
 
-pub overflow_add-i : goal.overflow_add-i
-overflow_add-i c = omega (arith, c.loop-i-test.true, c.requires.lent.runs.lists.fits)
+      -- the node's block is the definition's
+      ran : (m : List ℕ)
+          → words m ≡ node_run (node_in b.nodes k).kind b.size (node_in b.nodes k).cell (brought_at (words memory) st.lefts st.rights list second) (words memory)
+          → words m ≡ run_node (parsed_of b) (get_or (listed (parsed_of b)) i 0) (words memory)
+      ran m e =
+          e
+          ∙ turn_run b runs.sound runs.fine runs.table k here (8 * k + n - 8 * k) sized st runs.starts second second_is memory
+          ∙ ap (λ (j : ℕ). run_node (parsed_of b) j (words memory)) k_listed
 
-pub loop-i-preserved : goal.loop-i-preserved
-loop-i-preserved c =
-    let a = c.args in
-    let at = c.loop-i in
-    let stepped = c.step in (
-      λ b lent.
-          running_more (lending b a.nodes a.size a.counts.now a.lists.now a.seconds.now) a.order a.memory.now lent.runs at.i c.loop-i-test.true at.memory stepped.new.memory
-          (at.invariant.0 b lent) stepped.auto.memory
-          (ran b _ _ _ _ _ _ _ _ _ lent at.i c.loop-i-test.true c.wide-k.result c.wide-k.ensures c.wide.result c.wide.ensures
-          c.wide-second.result c.wide-second.ensures at.memory (at.invariant.0 b lent) stepped.new.memory stepped.ensures.values),
-      stepped.ensures.room.0,
-      stepped.ensures.room.1,
+-- the room for a block
+room : (x : Float) (n : ℕ) → n ≤ 128 → length (take n (replicate 128 x)) ≡ n
+room x n h = length-take-le n (replicate 128 x) (omega (arith, length-replicate 128 x))
+
+pub loop-node-init : goal.loop-node-init
+loop-node-init c =
+    let size = c.requires.fine.most_size in
+    (running_none _ _ _ _ c.requires, room _ _ size, room _ _ size)
+
+pub bounds-table-k : goal.bounds-table-k
+bounds-table-k c = small _ _ _ _ c.requires _ c.listed-listed.ensures c.loop-node.node-index c.loop-node-test.true _ c.from-k.ensures
+
+pub bounds-board-k : goal.bounds-board-k
+bounds-board-k c = small _ _ _ _ c.requires _ c.listed-listed.ensures c.loop-node.node-index c.loop-node-test.true _ c.from-k.ensures
+
+pub slice_bounds-sources-end : goal.slice_bounds-sources-end
+slice_bounds-sources-end c =
+    let k = small _ _ _ _ c.requires _ c.listed-listed.ensures c.loop-node.node-index c.loop-node-test.true _ c.from-k.ensures in
+    let n = few _ _ _ _ c.requires _ c.listed-listed.ensures c.loop-node.node-index c.loop-node-test.true _ c.from-k.ensures _ c.from.ensures in
+    omega (arith, k, n, c.requires.sound.table.lists_long)
+
+pub bounds-table-k-in-loop-node : goal.bounds-table-k-in-loop-node
+bounds-table-k-in-loop-node c = small _ _ _ _ c.requires _ c.listed-listed.ensures c.loop-node.node-index c.loop-node-test.true _ c.from-k.ensures
+
+pub step-requires-clause-ready : goal.step-requires-clause-ready
+step-requires-clause-ready c =
+    let at = c.loop-node in
+    rw at.invariant.1
+    (ready _ _ _ _ c.requires _ c.listed-listed.ensures at.node-index c.loop-node-test.true _ c.from-k.ensures _ c.from.ensures _ c.from-in-loop-node.ensures
+    at.memory at.invariant.0)
+
+pub loop-node-preserved : goal.loop-node-preserved
+loop-node-preserved c =
+    let at = c.loop-node in
+    let stepped = c.step in
+    let l = c.listed-listed in (
+      running_more _ _ _ _ c.requires at.node-index (left _ _ _ _ c.requires _ l.ensures at.node-index c.loop-node-test.true _ c.from-k.ensures)
+          at.memory stepped.new.memory at.invariant.0 stepped.auto.memory
+          (ran _ _ _ _ c.requires _ l.ensures at.node-index c.loop-node-test.true _ c.from-k.ensures _ c.from.ensures _ c.from-in-loop-node.ensures
+          at.memory at.invariant.0 stepped.new.memory (rw at.invariant.1 at stepped.ensures)),
+      stepped.auto.x ∙ at.invariant.1,
+      stepped.auto.m ∙ at.invariant.2,
     )
-
-pub shape_of-memory : goal.shape_of-memory
-shape_of-memory c = (c.loop-i.invariant.0 c.requires.board c.requires.lent).kept
 
 pub returns : goal.returns
-returns c b lent =
-    let a = c.args in
-    let at = c.loop-i in
-    running_end (lending b a.nodes a.size a.counts.now a.lists.now a.seconds.now) a.order a.memory.now lent.runs at.memory at.i c.loop-i-test.false (at.invariant.0 b lent)
+returns c =
+    let at = c.loop-node in
+    let l : c.listed-listed.result.now ≡ listed (parsed_of c.args.board.now) = c.listed-listed.ensures ∙ c.requires.lists.same in
+    running_end _ _ _ _ c.requires at.memory at.node-index (subst (λ (r : List ℕ). length r ≤ at.node-index) l c.loop-node-test.false) at.invariant.0

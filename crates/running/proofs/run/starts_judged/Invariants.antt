@@ -1,16 +1,12 @@
-use Prim.Native.Nat.{◌-◌, ◌≤◌}
 use mathlib.Core.Path.{◌≡◌}
-use lib.ListN.{take, drop}
+use lib.ListN.{drop}
 use Rattle.values.specs.Words.{words}
 use Rattle.running.specs.Run.{left_start, right_start}
 use Rattle.memory.specs.Memory.{check_cells}
-use Rattle.running.specs.Lent.{Starts}
+use Rattle.running.specs.Lent.{Started}
 use Rattle.running.proofs.run.starts_judged.Given as goal
 
 abbrev pub invariant-loop-i : goal.invariant-loop-i
 invariant-loop-i l =
-    (l.i ≤ l.count) × Starts left_start l.nodes l.i l.lefts × Starts (right_start l.size) l.nodes l.i l.rights
-    × (check_cells (words l.memory) l.i (drop l.i (take l.count l.nodes)) ≡ check_cells (words l.memory) 0 (take l.count l.nodes))
-
-abbrev pub decreases-loop-i : goal.decreases-loop-i
-decreases-loop-i l = l.count - l.i
+    Started left_start l.nodes l.i l.starts.lefts × Started (right_start l.size) l.nodes l.i l.starts.rights
+    × (check_cells (words l.memory) l.i (drop l.i l.nodes) ≡ check_cells (words l.memory) 0 l.nodes)
