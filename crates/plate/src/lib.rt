@@ -13,7 +13,6 @@ ghost use Rattle.plate_board.specs.Plate.{write_of};
 ghost use Rattle.mixing.specs.Mix.{mix_of};
 ghost use Rattle.plate.specs.Lengths.{length_answer};
 
-use leaves::lengths::Length;
 use records::answer::Answer;
 use wiring::rewire::Wiring;
 
@@ -111,15 +110,16 @@ pub fn plate_pull_wire(bytes: &mut [u8], n: usize, source: u16, target: u16) -> 
     wiring::rewire::pull_wire(bytes, n, source, target)
 }
 
-fn length_answer(length: Length) -> Answer
+// 0 and the length, or 12.
+fn length_answer(length: Option<u32>) -> Answer
     ensures { result ≡ length_answer length }
 {
     match length {
-        Length::Samples(n) => Answer {
+        Some(n) => Answer {
             number: 0,
             place: n,
         },
-        Length::OutOfRange => Answer {
+        None => Answer {
             number: 12,
             place: 0,
         },

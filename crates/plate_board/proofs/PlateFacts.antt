@@ -1,8 +1,10 @@
 -- The plate's facts: counted, walked and judged by computation, at every block size from 1 to 128 and for any finite floats in the four nodes
 -- of the mix. Assumes nothing.
+use Rattle.std.proofs.Common.{Option, Some, None}
+use Rattle.std.specs.Option.{is_some}
 use Prim.Native.Nat.{ℕ, ◌+◌, ◌*◌, ◌≤◌, ◌<◌}
 use mathlib.Core.Path.{◌≡◌, refl, sym, ap, ◌∙◌}
-use mathlib.Core.Bool.{Bool, true, false, ◌&&◌, false≢true, and-eq-true_iff}
+use mathlib.Core.Bool.{Bool, true, ◌&&◌, false≢true, and-eq-true_iff}
 use mathlib.Core.List.{List, [], ◌∷◌, map}
 use native.Mathlib.Omega.{arith}
 use borrow.Author.Tests.{ltb-true, lt-ltb}
@@ -13,12 +15,10 @@ use lib.Ieee.Bits.{of_bits-to_bits}
 use lib.Ieee.Fits.{sub-fits}
 use Rattle.values.specs.Floors.{f1, finite_f, within, floor_of}
 use Rattle.leaves.specs.Lengths.{samples_of, delay_of, all_pass_of, place_of}
-use Rattle.leaves.specs.declared.lengths.Length.TheVariants.{Samples}
 use Rattle.values.proofs.Patterns.{pattern_lt}
 use Rattle.kinds.specs.Kind.{line_of, rule_of}
 use Rattle.values.specs.Floats.{finite_bits}
-use Rattle.kinds.specs.declared.kind.Fields.{Fields}
-use Rattle.kinds.specs.declared.kind.Fields.TheVariants.{Is, Broken}
+use Rattle.kinds.specs.declared.kind.NodeKind.{NodeKind}
 use Rattle.reading.specs.Order.{Wire, wire}
 use Rattle.records.specs.Answer.{answer}
 use Rattle.boards.specs.Board.{whole, memory_length, node_fits, wire_fits}
@@ -41,13 +41,9 @@ use Rattle.plate_board.proofs.Dry.{dry_finite}
 
 -- ---- what a card must obey, as tests that antt computes
 
-abbrev is_kind : Fields → Bool
-is_kind (Is k) = true
-is_kind Broken = false
-
 abbrev node_test : ℕ → ℕ → NodeCard → Bool
 node_test i lines d =
-    (ltb d.type 65536 && (ltb d.n 4294967296 && ltb d.f 4294967296)) && (is_kind (rule_of d.type d.n d.f) && node_fits i lines (kind_of d))
+    (ltb d.type 65536 && (ltb d.n 4294967296 && ltb d.f 4294967296)) && (is_some (rule_of d.type d.n d.f) && node_fits i lines (kind_of d))
 
 abbrev nodes_test : ℕ → ℕ → List NodeCard → Bool
 nodes_test i lines [] = true
@@ -63,19 +59,19 @@ wires_test i j (w ∷ ws) = wire_test i j w && wires_test i (j + 1) ws
 both : (a b : Bool) → (a && b) ≡ true → (a ≡ true) × (b ≡ true)
 both a b = (and-eq-true_iff a b).0
 
-is_kind_lem : (d : NodeCard) → is_kind (rule_of d.type d.n d.f) ≡ true → rule_of d.type d.n d.f ≡ Is (kind_of d)
+is_kind_lem : (d : NodeCard) → is_some (rule_of d.type d.n d.f) ≡ true → rule_of d.type d.n d.f ≡ Some (kind_of d)
 is_kind_lem d = go (rule_of d.type d.n d.f) refl
   where
-    go : (r : Fields) → rule_of d.type d.n d.f ≡ r → is_kind r ≡ true → rule_of d.type d.n d.f ≡ Is (kind_of d)
-    go (Is k) e h = e ∙ ap Is (sym (kind_told d k e).3)
-    go Broken e h = absurd (false≢true h)
+    go : (r : Option NodeKind) → rule_of d.type d.n d.f ≡ r → is_some r ≡ true → rule_of d.type d.n d.f ≡ Some (kind_of d)
+    go (Some k) e h = e ∙ ap Some (sym (kind_told d k e).3)
+    go None e h = absurd (false≢true h)
 
 node_passes : (i lines : ℕ) (d : NodeCard) → node_test i lines d ≡ true → NodeFits i lines d
 node_passes i lines d h =
     let two = both (ltb d.type 65536 && (ltb d.n 4294967296 && ltb d.f 4294967296)) _ h in
     let small = both (ltb d.type 65536) _ two.0 in
     let fields = both (ltb d.n 4294967296) _ small.1 in
-    let rule = both (is_kind (rule_of d.type d.n d.f)) _ two.1 in
+    let rule = both (is_some (rule_of d.type d.n d.f)) _ two.1 in
     record {
       type_small = ltb-true _ _ small.0;
       n_small = ltb-true _ _ fields.0;
@@ -123,7 +119,7 @@ card_obeys c least most ns ws six =
 
 -- ---- the plate
 
-delay_long : delay_of (of_bits binary32 0x4248_0000) ≡ Samples 2205
+delay_long : delay_of (of_bits binary32 0x4248_0000) ≡ Some 2205
 unfolding delay_of within samples_of floor_of round mul div eq lt le of_bits
 delay_long = refl
 

@@ -1,35 +1,23 @@
--- Lists of nodes and of wires, and the tables of their numbers: what stands at i in each table makes the node, or the wire, at i. So a table
--- is right if antt computes that it is the list's own. Assumes nothing.
-use mathlib.Core.Path.{◌≡◌}
+-- The writer's rows of nodes and of wires as the lists of `specs/Plate.antt`: a table is right if antt computes that its rows, read so, are the
+-- list's own. Assumes nothing.
+use mathlib.Core.Path.{◌≡◌, sym, ap, ◌∙◌}
 use mathlib.Core.List.{List, map}
 use Prim.Native.Nat.{ℕ}
 use lib.ListN.{get_or, get_or-map}
-use Rattle.reading.specs.Order.{Wire, wire}
+use Rattle.kinds.specs.Types.{type_number}
+use Rattle.kinds.specs.declared.types.Kind.{Kind}
+use Rattle.reading.specs.Order.{wire}
 use Rattle.records.specs.Write.{NodeCard}
-use Rattle.boards.specs.Obeys.{no_node, no_wire}
+use Rattle.boards.specs.Wires.{wire_of}
 use Rattle.plate_board.specs.Plate.{node}
 
-module _ (l : List NodeCard) where
-  abbrev pub types : List ℕ
-  types = map (λ (d : NodeCard). d.type) l
+-- a node's row: its type, whole number and bits of its float
+abbrev pub card_of : Kind × ℕ × ℕ → NodeCard
+card_of d = node (type_number d.0) d.1 d.2
 
-  abbrev pub wholes : List ℕ
-  wholes = map (λ (d : NodeCard). d.n) l
+pub node_at : (rows : List (Kind × ℕ × ℕ)) (i t : ℕ) (d : Kind × ℕ × ℕ) → t ≡ type_number (get_or rows i d).0
+    → node t (get_or rows i d).1 (get_or rows i d).2 ≡ get_or (map card_of rows) i (card_of d)
+node_at rows i t d e = ap (λ (u : ℕ). node u (get_or rows i d).1 (get_or rows i d).2) e ∙ sym (get_or-map card_of rows i d)
 
-  abbrev pub floats : List ℕ
-  floats = map (λ (d : NodeCard). d.f) l
-
-  pub node_at : (i : ℕ) → node (get_or types i 0) (get_or wholes i 0) (get_or floats i 0) ≡ get_or l i no_node
-  node_at i =
-      λ k. node (get_or-map (λ (d : NodeCard). d.type) l i no_node k) (get_or-map (λ (d : NodeCard). d.n) l i no_node k)
-      (get_or-map (λ (d : NodeCard). d.f) l i no_node k)
-
-module _ (ws : List Wire) where
-  abbrev pub sources_of : List ℕ
-  sources_of = map (λ (w : Wire). w.source) ws
-
-  abbrev pub targets_of : List ℕ
-  targets_of = map (λ (w : Wire). w.target) ws
-
-  pub wire_at : (i : ℕ) → wire (get_or sources_of i 0) (get_or targets_of i 0) ≡ get_or ws i no_wire
-  wire_at i = λ k. wire (get_or-map (λ (w : Wire). w.source) ws i no_wire k) (get_or-map (λ (w : Wire). w.target) ws i no_wire k)
+pub wire_at : (rows : List (ℕ × ℕ)) (i : ℕ) (w : ℕ × ℕ) → wire (get_or rows i w).0 (get_or rows i w).1 ≡ get_or (map wire_of rows) i (wire_of w)
+wire_at rows i w = sym (get_or-map wire_of rows i w)

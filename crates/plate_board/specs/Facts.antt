@@ -1,10 +1,9 @@
 -- What document 01, "Plate", says of the plate, gathered in one record; `proofs/PlateFacts.antt` proves it for every block size and mix.
 -- Definitions only.
-use Rattle.std.specs.Prelude.{ℕ, ◌+◌, ◌*◌, ◌≡◌, Bool, false, cond, ◌&&◌, ◌||◌, List, [], ◌∷◌, map, length, eqb, Float}
+use Rattle.std.specs.Prelude.{ℕ, ◌+◌, ◌*◌, ◌≡◌, Bool, false, cond, ◌&&◌, ◌||◌, List, [], ◌∷◌, map, length, eqb, Float, Some}
 use Rattle.std.specs.Float.{binary32}
 use Rattle.std.specs.Float.Ieee.{of_bits, to_bits}
 use Rattle.leaves.specs.Lengths.{delay_of, all_pass_of, place_of}
-use Rattle.leaves.specs.declared.lengths.Length.TheVariants.{Samples}
 use Rattle.reading.specs.Order.{Wire, wire}
 use Rattle.records.specs.Answer.{answer}
 use Rattle.boards.specs.Judge.{judge_of}
@@ -49,7 +48,7 @@ pub record PlateFacts (N mix dry : ℕ) : Type 0 where
       ≡ 210 ∷ 158 ∷ 560 ∷ 410 ∷ 4410 ∷ 334 ∷ 1577 ∷ 4410 ∷ 1323 ∷ 273 ∷ 1539 ∷ 899 ∷ []
   -- they, and wet2's delay, are as long as plate.rs asks in milliseconds
   pub all_passes_asked : map (λ ms. place_of (all_pass_of (of_bits binary32 ms))) milliseconds ≡ all_pass_lines (plate_nodes mix dry)
-  pub delay_asked : delay_of (of_bits binary32 0x4248_0000) ≡ Samples 2205
+  pub delay_asked : delay_of (of_bits binary32 0x4248_0000) ≡ Some 2205
   -- mod1 to mod2 and mod2 to mod3
   pub repeats : repeats_after [] plate_wires ≡ wire 11 12 ∷ wire 12 13 ∷ []
   pub list : visiting_list plate_wires ≡ plate_list

@@ -5,89 +5,158 @@ ghost use Rattle.std.proofs.lemmas.List.Edits.{sets};
 ghost use Rattle.records.specs.Write.{nodes_bytes, wires_bytes, write_board};
 ghost use Rattle.plate_board.specs.Plate.{plate_nodes, plate_wires, plate_card, write_of};
 
+use kinds::types::Kind;
 use leaves::onepole::{B_ONE_FIFTH, B_SEVEN_FIFTHS};
 use records::answer::Answer;
 use records::writer::{put_end, put_head, put_node, put_wire};
 use values::float::{finite, to_bits};
 
-// Each node's type, whole number and bits of the float; those of the mix, 41, 47, 43 and 49, are put in
+// Floats by their bits.
+const TENTH: u32 = 0x3dcc_cccd;
+
+const THREE_TENTHS: u32 = 0x3e99_999a;
+
+const HALF: u32 = 0x3f00_0000;
+
+const FIVE_EIGHTHS: u32 = 0x3f20_0000;
+
+const SEVEN_TENTHS: u32 = 0x3f33_3333;
+
+const THREE_QUARTERS: u32 = 0x3f40_0000;
+
+const MINUS_ONE: u32 = 0xbf80_0000;
+
+// 5.5 and 29.5, the milliseconds by which the modulated all-passes swing, and about which.
+const SWING: u32 = 0x40b0_0000;
+
+const MIDDLE: u32 = 0x41ec_0000;
+
+// Each node's type, whole number and bits of its float; those of the mix, 41, 43, 47 and 49, are put in
 // as the plate is written.
-const TYPES: [u16; 51] = [
-    3, 1, 1, 9, 7, 8, 8, 8, 8, 6, 8, 10, 5, 6, 7, 7, 7, 7, 9, 8, 8, 8, 7, 7, 7, 5, 8, 7, 7, 7, 9,
-    8, 8, 8, 7, 7, 7, 5, 2, 5, 2, 5, 2, 5, 2, 5, 2, 5, 2, 5, 4,
-];
-
-const WHOLES: [u32; 51] = [
-    0, 0, 0, 0, 2205, 210, 158, 560, 410, 0, 4410, 0, 0, 0, 394, 2800, 1204, 2000, 0, 334, 1577,
-    4410, 179, 2679, 3500, 0, 1323, 522, 2400, 2400, 0, 273, 1539, 899, 1578, 2378, 2500, 0, 0, 0,
-    0, 0, 0, 0, 0, 0, 0, 0, 0, 0, 0,
-];
-
-const FLOATS: [u32; 51] = [
-    0,
-    0,
-    0,
-    B_SEVEN_FIFTHS,
-    0,
-    0x3f40_0000,
-    0x3f40_0000,
-    0x3f20_0000,
-    0x3f20_0000,
-    0,
-    0x3f33_3333,
-    0x3dcc_cccd,
-    0x40b0_0000,
-    0x41ec_0000,
-    0,
-    0,
-    0,
-    0,
-    B_ONE_FIFTH,
-    0x3f00_0000,
-    0x3f00_0000,
-    0x3f00_0000,
-    0,
-    0,
-    0,
-    0x3e99_999a,
-    0x3f33_3333,
-    0,
-    0,
-    0,
-    B_ONE_FIFTH,
-    0x3f33_3333,
-    0x3f33_3333,
-    0x3f33_3333,
-    0,
-    0,
-    0,
-    0x3e99_999a,
-    0,
-    0xbf80_0000,
-    0,
-    0,
-    0,
-    0,
-    0,
-    0xbf80_0000,
-    0,
-    0,
-    0,
-    0,
-    0,
+const NODES: [(Kind, u32, u32); 51] = [
+    (Kind::Destination, 0, 0), // 0 destination
+    (Kind::Pass, 0, 0), // 1 the context's input, not used
+    (Kind::Pass, 0, 0), // 2 input
+    (Kind::OnePole, 0, B_SEVEN_FIFTHS), // 3 wet1
+    (Kind::Delay, 2205, 0), // 4 wet2, 50 ms
+    (Kind::AllPass, 210, THREE_QUARTERS), // 5 wet3, 4.771 ms
+    (Kind::AllPass, 158, THREE_QUARTERS), // 6 wet4, 3.595 ms
+    (Kind::AllPass, 560, FIVE_EIGHTHS), // 7 wet5, 12.72 ms
+    (Kind::AllPass, 410, FIVE_EIGHTHS), // 8 wet6, 9.307 ms
+    (Kind::Add, 0, 0), // 9 wet7, where the feedback comes in
+    (Kind::AllPass, 4410, SEVEN_TENTHS), // 10 wet8, 100 ms, modulated
+    (Kind::Sine, 0, TENTH), // 11 mod1
+    (Kind::Mul, 0, SWING), // 12 mod2
+    (Kind::Add, 0, MIDDLE), // 13 mod3
+    (Kind::Delay, 394, 0), // 14 aa
+    (Kind::Delay, 2800, 0), // 15 ab
+    (Kind::Delay, 1204, 0), // 16 ac
+    (Kind::Delay, 2000, 0), // 17 ba
+    (Kind::OnePole, 0, B_ONE_FIFTH), // 18 ba
+    (Kind::AllPass, 334, HALF), // 19 ba, 7.596 ms
+    (Kind::AllPass, 1577, HALF), // 20 bb, 35.78 ms
+    (Kind::AllPass, 4410, HALF), // 21 bc, 100 ms, modulated
+    (Kind::Delay, 179, 0), // 22 ca
+    (Kind::Delay, 2679, 0), // 23 cb
+    (Kind::Delay, 3500, 0), // 24 cc1
+    (Kind::Mul, 0, THREE_TENTHS), // 25 cc2
+    (Kind::AllPass, 1323, SEVEN_TENTHS), // 26 da1, 30 ms
+    (Kind::Delay, 522, 0), // 27 da2
+    (Kind::Delay, 2400, 0), // 28 db
+    (Kind::Delay, 2400, 0), // 29 dc
+    (Kind::OnePole, 0, B_ONE_FIFTH), // 30 ea1
+    (Kind::AllPass, 273, SEVEN_TENTHS), // 31 ea2, 6.2 ms
+    (Kind::AllPass, 1539, SEVEN_TENTHS), // 32 eb, 34.92 ms
+    (Kind::AllPass, 899, SEVEN_TENTHS), // 33 fa1, 20.4 ms
+    (Kind::Delay, 1578, 0), // 34 fa2
+    (Kind::Delay, 2378, 0), // 35 fb
+    (Kind::Delay, 2500, 0), // 36 fb1
+    (Kind::Mul, 0, THREE_TENTHS), // 37 fb2
+    (Kind::Sum, 0, 0), // 38 left_subtract
+    (Kind::Mul, 0, MINUS_ONE), // 39 left_subtract2
+    (Kind::Sum, 0, 0), // 40 left
+    (Kind::Mul, 0, 0), // 41 leftwet
+    (Kind::Sum, 0, 0), // 42 leftmix
+    (Kind::Mul, 0, 0), // 43 leftdrymix
+    (Kind::Sum, 0, 0), // 44 right_subtract
+    (Kind::Mul, 0, MINUS_ONE), // 45 right_subtract2
+    (Kind::Sum, 0, 0), // 46 right
+    (Kind::Mul, 0, 0), // 47 rightwet
+    (Kind::Sum, 0, 0), // 48 rightmix
+    (Kind::Mul, 0, 0), // 49 rightdry
+    (Kind::Balance, 0, 0), // 50 balance
 ];
 
 // Each wire's source and target.
-const SOURCES: [u16; 68] = [
-    2, 3, 4, 5, 6, 7, 8, 9, 11, 12, 13, 10, 14, 15, 17, 18, 16, 19, 20, 11, 12, 13, 21, 22, 23, 24,
-    25, 26, 27, 28, 29, 30, 31, 32, 33, 34, 35, 36, 37, 20, 28, 31, 34, 38, 14, 15, 23, 39, 2, 43,
-    40, 41, 32, 15, 19, 22, 44, 27, 28, 35, 45, 2, 49, 46, 47, 42, 48, 50,
-];
-
-const TARGETS: [u16; 68] = [
-    3, 4, 5, 6, 7, 8, 9, 10, 12, 13, 10, 14, 15, 16, 18, 19, 17, 20, 21, 12, 13, 21, 22, 23, 24,
-    25, 26, 27, 28, 29, 30, 31, 32, 33, 34, 35, 36, 37, 9, 38, 38, 38, 38, 39, 40, 40, 40, 40, 43,
-    42, 41, 42, 44, 44, 44, 44, 45, 46, 46, 46, 46, 49, 48, 47, 48, 50, 50, 0,
+const WIRES: [(u16, u16); 68] = [
+    (2, 3),
+    (3, 4),
+    (4, 5),
+    (5, 6),
+    (6, 7),
+    (7, 8),
+    (8, 9),
+    (9, 10),
+    (11, 12),
+    (12, 13),
+    (13, 10),
+    (10, 14),
+    (14, 15),
+    (15, 16),
+    (17, 18),
+    (18, 19),
+    (16, 17),
+    (19, 20),
+    (20, 21),
+    (11, 12),
+    (12, 13),
+    (13, 21),
+    (21, 22),
+    (22, 23),
+    (23, 24),
+    (24, 25),
+    (25, 26),
+    (26, 27),
+    (27, 28),
+    (28, 29),
+    (29, 30),
+    (30, 31),
+    (31, 32),
+    (32, 33),
+    (33, 34),
+    (34, 35),
+    (35, 36),
+    (36, 37),
+    (37, 9),
+    (20, 38),
+    (28, 38),
+    (31, 38),
+    (34, 38),
+    (38, 39),
+    (14, 40),
+    (15, 40),
+    (23, 40),
+    (39, 40),
+    (2, 43),
+    (43, 42),
+    (40, 41),
+    (41, 42),
+    (32, 44),
+    (15, 44),
+    (19, 44),
+    (22, 44),
+    (44, 45),
+    (27, 46),
+    (28, 46),
+    (35, 46),
+    (45, 46),
+    (2, 49),
+    (49, 48),
+    (46, 47),
+    (47, 48),
+    (42, 50),
+    (48, 50),
+    (50, 0),
 ];
 
 // How long the plate's bytes are.
@@ -98,15 +167,13 @@ fn put_nodes(board: &mut [u8], mix: u32, dry: u32)
     requires { 722 ≤ length board.old }
     ensures { board.new ≡ sets board.old 8 (nodes_bytes (plate_nodes mix dry)) }
 {
-    let mut floats = FLOATS;
-    floats[41] = mix;
-    floats[43] = dry;
-    floats[47] = mix;
-    floats[49] = dry;
-    let mut i = 0;
-    while i < 51 {
-        put_node(board, 8 + 14 * i, TYPES[i], WHOLES[i], floats[i]);
-        i += 1;
+    let mut nodes = NODES;
+    nodes[41].2 = mix;
+    nodes[43].2 = dry;
+    nodes[47].2 = mix;
+    nodes[49].2 = dry;
+    for (i, &(kind, whole, float)) in nodes.iter().enumerate() {
+        put_node(board, 8 + 14 * i, kind.number(), whole, float);
     }
 }
 
@@ -115,10 +182,8 @@ fn put_wires(board: &mut [u8])
     requires { 1266 ≤ length board.old }
     ensures { board.new ≡ sets board.old 722 (wires_bytes plate_wires) }
 {
-    let mut i = 0;
-    while i < 68 {
-        put_wire(board, 722 + 8 * i, SOURCES[i], TARGETS[i]);
-        i += 1;
+    for (i, &(source, target)) in WIRES.iter().enumerate() {
+        put_wire(board, 722 + 8 * i, source, target);
     }
 }
 

@@ -1,19 +1,21 @@
 // A board carried to another block size, with the one line corrected that makes it sound the same.
-ghost use Rattle.std.specs.Prelude.{◌≡◌, List, ℕ, ◌≤◌, ◌<◌, length};
+ghost use Rattle.std.specs.Prelude.{◌≡◌, List, ℕ, ◌≤◌, ◌<◌, Ok, length};
 ghost use Rattle.boards.specs.Board.{lines_of};
 ghost use Rattle.graph.specs.Late.{late_wires, Placed};
 ghost use Rattle.boards.specs.Read.{parsed_of, Sound};
-ghost use Rattle.boards.specs.Wires.{Within, wires_of};
+ghost use Rattle.boards.specs.Wires.{Joined, wires_of};
 ghost use Rattle.memory.specs.Memory.{kind_at, listed};
 ghost use Rattle.memory.specs.Fine.{Fine};
+ghost use Rattle.resizing.specs.declared.resize.Reason.TheVariants.{Refused};
 ghost use Rattle.resizing.specs.Resize.{delay_of, line_by, plan_of, resized_of, bytes_after};
-ghost use Rattle.resizing.specs.Planning.{Lates, Whole};
+ghost use Rattle.resizing.specs.Planning.{Lates, Whole, Room};
 
-use boards::board::Board;
+use boards::board::{Board, Wires};
 use boards::judge::read_board;
-use graph::graph::{is_late, places, visiting_list};
-use kinds::kind::{NodeKind, line_of};
-use values::bytes::{put_u16, put_u32, wide};
+use graph::graph::{Places, visiting_list};
+use kinds::kind::{NodeKind, NodeRecord, line_of};
+use records::answer::Answer;
+use values::bytes::{put_u16, put_u32};
 
 // Why a board is not carried to another block size.
 #[derive(Clone, Copy)]
@@ -34,6 +36,14 @@ pub enum Reason {
     TooMuch(u32, u32),
 }
 
+impl From<Answer> for Reason {
+    ghost from_gives = { λ a r. r ≡ Refused a.number a.place };
+
+    fn from(refused: Answer) -> Reason {
+        Reason::Refused(refused.number, refused.place)
+    }
+}
+
 // What became of a board that was to be at another block size.
 #[derive(Clone, Copy)]
 pub enum Resized {
@@ -43,32 +53,16 @@ pub enum Resized {
     Size,
     // The size has changed, and this node's line, from so many samples to so many.
     Line(u32, u32, u32),
-    // Nothing has changed.
-    Kept(Reason),
-}
-
-// The line of a delay, 0 of another node.
-fn delay_of(k: NodeKind) -> u32
-    ensures { result ≡ delay_of k }
-{
-    match k {
-        NodeKind::Delay(n) => n,
-        _ => 0,
-    }
 }
 
 // The values of all lines together.
-fn lines_of(board: Board) -> usize
-    requires { Sound board }
-    ensures { result ≡ lines_of (parsed_of board).nodes }
+fn lines_of(nodes: &[NodeRecord]) -> usize
+    requires { length nodes.now ≤ 64 }
+    ensures { result ≡ lines_of nodes.now }
 {
     let mut sum = 0;
-    let mut i = 0;
-    while i < board.count {
-        let node = board.nodes[i];
-        let kind = node.kind;
-        sum += line_of(kind);
-        i += 1;
+    for node in nodes {
+        sum += line_of(node.kind);
     }
     sum
 }
@@ -77,100 +71,100 @@ fn lines_of(board: Board) -> usize
 #[derive(Clone, Copy)]
 struct Late {
     count: u32,
-    target: usize,
+    target: Option<usize>,
 }
 
-// The late wires of a list of `count` nodes whose places are given.
-fn late_wires<'a>(
-    sources: &'a [u8; 128],
-    targets: &'a [u8; 128],
-    wires: usize,
-    places: &[u8; 64],
-    count: usize,
-) -> Late
-    requires { (wires ≤ 128) × Within 64 sources.now wires × Within 64 targets.now wires }
-    ensures { (l : List ℕ) → length l ≡ count → Placed l places.now → Lates (late_wires l (wires_of sources.now targets.now wires)) result.count result.target }
+// The late wires among these, by the places of a list.
+fn late_wires(wires: &Wires, places: &Places) -> Late
+    requires { (length wires.now.list ≡ 128) × (wires.now.count ≤ 128) × Joined 64 wires.now.list wires.now.count }
+    ensures { (l : List ℕ) → length l ≡ places.now.count → Placed l places.now.at
+        → Lates (late_wires l (wires_of wires.now.list wires.now.count)) result.count result.target }
 {
-    let mut late = 0;
-    let mut target = 0;
-    let mut i = 0;
-    while i < wires {
-        let s = wide(sources[i]);
-        let t = wide(targets[i]);
-        if is_late(places, count, s, t) {
-            late += 1;
-            target = t;
+    let mut late = Late {
+        count: 0,
+        target: None,
+    };
+    for &(source, target) in &wires.list[..wires.count] {
+        let target = usize::from(target);
+        if places.is_late(usize::from(source), target) {
+            late = Late {
+                count: late.count + 1,
+                target: Some(target),
+            };
         }
-        i += 1;
     }
-    Late {
-        count: late,
-        target,
-    }
+    late
 }
 
 // The line of the late wire's target, node k, at blocks of the given size.
-fn corrected(board: Board, k: usize, size: usize) -> Resized
-    requires sound { Sound board }
-    requires fine { Fine (parsed_of board) × (k < board.count) × (size ≤ 128) }
-    ensures { result ≡ line_by (parsed_of board) size k (delay_of (kind_at (parsed_of board) k)) }
+fn corrected(board: &Board, k: usize, size: usize) -> Result<Resized, Reason>
+    requires sound { Sound board.now }
+    requires fine { Fine (parsed_of board.now) × (k < board.now.count) × (size ≤ 128) }
+    ensures { result ≡ line_by (parsed_of board.now) size k (delay_of (kind_at (parsed_of board.now) k)) }
 {
-    let node = board.nodes[k];
-    let kind = node.kind;
-    let n = delay_of(kind) as usize;
-    let k = k as u32;
-    if n == 0 {
-        return Resized::Kept(Reason::NoDelay(k));
-    }
-    let long = n + board.size;
+    let node = k as u32;
+    let NodeKind::Delay(n) = board.nodes[k].kind else {
+        return Err(Reason::NoDelay(node));
+    };
+    let long = n as usize + board.size;
     if long <= size {
-        return Resized::Kept(Reason::TooShort(k, n as u32));
+        return Err(Reason::TooShort(node, n));
     }
     if 132300 + size < long {
-        return Resized::Kept(Reason::TooLong(k, n as u32));
+        return Err(Reason::TooLong(node, n));
     }
-    if 262144 + size < lines_of(board) + board.size {
-        return Resized::Kept(Reason::TooMuch(k, n as u32));
+    if 262144 + size < lines_of(&board.nodes[..board.count]) + board.size {
+        return Err(Reason::TooMuch(node, n));
     }
-    Resized::Line(k, n as u32, (long - size) as u32)
+    Ok(Resized::Line(node, n, (long - size) as u32))
 }
 
 // The late wires of an accepted board.
-fn board_late(board: Board) -> Late
-    requires sound { Sound board }
-    requires whole { Whole board }
-    ensures { Lates (late_wires (listed (parsed_of board)) (parsed_of board).wires) result.count result.target }
+fn board_late(board: &Board) -> Late
+    requires sound { Sound board.now }
+    requires whole { Whole board.now }
+    ensures { Lates (late_wires (listed (parsed_of board.now)) (parsed_of board.now).wires) result.count result.target }
 {
-    let counts = board.counts;
-    let lists = board.lists;
-    let order = visiting_list(&counts, &lists);
-    let nodes = order.nodes;
-    let count = order.count;
-    let at = places(&nodes, count);
-    late_wires(&board.sources, &board.targets, board.wires, &at, count)
+    let order = visiting_list(&board.sources);
+    late_wires(&board.wires, &order.places())
 }
 
 // What is to be done to an accepted board.
-fn planned(board: Board, size: u32) -> Resized
-    requires sound { Sound board }
-    requires whole { Whole board }
-    ensures { result ≡ plan_of (parsed_of board) size }
+fn planned(board: &Board, size: u32) -> Result<Resized, Reason>
+    requires sound { Sound board.now }
+    requires whole { Whole board.now }
+    ensures { result ≡ plan_of (parsed_of board.now) size }
 {
     if (size < 1) | (128 < size) {
-        return Resized::Kept(Reason::NoSize);
+        return Err(Reason::NoSize);
     }
     let size = size as usize;
     if size == board.size {
-        return Resized::Same;
+        return Ok(Resized::Same);
     }
     let late = board_late(board);
-    if late.count == 0 {
-        return Resized::Size;
+    if 1 < late.count {
+        return Err(Reason::ManyLate(late.count));
     }
-    if late.count != 1 {
-        return Resized::Kept(Reason::ManyLate(late.count));
+    let Some(k) = late.target else {
+        return Ok(Resized::Size);
+    };
+    corrected(board, k, size)
+}
+
+// Stores what has changed in the board's bytes.
+fn store(bytes: &mut [u8], size: u32, resized: Resized)
+    requires { Room size (length bytes.old) resized }
+    ensures { bytes.new ≡ bytes_after bytes.old size (Ok resized) }
+{
+    match resized {
+        Resized::Same => {}
+        Resized::Size => put_u16(bytes, 4, size as u16),
+        Resized::Line(k, _, m) => {
+            put_u16(bytes, 4, size as u16);
+            put_u32(bytes, 14 * k as usize + 14, m);
+        }
     }
-    corrected(board, late.target, size)
 }
 
 // Carries the board in `bytes` to blocks of the given size, where that keeps its sound; or says why it
@@ -180,26 +174,11 @@ fn planned(board: Board, size: u32) -> Resized
 // Ruled out, and tried by must-fail edits: one that changes the size alone though a wire is late
 // (line_not_corrected), one that takes a board with two late wires (two_late_wires) or corrects an
 // all-pass (all_pass_corrected), one that stores the line in the next node (next_node_corrected).
-pub fn resize(bytes: &mut [u8], size: u32) -> Resized
+pub fn resize(bytes: &mut [u8], size: u32) -> Result<Resized, Reason>
     ensures { (result ≡ resized_of bytes.old size) × (bytes.new ≡ bytes_after bytes.old size result) }
 {
-    let board = read_board(bytes);
-    let refused = board.refused;
-    if refused.number != 0 {
-        return Resized::Kept(Reason::Refused(refused.number, refused.place));
-    }
-    let plan = planned(board, size);
-    match plan {
-        Resized::Same => Resized::Same,
-        Resized::Size => {
-            put_u16(bytes, 4, size as u16);
-            Resized::Size
-        }
-        Resized::Line(k, n, m) => {
-            put_u16(bytes, 4, size as u16);
-            put_u32(bytes, 14 * k as usize + 14, m);
-            Resized::Line(k, n, m)
-        }
-        Resized::Kept(reason) => Resized::Kept(reason),
-    }
+    let board = read_board(bytes)?;
+    let resized = planned(&board, size)?;
+    store(bytes, size, resized);
+    Ok(resized)
 }

@@ -47,7 +47,7 @@ pub returns : goal.returns
 unfolding of_bits
 returns c =
     let start = c.args in
-    let p = parsed_of start.board in
+    let p = parsed_of start.board.now in
     let dry = dry_of start.mix in
     c.put_number-4.ensures
     ∙ ap (put_number p 49 dry) (c.put_number-3.ensures ∙ ap (put_number p 43 dry) (c.put_number-2.ensures ∙ ap (put_number p 47 start.mix) c.put_number.ensures))

@@ -1,31 +1,21 @@
 -- `plate_board::writer::put_nodes` meets its contract: behind the first i nodes, the next one's record. Assumes nothing.
 use mathlib.Core.Path.{refl, ap, ◌∙◌}
-use Prim.Native.Nat.{◌+◌, ◌*◌, ◌≤◌, ◌<◌}
+use mathlib.Core.List.{List}
+use Prim.Native.Nat.{ℕ, ◌+◌, ◌*◌, ◌≤◌, ◌<◌}
 use native.Mathlib.Omega.{arith}
-use lib.Dec.{lit<}
-use lib.ListN.{length}
+use lib.ListN.{length, set}
 use lib.Seq.{sets}
+use Rattle.kinds.specs.declared.types.Kind.{Kind}
+use Rattle.kinds.specs.declared.types.Kind.TheVariants.{Pass, Mul}
 use Rattle.records.specs.Write.{NodeCard, node_bytes, nodes_bytes}
-use Rattle.boards.specs.Obeys.{no_node}
 use Rattle.plate_board.specs.Plate.{plate_nodes}
+use Rattle.plate_board.specs.declared.writer.TheConstants.{NODES}
 use Rattle.records.proofs.Stores.{one_more, all_written}
-use Rattle.plate_board.proofs.Tables.{node_at}
+use Rattle.plate_board.proofs.Tables.{card_of, node_at}
 use Rattle.plate_board.proofs.writer.put_nodes.Goals as goal
 
-pub bounds-floats-41 : goal.bounds-floats-41
-bounds-floats-41 c = lit< tt
-
-pub bounds-floats-43 : goal.bounds-floats-43
-bounds-floats-43 c = lit< tt
-
-pub bounds-floats-47 : goal.bounds-floats-47
-bounds-floats-47 c = lit< tt
-
-pub bounds-floats-49 : goal.bounds-floats-49
-bounds-floats-49 c = lit< tt
-
-pub loop-i-init : goal.loop-i-init
-loop-i-init c = (omega arith, refl, refl)
+abbrev rows : ℕ → ℕ → List (Kind × ℕ × ℕ)
+rows mix dry = set (set (set (set NODES 41 (Mul, 0, mix)) 43 (Mul, 0, dry)) 47 (Mul, 0, mix)) 49 (Mul, 0, dry)
 
 pub loop-i-preserved : goal.loop-i-preserved
 unfolding plate_nodes
@@ -41,8 +31,8 @@ loop-i-preserved c =
     let room : i < length nodes = omega arith in (
       omega arith,
       put.auto.board ∙ inv.1,
-      one_more nodes_bytes node_bytes 14 refl (λ x xs. refl) (λ x. refl) l 8 i nodes no_node room inv.2
-          (put.ensures ∙ ap (λ (d : NodeCard). sets m at (node_bytes d)) (node_at nodes i)),
+      one_more nodes_bytes node_bytes 14 refl (λ x xs. refl) (λ x. refl) l 8 i nodes (card_of (Pass, 0, 0)) room inv.2
+          (put.ensures ∙ ap (λ (d : NodeCard). sets m at (node_bytes d)) (node_at (rows start.mix start.dry) i c.number.result (Pass, 0, 0) c.number.ensures)),
     )
 
 pub returns : goal.returns

@@ -5,15 +5,13 @@ use native.Mathlib.Omega.{arith}
 use lib.ListN.{length}
 use lib.Seq.{sets}
 use Rattle.reading.specs.Order.{Wire}
-use Rattle.boards.specs.Obeys.{no_wire}
 use Rattle.records.specs.Write.{wire_bytes, wires_bytes}
 use Rattle.plate_board.specs.Plate.{plate_wires}
+use Rattle.boards.specs.Wires.{wire_of}
 use Rattle.records.proofs.Stores.{one_more, all_written}
 use Rattle.plate_board.proofs.Tables.{wire_at}
+use Rattle.plate_board.specs.declared.writer.TheConstants.{WIRES}
 use Rattle.plate_board.proofs.writer.put_wires.Goals as goal
-
-pub loop-i-init : goal.loop-i-init
-loop-i-init c = (omega arith, refl, refl)
 
 pub loop-i-preserved : goal.loop-i-preserved
 unfolding plate_wires
@@ -27,8 +25,8 @@ loop-i-preserved c =
     let room : i < length plate_wires = omega arith in (
       omega arith,
       put.auto.board ∙ inv.1,
-      one_more wires_bytes wire_bytes 8 refl (λ x xs. refl) (λ x. refl) l 722 i plate_wires no_wire room inv.2
-          (put.ensures ∙ ap (λ (w : Wire). sets m at (wire_bytes w)) (wire_at plate_wires i)),
+      one_more wires_bytes wire_bytes 8 refl (λ x xs. refl) (λ x. refl) l 722 i plate_wires (wire_of (0, 0)) room inv.2
+          (put.ensures ∙ ap (λ (w : Wire). sets m at (wire_bytes w)) (wire_at WIRES i (0, 0))),
     )
 
 pub returns : goal.returns

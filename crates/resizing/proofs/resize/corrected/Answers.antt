@@ -1,43 +1,60 @@
 -- `resizing::resize::corrected` meets its contract. Its tests are those of `line_by`, one by one; no sum wraps, since an accepted board's lines
 -- are few. Assumes nothing.
-use mathlib.Core.Path.{◌≡◌, sym, ap, ◌∙◌}
+use mathlib.Core.Path.{◌≡◌, refl, sym, ap, ◌∙◌}
 use Prim.Native.Nat.{ℕ, ◌<◌}
 use native.Mathlib.Omega.{arith}
 use lib.ListN.{get_or}
 use lib.Seq.{get_or-take}
+use Rattle.std.specs.Prelude.{Result}
+use Rattle.kinds.specs.declared.kind.NodeKind.TheVariants.{Delay}
 use Rattle.kinds.specs.declared.kind.NodeRecord.{NodeRecord}
 use Rattle.boards.specs.Board.{blank}
 use Rattle.boards.specs.declared.board.Board.{Board}
 use Rattle.boards.specs.Read.{parsed_of}
 use Rattle.memory.specs.Memory.{kind_at}
+use Rattle.memory.specs.Fine.{Fine}
+use Rattle.resizing.specs.declared.resize.Reason.{Reason}
 use Rattle.resizing.specs.declared.resize.Resized.{Resized}
 use Rattle.resizing.specs.Resize.{delay_of, line_by}
-use Rattle.resizing.proofs.Planning.{Tested, no_delay, too_short, too_long, too_much, carried, tested}
+use Rattle.resizing.proofs.Boards.{line_fits}
+use Rattle.resizing.proofs.Planning.{Tested, no_delay, too_short, too_long, too_much, carried, tested, no_delay_is}
 use Rattle.resizing.proofs.resize.corrected.Goals as goal
 
--- the delay that the code tests is the board's
-by_tests : (b : Board) (k size n : ℕ) → k < b.count → n ≡ delay_of (get_or b.nodes k blank).kind → {r : Resized}
-    → Tested (parsed_of b) size k n r → r ≡ line_by (parsed_of b) size k (delay_of (kind_at (parsed_of b) k))
-by_tests b k size n there n_is t =
-    let node = get_or-take b.count b.nodes k blank there in
-    tested _ _ _ _ t ∙ ap (line_by (parsed_of b) size k) (n_is ∙ ap (λ (d : NodeRecord). delay_of d.kind) (sym node))
+module _ (b : Board) (k size : ℕ) (there : k < b.count) where
+  -- the node that the code looks at is the board's
+  kind_same : kind_at (parsed_of b) k ≡ (get_or b.nodes k blank).kind
+  kind_same = ap (λ (d : NodeRecord). d.kind) (get_or-take b.count b.nodes k blank there)
 
-pub returns-then-n-eq0 : goal.returns-then-n-eq0
-returns-then-n-eq0 c = by_tests c.args.board _ _ _ c.requires.fine.1 c.delay_of-n.ensures (no_delay c.if-n-eq0.true)
+  -- and so is the line that it tests
+  by_tests : (n : ℕ) → delay_of (get_or b.nodes k blank).kind ≡ n → {r : Result Resized Reason}
+      → Tested (parsed_of b) size k n r → r ≡ line_by (parsed_of b) size k (delay_of (kind_at (parsed_of b) k))
+  by_tests n e t = tested _ _ _ _ t ∙ ap (line_by (parsed_of b) size k) (sym (ap delay_of kind_same ∙ e))
+
+  some_line : Fine (parsed_of b) → (n : ℕ) → (get_or b.nodes k blank).kind ≡ Delay n → n ≡ 0 → ⊥
+  some_line fine n e z = omega (arith, (line_fits (parsed_of b) fine k n (kind_same ∙ e)).0)
+
+pub returns-in_default : goal.returns-in_default
+returns-in_default c =
+    by_tests c.args.board.now _ _ c.requires.fine.1 0 (no_delay_is _ c.in_default.not-Delay) (no_delay refl)
 
 pub returns-then-long-size : goal.returns-then-long-size
-returns-then-long-size c = by_tests c.args.board _ _ _ c.requires.fine.1 c.delay_of-n.ensures (too_short c.if-n-eq0.false c.if-long-size.true)
+returns-then-long-size c =
+    by_tests c.args.board.now _ _ c.requires.fine.1 _ (ap delay_of c.in-Delay.is)
+    (too_short (some_line c.args.board.now _ c.args.size c.requires.fine.1 c.requires.fine.0 _ c.in-Delay.is) c.if-long-size.true)
 
 pub returns-then-size-long : goal.returns-then-size-long
 returns-then-size-long c =
-    by_tests c.args.board _ _ _ c.requires.fine.1 c.delay_of-n.ensures (too_long c.if-n-eq0.false c.if-long-size.false c.if-size-long.true)
+    by_tests c.args.board.now _ _ c.requires.fine.1 _ (ap delay_of c.in-Delay.is)
+    (too_long (some_line c.args.board.now _ c.args.size c.requires.fine.1 c.requires.fine.0 _ c.in-Delay.is) c.if-long-size.false c.if-size-long.true)
 
 pub returns-then-size-lines_of : goal.returns-then-size-lines_of
 returns-then-size-lines_of c =
-    by_tests c.args.board _ _ _ c.requires.fine.1 c.delay_of-n.ensures
-    (too_much c.if-n-eq0.false c.if-long-size.false c.if-size-long.false (omega (arith, c.lines_of.ensures)))
+    by_tests c.args.board.now _ _ c.requires.fine.1 _ (ap delay_of c.in-Delay.is)
+    (too_much (some_line c.args.board.now _ c.args.size c.requires.fine.1 c.requires.fine.0 _ c.in-Delay.is)
+    c.if-long-size.false c.if-size-long.false (omega (arith, c.if-size-lines_of.true, c.lines_of.ensures)))
 
 pub returns : goal.returns
 returns c =
-    by_tests c.args.board _ _ _ c.requires.fine.1 c.delay_of-n.ensures
-    (carried c.if-n-eq0.false c.if-long-size.false c.if-size-long.false (omega (arith, c.lines_of.ensures)))
+    by_tests c.args.board.now _ _ c.requires.fine.1 _ (ap delay_of c.in-Delay.is)
+    (carried (some_line c.args.board.now _ c.args.size c.requires.fine.1 c.requires.fine.0 _ c.in-Delay.is)
+    c.if-long-size.false c.if-size-long.false (omega (arith, c.if-size-lines_of.false, c.lines_of.ensures)))

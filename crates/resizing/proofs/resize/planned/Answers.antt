@@ -1,14 +1,15 @@
 -- `resizing::resize::planned` meets its contract. Its tests are those of `plan_of`, one by one, and the one late wire's target is a node.
 -- Assumes nothing.
 use Prim.Native.Nat.{ℕ}
-use mathlib.Core.Path.{◌≡◌, ◌∙◌}
+use mathlib.Core.Path.{◌≡◌, subst, ◌∙◌}
 use mathlib.Core.Bool.{false, ◌||◌}
 use native.Mathlib.Omega.{arith}
 use lib.Dec.{ltb}
 use lib.Seq.{length-take-le}
 use Rattle.boards.specs.Board.{Parsed}
 use Rattle.boards.specs.Read.{parsed_of}
-use Rattle.resizing.proofs.Planning.{Another, plan_same, plan_no_size, size_right, one_there, plan_size, plan_many, plan_one}
+use Rattle.resizing.specs.Planning.{Lates}
+use Rattle.resizing.proofs.Planning.{Another, plan_same, plan_no_size, size_right, last_there, plan_size, plan_many, plan_one}
 use Rattle.resizing.proofs.resize.planned.Goals as goal
 
 -- the size fits, and is another
@@ -21,26 +22,25 @@ returns-then-size c = plan_no_size _ _ c.if-size.true
 pub returns-then-size-board : goal.returns-then-size-board
 returns-then-size-board c = plan_same _ _ (size_right _ c.if-size.false) c.if-size-board.true
 
-pub returns-then-late-eq0 : goal.returns-then-late-eq0
-returns-then-late-eq0 c =
-    plan_size _ _ _ _ (another (parsed_of c.args.board) c.args.size c.if-size.false c.if-size-board.false) c.board_late-late.ensures c.if-late-eq0.true
+pub returns-then-late-gt1 : goal.returns-then-late-gt1
+returns-then-late-gt1 c =
+    plan_many _ _ _ (another (parsed_of c.args.board.now) c.args.size c.if-size.false c.if-size-board.false) _ c.board_late-late.ensures c.if-late-gt1.true
 
-pub returns-then-late-ne1 : goal.returns-then-late-ne1
-returns-then-late-ne1 c =
-    plan_many _ _ _ _ (another (parsed_of c.args.board) c.args.size c.if-size.false c.if-size-board.false) c.board_late-late.ensures c.if-late-eq0.false c.if-late-ne1.true
+pub returns-in_default : goal.returns-in_default
+returns-in_default c =
+    plan_size _ _ _ (another (parsed_of c.args.board.now) c.args.size c.if-size.false c.if-size-board.false) c.if-late-gt1.false
+    (subst (Lates _ _) c.in_default.is c.board_late-late.ensures)
 
-pub corrected-requires : goal.corrected-requires
-corrected-requires c =
-    let b = c.args.board in
+pub corrected-requires-clause-fine : goal.corrected-requires-clause-fine
+corrected-requires-clause-fine c =
+    let b = c.args.board.now in
     let sound = c.requires.sound in
     let fine = c.requires.whole.fine in
-    let fits = size_right _ c.if-size.false in
-    let there = one_there _ _ _ _ _ fine.formed.joins c.board_late-late.ensures c.if-late-ne1.false in
-    record {
-      sound = sound;
-      fine = (fine, omega (arith, there, length-take-le b.count b.nodes (omega (arith, sound.nodes_long, sound.few_nodes))), fits.1);
-    }
+    let there = last_there _ _ _ _ _ fine.formed.joins (subst (Lates _ _) c.in-Some.is c.board_late-late.ensures) in
+    (fine, omega (arith, there, length-take-le b.count b.nodes (omega (arith, sound.nodes_long, sound.few_nodes))), (size_right _ c.if-size.false).1)
 
 pub returns : goal.returns
 returns c =
-    c.corrected.ensures ∙ plan_one _ _ _ _ (another (parsed_of c.args.board) c.args.size c.if-size.false c.if-size-board.false) c.board_late-late.ensures c.if-late-ne1.false
+    c.corrected.ensures
+    ∙ plan_one _ _ _ (another (parsed_of c.args.board.now) c.args.size c.if-size.false c.if-size-board.false) c.if-late-gt1.false _
+    (subst (Lates _ _) c.in-Some.is c.board_late-late.ensures)

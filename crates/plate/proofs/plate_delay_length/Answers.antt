@@ -1,7 +1,0 @@
--- `plate::plate_delay_length` meets its contract. Assumes nothing.
-use mathlib.Core.Path.{ap, ◌∙◌}
-use Rattle.plate.specs.Lengths.{length_answer}
-use Rattle.plate.proofs.plate_delay_length.Goals as goal
-
-pub returns : goal.returns
-returns c = c.length_answer.ensures ∙ ap length_answer c.delay_length.ensures
