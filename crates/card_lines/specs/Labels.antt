@@ -1,10 +1,10 @@
 -- The names that a card gives its nodes, as `echo: delay 300ms`, and the node that a word stands for. Definitions only.
-use Rattle.std.specs.Prelude.{Bool, true, false, cond, ◌||◌, ◌&&◌, List, [], ◌∷◌, ℕ, ◌+◌, ◌-◌, eqb, leb, length, take, drop, get_or}
-use Rattle.decimals.specs.Number.{is, none, upto, whole_of}
-use Rattle.text.specs.Words.{ahead, next_word, word_at}
-use Rattle.decimals.specs.declared.number.Whole.{Whole}
-use Rattle.text.specs.declared.words.Stop.TheVariants.{Byte}
-use Rattle.card_lines.specs.Names.{alike, names, place_in, is_node}
+use Rattle.std.specs.Prelude.{Option, Some, None, Bool, true, false, cond, ◌||◌, ◌&&◌, List, [], ◌∷◌, ℕ, ◌+◌, ◌-◌, eqb, leb, length, take, drop, get_or}
+use Rattle.decimals.specs.Number.{upto, whole_of}
+use Rattle.text.specs.Words.{ahead, is_byte, next_word, word_at}
+use Rattle.card_lines.specs.declared.names.Name.{Name}
+use Rattle.card_lines.specs.declared.names.Name.TheVariants.{Head, Node, Wire}
+use Rattle.card_lines.specs.Names.{alike, named}
 
 -- a letter; and what may follow it in a name: letters, digits, `_`, `-` and `.`
 abbrev pub is_letter : ℕ → Bool
@@ -26,7 +26,7 @@ good_name name = starts_name name && all_inner name
 
 -- a line up to its comment, from `#` on
 abbrev pub bare : List ℕ → List ℕ
-bare l = take (ahead (Byte 35) l) l
+bare l = take (ahead (is_byte 35) l) l
 
 -- a first word that ends with `:` gives the name that stands before the colon; the record follows it
 abbrev pub is_label : List ℕ → Bool
@@ -36,22 +36,29 @@ unfoldable pub label_of : List ℕ → List ℕ
 label_of s = take (cond (is_label (word_at 0 s)) (length (word_at 0 s) - 1) 0) (word_at 0 s)
 
 unfoldable pub body_of : List ℕ → List ℕ
-body_of s = drop (cond (is_label (word_at 0 s)) (next_word s 0).to 0) s
+body_of s = drop (cond (is_label (word_at 0 s)) (next_word s 0).end 0) s
+
+-- whether a line with this name says a node
+abbrev pub is_node : Option Name → Bool
+is_node None = false
+is_node (Some Head) = false
+is_node (Some (Node k)) = true
+is_node (Some Wire) = false
 
 -- how many nodes a line says: one if its record is named by a type
 unfoldable pub nodes_in : List ℕ → ℕ
-nodes_in s = cond (is_node (place_in names (word_at 0 (body_of s)))) 1 0
+nodes_in s = cond (is_node (named (word_at 0 (body_of s)))) 1 0
 
 -- the number of the first node with this name among some lines, behind k nodes; or none
-unfoldable pub node_named : List ℕ → ℕ → List (List ℕ) → Whole
-node_named name k [] = none
-node_named name k (l ∷ ls) = cond (alike (label_of (bare l)) name) (is k) (node_named name (k + nodes_in (bare l)) ls)
+unfoldable pub node_named : List ℕ → ℕ → List (List ℕ) → Option ℕ
+node_named name k [] = None
+node_named name k (l ∷ ls) = cond (alike (label_of (bare l)) name) (Some k) (node_named name (k + nodes_in (bare l)) ls)
 
-abbrev pub node_of : List (List ℕ) → List ℕ → Whole
+abbrev pub node_of : List (List ℕ) → List ℕ → Option ℕ
 node_of ls name = upto 65535 (node_named name 0 ls)
 
 -- the node that a word stands for, in a card of these lines: by its name, or by its number
-unfoldable pub end_of : List (List ℕ) → List ℕ → Whole
+unfoldable pub end_of : List (List ℕ) → List ℕ → Option ℕ
 end_of ls word = cond (starts_name word) (node_of ls word) (whole_of word 65535)
 
 -- ---- a byte-order mark at the start of a text is passed over: EF BB BF

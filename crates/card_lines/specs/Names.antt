@@ -1,14 +1,16 @@
 -- The names of a card's lines, and the fields behind them. Definitions only.
-use Rattle.std.specs.Prelude.{Bool, true, false, cond, not, ◌||◌, ◌&&◌, List, [], ◌∷◌, ℕ, suc, ◌*◌, eqb, leb, take, drop}
-use Rattle.text.specs.Words.{ahead}
-use Rattle.text.specs.declared.words.Stop.TheVariants.{Space}
+use Rattle.std.specs.Prelude.{Option, Bool, cond, List, [], ◌∷◌, ℕ, ◌+◌, eqb}
+use Rattle.std.specs.Cmp.Lexicographic.{pointwise}
+use Rattle.std.specs.List.{find}
+use Rattle.kinds.specs.declared.types.Kind.{Kind}
+use Rattle.kinds.specs.declared.types.Kind.TheVariants as kind
+use Rattle.kinds.specs.Types as types
+use Rattle.card_lines.specs.declared.names.Name.{Name}
+use Rattle.card_lines.specs.declared.names.Name.TheVariants.{Head, Node, Wire}
 
 -- the same bytes
-unfoldable pub alike : List ℕ → List ℕ → Bool
-alike [] [] = true
-alike [] (d ∷ t) = false
-alike (c ∷ s) [] = false
-alike (c ∷ s) (d ∷ t) = eqb c d && alike s t
+abbrev pub alike : List ℕ → List ℕ → Bool
+alike = pointwise eqb
 
 abbrev pub block_name : List ℕ
 block_name = 98 ∷ 108 ∷ 111 ∷ 99 ∷ 107 ∷ []
@@ -50,31 +52,53 @@ wire_name = 119 ∷ 105 ∷ 114 ∷ 101 ∷ []
 abbrev pub input_name : List ℕ
 input_name = 105 ∷ 110 ∷ 112 ∷ 117 ∷ 116 ∷ []
 
--- the names at their places: the head's, the types' at their numbers, the wire's
-unfoldable pub names : List (List ℕ)
+-- the word that stands for a type; and for a line's name
+abbrev pub type_word : Kind → List ℕ
+type_word kind.Pass = pass_name
+type_word kind.Sum = sum_name
+type_word kind.Destination = destination_name
+type_word kind.Balance = balance_name
+type_word kind.Mul = mul_name
+type_word kind.Add = add_name
+type_word kind.Delay = delay_name
+type_word kind.AllPass = allpass_name
+type_word kind.OnePole = onepole_name
+type_word kind.Sine = sine_name
+
+abbrev pub word_of : Name → List ℕ
+word_of Head = block_name
+word_of (Node k) = type_word k
+word_of Wire = wire_name
+
+abbrev pub is_named : List ℕ → Name → Bool
+is_named word n = alike word (word_of n)
+
+-- the names in their order: the head, the types by their numbers, the wire
+abbrev pub names : List Name
 names =
-    block_name ∷ pass_name ∷ sum_name ∷ destination_name ∷ balance_name ∷ mul_name ∷ add_name ∷ delay_name ∷ allpass_name ∷ onepole_name ∷ sine_name ∷ wire_name ∷ []
+    Head
+    ∷ Node kind.Pass
+    ∷ Node kind.Sum
+    ∷ Node kind.Destination
+    ∷ Node kind.Balance
+    ∷ Node kind.Mul
+    ∷ Node kind.Add
+    ∷ Node kind.Delay
+    ∷ Node kind.AllPass
+    ∷ Node kind.OnePole
+    ∷ Node kind.Sine
+    ∷ Wire
+    ∷ []
 
--- the place of a word in a list of names, or the list's length
-unfoldable pub place_in : List (List ℕ) → List ℕ → ℕ
-place_in [] word = 0
-place_in (n ∷ ns) word = cond (alike word n) 0 (suc (place_in ns word))
+-- what a word names
+unfoldable pub named : List ℕ → Option Name
+named word = find (is_named word) names
 
--- the types that have a whole number, delay and all-pass; and those that have a float
-abbrev pub has_whole : ℕ → Bool
-has_whole t = eqb t 7 || eqb t 8
+-- how many words a line has
+abbrev pub node_words : Bool → Bool → ℕ
+node_words whole float = 1 + cond whole 1 0 + cond float 1 0
 
-abbrev pub has_float : ℕ → Bool
-has_float t = (leb 5 t && leb t 10) && not (eqb t 7)
-
--- the places of the types' names
-abbrev pub is_node : ℕ → Bool
-is_node t = leb 1 t && leb t 10
-
--- how many words a line has, by its name's place
-abbrev pub words_wanted : ℕ → ℕ
-words_wanted t = cond (eqb t 0) 4 (cond (eqb t 8 || eqb t 11) 3 (cond (leb t 4) 1 2))
-
--- the name at a place of a table that has each in 11 bytes, with spaces behind it
-abbrev pub name_in : List ℕ → ℕ → List ℕ
-name_in table t = take (ahead Space (take 11 (drop (11 * t) table))) (take 11 (drop (11 * t) table))
+abbrev pub words_wanted : Name → ℕ
+words_wanted Head = 4
+words_wanted (Node k) = node_words (types.has_whole k) (types.has_float k)
+words_wanted Wire = 3

@@ -1,73 +1,33 @@
 // The length of a line, in samples or in milliseconds: `delay 300ms`.
-ghost use Rattle.std.specs.Prelude.{◌≡◌, ◌-◌, ◌≤◌, length};
-ghost use Rattle.card_lines.specs.Lengths.{in_ms, length_by, ms_length, length_of};
+ghost use Rattle.std.specs.Prelude.{◌≡◌};
+ghost use Rattle.card_lines.specs.Lengths.{samples_of, length_of};
 
 use crate::reason::Reason;
-use check::same;
-use decimals::number::{Float, float_of, whole_of};
-use leaves::lengths::{Length, all_pass_length, delay_length};
+use decimals::number::{float_of, whole_of};
+use kinds::types::Kind;
+use leaves::lengths::{all_pass_length, delay_length};
 use values::float::of_bits;
 
-// A length in samples; or what is wrong with the word.
-#[derive(Clone, Copy)]
-pub enum Samples {
-    Is(u32),
-    Bad(Reason),
-}
-
-// Where `ms` would start.
-fn before_ms(word: &[u8]) -> usize
-    ensures { (result ≡ length word.now - 2) × (result ≤ length word.now) }
+// The line of a delay, or of an all-pass, for milliseconds by their bits.
+fn samples_of(kind: Kind, ms: u32) -> Option<u32>
+    ensures { result ≡ samples_of kind ms }
 {
-    if word.len() < 2 { 0 } else { word.len() - 2 }
-}
-
-// Whether a word ends with `ms`.
-fn in_ms(word: &[u8]) -> bool
-    ensures { result ≡ in_ms word.now }
-{
-    let from = before_ms(word);
-    same(&word[from..], b"ms")
-}
-
-fn length_by(length: Length) -> Samples
-    ensures { result ≡ length_by length }
-{
-    match length {
-        Length::Samples(n) => Samples::Is(n),
-        Length::OutOfRange => Samples::Bad(Reason::Range),
+    match kind {
+        Kind::Delay => delay_length(of_bits(ms)),
+        _ => all_pass_length(of_bits(ms)),
     }
 }
 
-// The line of type t, a delay or an all-pass, for milliseconds.
-fn ms_length(t: u16, ms: Float) -> Samples
-    ensures { result ≡ ms_length t ms }
+// The length that a word says for a type.
+pub fn length_of(kind: Kind, word: &[u8]) -> Result<u32, Reason>
+    ensures { result ≡ length_of kind word.now }
 {
-    match ms {
-        Float::Is(bits) => {
-            if t == 7 {
-                length_by(delay_length(of_bits(bits)))
-            } else {
-                length_by(all_pass_length(of_bits(bits)))
-            }
-        }
-        Float::Bad => Samples::Bad(Reason::Float),
-        Float::Long => Samples::Bad(Reason::Long),
+    if let Some(number) = word.strip_suffix(b"ms") {
+        let ms = float_of(number)?;
+        return samples_of(kind, ms).ok_or(Reason::Range);
     }
-}
-
-// The length that a word says for type t.
-pub fn length_of(t: u16, word: &[u8]) -> Samples
-    ensures { result ≡ length_of t word.now }
-{
-    if in_ms(word) {
-        let end = before_ms(word);
-        return ms_length(t, float_of(&word[..end]));
-    }
-    let whole = whole_of(word, 4294967295);
-    if whole.good {
-        Samples::Is(whole.value as u32)
-    } else {
-        Samples::Bad(Reason::Whole)
-    }
+    let Some(samples) = whole_of(word, 4294967295) else {
+        return Err(Reason::Whole);
+    };
+    Ok(samples as u32)
 }

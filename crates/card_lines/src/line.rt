@@ -1,19 +1,19 @@
 // One line of a card: the record that it says, or what is wrong with it.
-ghost use Rattle.std.specs.Prelude.{◌≡◌, ◌≤◌};
+ghost use Rattle.std.specs.Prelude.{◌≡◌};
 ghost use Rattle.decimals.specs.Number.{whole_of};
 ghost use Rattle.text.specs.Words.{word_at, lines_of};
 ghost use Rattle.card_lines.specs.Labels.{label_of, body_of, end_of};
-ghost use Rattle.card_lines.specs.Line.{no_end, head_line, wire_line, float_line, node_line, record_line, plain_line, is_other, labelled_line, line_of, said_of};
-ghost use Rattle.card_lines.specs.Names.{names, place_in};
+ghost use Rattle.card_lines.specs.Line.{no_end, ended, head_line, wire_line, float_line, node_line, record_line, plain_line, is_other, labelled_line, line_of, said_of};
+ghost use Rattle.card_lines.specs.Names.{named};
 
 use crate::labels::{
     bare, body_of, end_of, good_name, is_label, label_of, node_named, starts_name,
 };
-use crate::lengths::{Samples, length_of};
-use crate::names::{HEAD, NOTHING, WIRE, has_float, has_whole, named, words_wanted};
+use crate::lengths::length_of;
+use crate::names::{Name, named};
 use crate::reason::Reason;
-use check::same;
-use decimals::number::{Float, float_of, whole_of};
+use decimals::number::{float_of, whole_of};
+use kinds::types::Kind;
 use text::words::{word_at, word_count};
 
 // What a line says. A node has its type, its whole number and its float's bits.
@@ -21,9 +21,8 @@ use text::words::{word_at, word_count};
 pub enum Line {
     Blank,
     Head(u16, u16),
-    Node(u16, u32, u32),
+    Node(Kind, u32, u32),
     Wire(u16, u16),
-    Bad(Reason),
 }
 
 // What is wrong with a word that stands for no node.
@@ -37,131 +36,121 @@ fn no_end(word: &[u8]) -> Reason
     }
 }
 
-// block N input I
-fn head_line(text: &[u8], line: &[u8]) -> Line
-    ensures { result ≡ head_line (whole_of (word_at 1 line.now) 65535) (word_at 2 line.now) (word_at 3 line.now) (end_of (lines_of text.now) (word_at 3 line.now)) }
+// The node that a word stands for.
+fn ended(text: &[u8], word: &[u8]) -> Result<u16, Reason>
+    ensures { result ≡ ended (end_of (lines_of text.now) word.now) word.now }
 {
-    let size = whole_of(word_at(line, 1), 65535);
-    if !size.good {
-        return Line::Bad(Reason::Whole);
+    match end_of(text, word) {
+        Some(node) => Ok(node),
+        None => Err(no_end(word)),
     }
-    if !same(word_at(line, 2), b"input") {
-        return Line::Bad(Reason::Name);
+}
+
+// The word between the head's numbers.
+const INPUT: &[u8] = b"input";
+
+// block N input I
+fn head_line(text: &[u8], line: &[u8]) -> Result<Line, Reason>
+    ensures { result ≡ head_line (whole_of (word_at 1 line.now) 65535) (word_at 2 line.now) (ended (end_of (lines_of text.now) (word_at 3 line.now)) (word_at 3 line.now)) }
+{
+    let Some(size) = whole_of(word_at(line, 1), 65535) else {
+        return Err(Reason::Whole);
+    };
+    if word_at(line, 2) != INPUT {
+        return Err(Reason::Name);
     }
-    let last = word_at(line, 3);
-    let input = end_of(text, last);
-    if !input.good {
-        return Line::Bad(no_end(last));
-    }
-    Line::Head(size.value as u16, input.value as u16)
+    let input = ended(text, word_at(line, 3))?;
+    Ok(Line::Head(size as u16, input))
 }
 
 // wire SOURCE TARGET
-fn wire_line(text: &[u8], line: &[u8]) -> Line
-    ensures { result ≡ wire_line (word_at 1 line.now) (end_of (lines_of text.now) (word_at 1 line.now)) (word_at 2 line.now) (end_of (lines_of text.now) (word_at 2 line.now)) }
+fn wire_line(text: &[u8], line: &[u8]) -> Result<Line, Reason>
+    ensures { result ≡ wire_line (ended (end_of (lines_of text.now) (word_at 1 line.now)) (word_at 1 line.now)) (ended (end_of (lines_of text.now) (word_at 2 line.now)) (word_at 2 line.now)) }
 {
-    let first = word_at(line, 1);
-    let source = end_of(text, first);
-    if !source.good {
-        return Line::Bad(no_end(first));
-    }
-    let second = word_at(line, 2);
-    let target = end_of(text, second);
-    if !target.good {
-        return Line::Bad(no_end(second));
-    }
-    Line::Wire(source.value as u16, target.value as u16)
+    let source = ended(text, word_at(line, 1))?;
+    let target = ended(text, word_at(line, 2))?;
+    Ok(Line::Wire(source, target))
 }
 
-// A node of type t with the whole number n, and a word as its float if it has one.
-fn float_line(word: &[u8], t: u16, n: u32) -> Line
-    ensures { result ≡ float_line t n word.now }
+// A node with the whole number n, and a word as its float if its type has one.
+fn float_line(word: &[u8], kind: Kind, n: u32) -> Result<Line, Reason>
+    ensures { result ≡ float_line kind n word.now }
 {
-    if !has_float(t as usize) {
-        return Line::Node(t, n, 0);
+    if !kind.has_float() {
+        return Ok(Line::Node(kind, n, 0));
     }
-    match float_of(word) {
-        Float::Is(f) => Line::Node(t, n, f),
-        Float::Bad => Line::Bad(Reason::Float),
-        Float::Long => Line::Bad(Reason::Long),
-    }
+    let f = float_of(word)?;
+    Ok(Line::Node(kind, n, f))
 }
 
-// A node of type t: its length if it has one, then its float if it has one.
-fn node_line(line: &[u8], t: u16) -> Line
-    ensures { result ≡ node_line t (word_at 1 line.now) (word_at 2 line.now) }
+// A node: its length if its type has one, then its float if it has one.
+fn node_line(line: &[u8], kind: Kind) -> Result<Line, Reason>
+    ensures { result ≡ node_line kind (word_at 1 line.now) (word_at 2 line.now) }
 {
-    if !has_whole(t as usize) {
-        return float_line(word_at(line, 1), t, 0);
+    if !kind.has_whole() {
+        return float_line(word_at(line, 1), kind, 0);
     }
-    match length_of(t, word_at(line, 1)) {
-        Samples::Is(n) => float_line(word_at(line, 2), t, n),
-        Samples::Bad(reason) => Line::Bad(reason),
-    }
+    let n = length_of(kind, word_at(line, 1))?;
+    float_line(word_at(line, 2), kind, n)
 }
 
-// The record of a line whose name has the place t.
-fn record_line(text: &[u8], line: &[u8], t: usize) -> Line
-    requires { t ≤ 12 }
-    ensures { result ≡ record_line (lines_of text.now) line.now t }
+// The record of a line with this name.
+fn record_line(text: &[u8], line: &[u8], name: Name) -> Result<Line, Reason>
+    ensures { result ≡ record_line (lines_of text.now) line.now name }
 {
-    if t == HEAD {
-        return head_line(text, line);
+    match name {
+        Name::Head => head_line(text, line),
+        Name::Node(kind) => node_line(line, kind),
+        Name::Wire => wire_line(text, line),
     }
-    if t == WIRE {
-        return wire_line(text, line);
-    }
-    node_line(line, t as u16)
 }
 
 // What a line says that has no comment and no name before it.
-fn plain_line(text: &[u8], line: &[u8]) -> Line
+fn plain_line(text: &[u8], line: &[u8]) -> Result<Line, Reason>
     ensures { result ≡ plain_line (lines_of text.now) line.now }
 {
     let word = word_at(line, 0);
-    if word.len() == 0 {
-        return Line::Blank;
+    if word.is_empty() {
+        return Ok(Line::Blank);
     }
-    let t = named(word);
-    if t == NOTHING {
-        return Line::Bad(Reason::Name);
+    let Some(name) = named(word) else {
+        return Err(Reason::Name);
+    };
+    if word_count(line) != name.words_wanted() {
+        return Err(Reason::Fields);
     }
-    if word_count(line) != words_wanted(t) {
-        return Line::Bad(Reason::Fields);
-    }
-    record_line(text, line, t)
+    record_line(text, line, name)
 }
 
 // Whether no node follows a name: nothing, or the head or a wire.
 fn is_other(word: &[u8]) -> bool
-    ensures { result ≡ is_other word.now (place_in names word.now) }
+    ensures { result ≡ is_other word.now (named word.now) }
 {
-    let t = named(word);
-    (word.len() == 0) | ((t == HEAD) | (t == WIRE))
+    word.is_empty() || matches!(named(word), Some(Name::Head | Name::Wire))
 }
 
 // What a line says that has a name before it, after `nodes` nodes. The name is this node's if no node
 // before has it.
-fn labelled_line(text: &[u8], nodes: usize, line: &[u8]) -> Line
+fn labelled_line(text: &[u8], nodes: usize, line: &[u8]) -> Result<Line, Reason>
     ensures { result ≡ labelled_line (lines_of text.now) nodes (label_of line.now) (body_of line.now) }
 {
     let name = label_of(line);
     let body = body_of(line);
     if !good_name(name) {
-        return Line::Bad(Reason::Label);
+        return Err(Reason::Label);
     }
     if is_other(word_at(body, 0)) {
-        return Line::Bad(Reason::NoNode);
+        return Err(Reason::NoNode);
     }
-    let first = node_named(text, name);
-    if first.value != nodes as u64 {
-        return Line::Bad(Reason::Twice);
+    let first = node_named(text, name).unwrap_or(0);
+    if usize::from(first) != nodes {
+        return Err(Reason::Twice);
     }
     plain_line(text, body)
 }
 
 // What a line without its comment says.
-fn line_of(text: &[u8], nodes: usize, line: &[u8]) -> Line
+fn line_of(text: &[u8], nodes: usize, line: &[u8]) -> Result<Line, Reason>
     ensures { result ≡ line_of (lines_of text.now) nodes line.now }
 {
     if is_label(word_at(line, 0)) {
@@ -172,7 +161,7 @@ fn line_of(text: &[u8], nodes: usize, line: &[u8]) -> Line
 }
 
 // What a line of a text says, after `nodes` nodes.
-pub fn said(text: &[u8], nodes: usize, line: &[u8]) -> Line
+pub fn said(text: &[u8], nodes: usize, line: &[u8]) -> Result<Line, Reason>
     ensures { result ≡ said_of (lines_of text.now) nodes line.now }
 {
     line_of(text, nodes, bare(line))

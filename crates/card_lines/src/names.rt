@@ -1,71 +1,85 @@
-// The names of a card's lines, and the fields after them.
-ghost use Rattle.std.specs.Prelude.{◌≡◌, ◌<◌, ◌≤◌, length};
-ghost use Rattle.card_lines.specs.Names.{names, place_in, has_whole, has_float, words_wanted, name_in};
+// What a card's line is, by its name, and the fields after it.
+ghost use Rattle.std.specs.Prelude.{◌≡◌, ◌≤◌, length};
+ghost use Rattle.card_lines.specs.Names.{named, type_word, word_of, words_wanted};
 
-use check::same;
-use text::words::{Stop, find};
+use kinds::types::Kind;
 
-// Names stand at these places, those of the types at their numbers.
-pub const HEAD: usize = 0;
-
-pub const WIRE: usize = 11;
-
-pub const NOTHING: usize = 12;
-
-// The names, each in 11 bytes.
-pub const NAMES: [u8; 132] =
-    *b"block      pass       sum        destinationbalance    mul        add        delay      allpass    onepole    sine       wire       ";
-
-// The name at place t.
-pub fn name(names: &[u8], t: usize) -> &[u8]
-    requires { (t < 12) × (length names.now ≡ 132) }
-    ensures { (length result.now ≤ 11) × (result.now ≡ name_in names.now t) }
-{
-    let from = 11 * t;
-    let to = from + 11;
-    let part = &names[from..to];
-    let start = 0;
-    let end = find(part, start, Stop::Space);
-    &part[start..end]
+// What a line says: the head, a node of a type, or a wire.
+#[derive(Clone, Copy, PartialEq, Eq)]
+pub enum Name {
+    Head,
+    Node(Kind),
+    Wire,
 }
 
-// The place of a name, or `NOTHING`.
-pub fn named(word: &[u8]) -> usize
-    ensures { (result ≤ 12) × (result ≡ place_in names word.now) }
+const NAMES: [Name; 12] = [
+    Name::Head,
+    Name::Node(Kind::Pass),
+    Name::Node(Kind::Sum),
+    Name::Node(Kind::Destination),
+    Name::Node(Kind::Balance),
+    Name::Node(Kind::Mul),
+    Name::Node(Kind::Add),
+    Name::Node(Kind::Delay),
+    Name::Node(Kind::AllPass),
+    Name::Node(Kind::OnePole),
+    Name::Node(Kind::Sine),
+    Name::Wire,
+];
+
+// The word for a type.
+pub fn name_of(kind: Kind) -> &'static [u8]
+    ensures short { length result.now ≤ 11 }
+    ensures word { result.now ≡ type_word kind }
 {
-    let mut t = 0;
-    while t < NOTHING {
-        if same(word, name(&NAMES, t)) {
-            return t;
+    match kind {
+        Kind::Pass => b"pass",
+        Kind::Sum => b"sum",
+        Kind::Destination => b"destination",
+        Kind::Balance => b"balance",
+        Kind::Mul => b"mul",
+        Kind::Add => b"add",
+        Kind::Delay => b"delay",
+        Kind::AllPass => b"allpass",
+        Kind::OnePole => b"onepole",
+        Kind::Sine => b"sine",
+    }
+}
+
+impl Name {
+    // The word that a line with this name starts with.
+    pub fn word(self) -> &'static [u8]
+        ensures { result.now ≡ word_of self }
+    {
+        match self {
+            Name::Head => b"block",
+            Name::Node(kind) => name_of(kind),
+            Name::Wire => b"wire",
         }
-        t += 1;
     }
-    t
+
+    // How many words a line with this name has.
+    pub fn words_wanted(self) -> usize
+        ensures { result ≡ words_wanted self }
+    {
+        match self {
+            Name::Head => 4,
+            Name::Node(kind) => {
+                1 + usize::from(kind.has_whole()) + usize::from(kind.has_float())
+            }
+            Name::Wire => 3,
+        }
+    }
 }
 
-// Whether a type has a whole number: delay and all-pass.
-pub fn has_whole(t: usize) -> bool
-    ensures { result ≡ has_whole t }
+// What a word names.
+pub fn named(word: &[u8]) -> Option<Name>
+    ensures { result ≡ named word.now }
 {
-    (t == 7) | (t == 8)
-}
-
-// Whether a type has a float.
-pub fn has_float(t: usize) -> bool
-    ensures { result ≡ has_float t }
-{
-    ((5 <= t) & (t <= 10)) & (t != 7)
-}
-
-// How many words a line has, by its name's place.
-pub fn words_wanted(t: usize) -> usize
-    ensures { result ≡ words_wanted t }
-{
-    if t == HEAD {
-        return 4;
+    for name in NAMES {
+        if word == name.word() {
+            return Some(name);
+        }
     }
-    if (t == 8) | (t == WIRE) {
-        return 3;
-    }
-    if t <= 4 { 1 } else { 2 }
+    None
 }

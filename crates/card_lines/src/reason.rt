@@ -1,5 +1,10 @@
 // What is wrong with a line of a card.
-#[derive(Clone, Copy)]
+ghost use Rattle.std.specs.Prelude.{◌≡◌};
+ghost use Rattle.card_lines.specs.Reason.{float_reason};
+
+use decimals::number::FloatError;
+
+#[derive(Clone, Copy, Debug, PartialEq, Eq)]
 pub enum Reason {
     // No line starts with this word; or the head has no `input`.
     Name,
@@ -18,4 +23,15 @@ pub enum Reason {
     Twice,
     NoNode,
     Missing,
+}
+
+impl From<FloatError> for Reason {
+    ghost from_gives = { λ error reason. reason ≡ float_reason error };
+
+    fn from(error: FloatError) -> Reason {
+        match error {
+            FloatError::Bad => Reason::Float,
+            FloatError::Long => Reason::Long,
+        }
+    }
 }

@@ -3,16 +3,19 @@ ghost use Rattle.std.specs.Prelude.{◌≡◌, ◌++◌, ◌+◌, ◌≤◌, len
 ghost use Rattle.std.proofs.lemmas.List.Edits.{sets};
 ghost use Rattle.reading.specs.Order.{wire};
 ghost use Rattle.records.specs.Write.{head_bytes, node_bytes, wire_bytes, end_bytes};
+ghost use Rattle.kinds.specs.Types.{type_number};
 ghost use Rattle.cards.specs.Adding.{Room, Adds, Within};
 ghost use Rattle.cards.specs.Board.{record_bytes, head_step, node_step, wire_step, step_of, judged_of, lines_say, card_of};
 ghost use Rattle.text.specs.Words.{lines_of};
 
 use boards::judge::judge;
-use card_lines::labels::{line_after, mark_length};
+use card_lines::labels::mark_length;
 use card_lines::line::{Line, said};
 use card_lines::reason::Reason;
+use kinds::types::Kind;
+use records::answer::Answer;
 use records::writer::{put_end, put_head, put_node, put_wire};
-use text::words::{Stop, find};
+use text::words::Lines;
 
 // How far a board is written: its bytes, its nodes and its wires.
 #[derive(Clone, Copy)]
@@ -22,94 +25,87 @@ pub struct Written {
     pub wires: usize,
 }
 
-// A line's record written; or what is wrong with the line.
+// Why a card gives no board: the judge refuses it; or the first bad line, from 1, and what is wrong with it.
 #[derive(Clone, Copy)]
-pub enum Step {
-    On(Written),
-    Bad(Reason),
-}
-
-// A board of so many bytes that the judge accepts; or its refusal; or a bad line.
-#[derive(Clone, Copy)]
-pub enum Made {
-    Board(usize),
-    Refused(u32, u32),
+pub enum Wrong {
+    Refused(Answer),
     Bad(usize, Reason),
 }
 
-// The head is the first record.
-fn add_head(out: &mut [u8], done: Written, size: u16, input: u16) -> Step
-    requires { (1932 ≤ length out.old) × Room done }
-    ensures { Adds done (head_step done) (head_bytes size input) out.old out.new result }
-{
-    if done.at != 0 {
-        return Step::Bad(Reason::Late);
+impl Written {
+    // The head is the first record.
+    fn add_head(self, out: &mut [u8], size: u16, input: u16) -> Result<Written, Reason>
+        requires { (1932 ≤ length out.old) × Room self }
+        ensures { Adds self (head_step self) (head_bytes size input) out.old out.new result }
+    {
+        if self.at != 0 {
+            return Err(Reason::Late);
+        }
+        put_head(out, size, input);
+        Ok(Written {
+            at: 8,
+            nodes: 0,
+            wires: 0,
+        })
     }
-    put_head(out, size, input);
-    Step::On(Written {
-        at: 8,
-        nodes: 0,
-        wires: 0,
-    })
-}
 
-// A node stands after the head and before the wires.
-fn add_node(out: &mut [u8], done: Written, t: u16, n: u32, f: u32) -> Step
-    requires { (1932 ≤ length out.old) × Room done }
-    ensures { Adds done (node_step done) (node_bytes (record { type = t; n = n; f = f })) out.old out.new result }
-{
-    if done.at == 0 {
-        return Step::Bad(Reason::Early);
+    // A node stands after the head and before the wires.
+    fn add_node(self, out: &mut [u8], kind: Kind, n: u32, f: u32) -> Result<Written, Reason>
+        requires { (1932 ≤ length out.old) × Room self }
+        ensures { Adds self (node_step self) (node_bytes (record { type = type_number kind; n = n; f = f })) out.old out.new result }
+    {
+        if self.at == 0 {
+            return Err(Reason::Early);
+        }
+        if self.wires != 0 {
+            return Err(Reason::Late);
+        }
+        if self.nodes == 64 {
+            return Err(Reason::Many);
+        }
+        put_node(out, self.at, kind.number(), n, f);
+        Ok(Written {
+            at: self.at + 14,
+            nodes: self.nodes + 1,
+            wires: self.wires,
+        })
     }
-    if done.wires != 0 {
-        return Step::Bad(Reason::Late);
-    }
-    if done.nodes == 64 {
-        return Step::Bad(Reason::Many);
-    }
-    put_node(out, done.at, t, n, f);
-    Step::On(Written {
-        at: done.at + 14,
-        nodes: done.nodes + 1,
-        wires: done.wires,
-    })
-}
 
-// A wire stands after the head.
-fn add_wire(out: &mut [u8], done: Written, source: u16, target: u16) -> Step
-    requires { (1932 ≤ length out.old) × Room done }
-    ensures { Adds done (wire_step done) (wire_bytes (wire source target)) out.old out.new result }
-{
-    if done.at == 0 {
-        return Step::Bad(Reason::Early);
+    // A wire stands after the head.
+    fn add_wire(self, out: &mut [u8], source: u16, target: u16) -> Result<Written, Reason>
+        requires { (1932 ≤ length out.old) × Room self }
+        ensures { Adds self (wire_step self) (wire_bytes (wire source target)) out.old out.new result }
+    {
+        if self.at == 0 {
+            return Err(Reason::Early);
+        }
+        if self.wires == 128 {
+            return Err(Reason::Many);
+        }
+        put_wire(out, self.at, source, target);
+        Ok(Written {
+            at: self.at + 8,
+            nodes: self.nodes,
+            wires: self.wires + 1,
+        })
     }
-    if done.wires == 128 {
-        return Step::Bad(Reason::Many);
-    }
-    put_wire(out, done.at, source, target);
-    Step::On(Written {
-        at: done.at + 8,
-        nodes: done.nodes,
-        wires: done.wires + 1,
-    })
-}
 
-// The record of a line, after those that are written.
-fn add_line(out: &mut [u8], done: Written, line: Line) -> Step
-    requires { (1932 ≤ length out.old) × Room done }
-    ensures { Adds done (step_of done line) (record_bytes line) out.old out.new result }
-{
-    match line {
-        Line::Blank => Step::On(done),
-        Line::Head(size, input) => add_head(out, done, size, input),
-        Line::Node(t, n, f) => add_node(out, done, t, n, f),
-        Line::Wire(source, target) => add_wire(out, done, source, target),
-        Line::Bad(reason) => Step::Bad(reason),
+    // The record of what a line says, after those that are written.
+    fn add_line(self, out: &mut [u8], line: Result<Line, Reason>) -> Result<Written, Reason>
+        requires { (1932 ≤ length out.old) × Room self }
+        ensures { Adds self (step_of self line) (record_bytes line) out.old out.new result }
+    {
+        match line? {
+            Line::Blank => Ok(self),
+            Line::Head(size, input) => self.add_head(out, size, input),
+            Line::Node(kind, n, f) => self.add_node(out, kind, n, f),
+            Line::Wire(source, target) => self.add_wire(out, source, target),
+        }
     }
 }
 
 // The judge's answer to a board of `at` bytes and its end.
-fn judged(out: &mut [u8], at: usize) -> Made
+fn judged(out: &mut [u8], at: usize) -> Result<usize, Wrong>
     requires { at + 4 ≤ length out.old }
     ensures within { Within out.new result }
     ensures answered { result ≡ (judged_of (take at out.old ++ end_bytes)).made }
@@ -117,16 +113,14 @@ fn judged(out: &mut [u8], at: usize) -> Made
 {
     put_end(out, at);
     let end = at + 4;
-    let answer = judge(&out[..end]);
-    if answer.number == 0 {
-        Made::Board(end)
-    } else {
-        Made::Refused(answer.number, answer.place)
+    match judge(&out[..end]).checked() {
+        Ok(()) => Ok(end),
+        Err(refusal) => Err(Wrong::Refused(refusal)),
     }
 }
 
 // The board of a card without a byte-order mark.
-fn lines_board(text: &[u8], out: &mut [u8]) -> Made
+fn lines_board(text: &[u8], out: &mut [u8]) -> Result<usize, Wrong>
     requires { 1932 ≤ length out.old }
     ensures within { Within out.new result }
     ensures answered { result ≡ (lines_say (lines_of text.now)).made }
@@ -137,25 +131,20 @@ fn lines_board(text: &[u8], out: &mut [u8]) -> Made
         nodes: 0,
         wires: 0,
     };
-    let mut line = 0;
-    let mut start = 0;
-    while start < text.len() {
-        let end = find(text, start, Stop::Byte(b'\n'));
-        line += 1;
-        match add_line(out, done, said(text, done.nodes, &text[start..end])) {
-            Step::On(next) => done = next,
-            Step::Bad(reason) => return Made::Bad(line, reason),
+    for (i, line) in Lines::new(text).enumerate() {
+        match done.add_line(out, said(text, done.nodes, line)) {
+            Ok(next) => done = next,
+            Err(reason) => return Err(Wrong::Bad(i + 1, reason)),
         }
-        start = line_after(text, end);
     }
     judged(out, done.at)
 }
 
-// The board of a card, in the first bytes of `out`, and the judge's answer to it; or the first bad line.
-// Ruled out, and tried by must-fail edits: every card refused (refuses_all), a bad line passed over
-// (bad_line_passed), a second node with the same name passed over (card_lines, first_name_wins), a name
-// that stands for the node behind it (card_lines, name_one_off).
-pub fn board_of(text: &[u8], out: &mut [u8]) -> Made
+// The board of a card, in the first bytes of `out`: how many, if the judge accepts it. Ruled out, and tried
+// by must-fail edits: every card refused (refuses_all), a bad line passed over (bad_line_passed), a second
+// node with the same name passed over (card_lines, first_name_wins), a name that stands for the node behind
+// it (card_lines, name_one_off).
+pub fn board_of(text: &[u8], out: &mut [u8]) -> Result<usize, Wrong>
     requires { 1932 ≤ length out.old }
     ensures within { Within out.new result }
     ensures answered { result ≡ (card_of text.now).made }

@@ -1,52 +1,35 @@
 -- Digits read one after the other: a step, a stop, and what a run up to the end says. Assumes nothing.
 use mathlib.Core.Path.{◌≡◌, refl, sym, ap, subst, ◌∙◌}
-use mathlib.Core.Bool.{Bool, true, false, cond, ◌&&◌}
+use mathlib.Core.Bool.{Bool, true, false, cond}
 use mathlib.Core.List.{List, [], ◌∷◌}
 use Prim.Native.Nat.{ℕ, zero, suc, ◌+◌, ◌-◌, ◌*◌, ◌^◌, ◌<◌, ◌≤◌}
 use native.Mathlib.Decide.{dec_lt}
 use native.Mathlib.Nat.{le_trans, le_of_eq, mul_assoc, mul-one, mul-le-mul_left, mul-le-mul_right, pow-succ', pow-le-pow_right, one-le-pow}
 use native.Mathlib.Numerals.{add-one}
 use native.Mathlib.Omega.{arith}
-use borrow.Author.Tests.{lt-ltb, le-ltb, le-leb, ltb-true, leb-true, eq-eqb, ne_eqb}
-use lib.Dec.{ltb, leb}
+use borrow.Author.Tests.{lt-ltb, le-ltb, ltb-true, eq-eqb, ne_eqb}
+use lib.Dec.{ltb}
 use lib.Ieee as ieee
 use lib.ListN.{length, take, drop, get_or, drop_of_length-le, length-take, length-drop}
 use lib.Seq.{drop-cons, get_or-take, take_all}
-use Rattle.decimals.specs.declared.number.Float.{Float}
-use Rattle.decimals.specs.declared.number.Float.TheVariants.{Is, Bad}
+use Rattle.std.proofs.lemmas.Bool.Decides.{nat_tests}
+use Rattle.std.specs.Prelude.{SomeIff, MatchOption, Option, Some, None, Ok, Err, ◌⊎◌}
+use Rattle.std.specs.Char.{digit_value}
+use Rattle.decimals.specs.declared.number.FloatError.TheVariants.{Bad}
 use Rattle.decimals.specs.declared.number.Digits.{Digits}
-use Rattle.decimals.specs.declared.number.Power.{Power}
 use Rattle.decimals.specs.declared.number.Run.{Run}
-use Rattle.decimals.specs.Number.{within, digit_of, more, digits_from, is, none, read_from, upto, whole_of, hex_from, bits_of, ending, Decimals, part, number_from, count_of, digits_of, power, exponent_of, power_of, signed, scaled, decimal_by, decimal_at, float_of}
+use Rattle.decimals.specs.Number.{digit_of, more, digits_from, read_from, upto, whole_of, hex_from, bits_of, ending, Decimals, part, number_from, count_of, digits_of, power_of, signed, powered, decimal_by, decimal_at, float_of}
 
--- ---- a digit, by its range
+-- ---- a digit, as the library reads it
 
-inside : (low high c : ℕ) → low ≤ c → c ≤ high → within low high c ≡ true
-inside low high c l h = simp (le-leb low c l, le-leb c high h)
-
-outside : (low high c : ℕ) → (low ≤ c → c ≤ high → ⊥) → within low high c ≡ false
-outside low high c n = pick (leb low c) (leb c high) (leb-true low c) (leb-true c high)
-  where
-    pick : (a b : Bool) → (a ≡ true → low ≤ c) → (b ≡ true → c ≤ high) → (a && b) ≡ false
-    pick false b f g = refl
-    pick true false f g = refl
-    pick true true f g = absurd (n (f refl) (g refl))
-
-pub decimal_digit : (c : ℕ) → 48 ≤ c → c ≤ 57 → c - 48 ≡ digit_of c
+digit_cases : (c : ℕ) → ((digit_value c < 16) × (digit_of c ≡ digit_value c)) ⊎ ((16 ≤ digit_value c) × (digit_of c ≡ 16))
 unfolding digit_of
-decimal_digit c l h = simp (inside 48 57 c l h)
+digit_cases c = grind (arith, nat_tests)
 
-pub capital_digit : (c : ℕ) → 65 ≤ c → c ≤ 70 → c - 55 ≡ digit_of c
-unfolding digit_of
-capital_digit c l h = simp (outside 48 57 c (λ _ f. omega arith), inside 65 70 c l h)
-
-pub letter_digit : (c : ℕ) → 97 ≤ c → c ≤ 102 → c - 87 ≡ digit_of c
-unfolding digit_of
-letter_digit c l h = simp (outside 48 57 c (λ _ f. omega arith), outside 65 70 c (λ _ f. omega arith), inside 97 102 c l h)
-
-pub no_digit : (c : ℕ) → (48 ≤ c → c ≤ 57 → ⊥) → (65 ≤ c → c ≤ 70 → ⊥) → (97 ≤ c → c ≤ 102 → ⊥) → 16 ≡ digit_of c
-unfolding digit_of
-no_digit c f g h = simp (outside 48 57 c f, outside 65 70 c g, outside 97 102 c h)
+pub digit_found : (r : Option ℕ) (c base : ℕ) → base ≤ 16 → SomeIff r (digit_value c < base) (digit_value c)
+    → MatchOption r (base ≤ digit_of c) (λ d. (d ≡ digit_of c) × (d < base))
+digit_found None c base h n = let cases = digit_cases c in grind arith
+digit_found (Some d) c base h n = let cases = digit_cases c in grind arith
 
 -- ---- a run of digits
 
@@ -70,49 +53,42 @@ module _ (s : List ℕ) (i v : ℕ) where
   run_end h = ap (λ (l : List ℕ). digits_from l v i) (drop_of_length-le s h)
 
 -- a run up to the end is the whole text's number
-pub run-whole : (s : List ℕ) (v i : ℕ) → (digits_from s v i).next ≡ i + length s → read_from s v ≡ is (digits_from s v i).value
+pub run-whole : (s : List ℕ) (v i : ℕ) → (digits_from s v i).next ≡ i + length s → read_from s v ≡ Some (digits_from s v i).value
 unfolding digits_from read_from
 run-whole [] v i e = refl
 run-whole (c ∷ s) v i e = pick (ltb (digit_of c) 10) e (run-whole s (more v (digit_of c)) (i + 1))
   where
     pick : (b : Bool)
         → (cond {A = Run} b (digits_from s (more v (digit_of c)) (i + 1)) (record { value = v; next = i })).next ≡ i + suc (length s)
-        → ((digits_from s (more v (digit_of c)) (i + 1)).next ≡ i + 1 + length s → read_from s (more v (digit_of c)) ≡ is (digits_from s (more v (digit_of c)) (i + 1)).value)
-        → cond b (read_from s (more v (digit_of c))) none ≡ is (cond {A = Run} b (digits_from s (more v (digit_of c)) (i + 1)) (record { value = v; next = i })).value
+        → ((digits_from s (more v (digit_of c)) (i + 1)).next ≡ i + 1 + length s → read_from s (more v (digit_of c)) ≡ Some (digits_from s (more v (digit_of c)) (i + 1)).value)
+        → cond b (read_from s (more v (digit_of c))) None ≡ Some (cond {A = Run} b (digits_from s (more v (digit_of c)) (i + 1)) (record { value = v; next = i })).value
     pick true e rest = rest (omega (arith, e))
     pick false e rest = absurd (omega (arith, e))
 
 -- one that stops earlier says none
-pub run_short : (s : List ℕ) (v i : ℕ) → (digits_from s v i).next < i + length s → read_from s v ≡ none
+pub run_short : (s : List ℕ) (v i : ℕ) → (digits_from s v i).next < i + length s → read_from s v ≡ None
 unfolding digits_from read_from
 run_short [] v i h = absurd (omega (arith, h))
 run_short (c ∷ s) v i h = pick (ltb (digit_of c) 10) h (run_short s (more v (digit_of c)) (i + 1))
   where
     pick : (b : Bool)
         → (cond {A = Run} b (digits_from s (more v (digit_of c)) (i + 1)) (record { value = v; next = i })).next < i + suc (length s)
-        → ((digits_from s (more v (digit_of c)) (i + 1)).next < i + 1 + length s → read_from s (more v (digit_of c)) ≡ none)
-        → cond b (read_from s (more v (digit_of c))) none ≡ none
+        → ((digits_from s (more v (digit_of c)) (i + 1)).next < i + 1 + length s → read_from s (more v (digit_of c)) ≡ None)
+        → cond b (read_from s (more v (digit_of c))) None ≡ None
     pick true h rest = rest (omega (arith, h))
     pick false h rest = refl
 
-upto-none : (most : ℕ) → upto most none ≡ none
-upto-none most = pick (ltb most 0)
-  where
-    pick : (b : Bool) → cond b none none ≡ none
-    pick true = refl
-    pick false = refl
-
-cut : (s : List ℕ) (most : ℕ) → (digits_from s 0 0).next < length s → whole_of s most ≡ none
+cut : (s : List ℕ) (most : ℕ) → (digits_from s 0 0).next < length s → whole_of s most ≡ None
 unfolding whole_of
 cut [] most h = refl
-cut (c ∷ s) most h = ap (upto most) (run_short (c ∷ s) 0 0 (omega (arith, h))) ∙ upto-none most
+cut (c ∷ s) most h = ap (upto most) (run_short (c ∷ s) 0 0 (omega (arith, h)))
 
-ended : (s : List ℕ) (most : ℕ) → 0 < length s → (digits_from s 0 0).next ≡ length s → whole_of s most ≡ upto most (is (digits_from s 0 0).value)
+ended : (s : List ℕ) (most : ℕ) → 0 < length s → (digits_from s 0 0).next ≡ length s → whole_of s most ≡ upto most (Some (digits_from s 0 0).value)
 unfolding whole_of
 ended [] most p e = absurd (omega (arith, p))
 ended (c ∷ s) most p e = ap (upto most) (run-whole (c ∷ s) 0 0 (omega (arith, e)))
 
-empty : (s : List ℕ) (most : ℕ) → length s ≡ 0 → whole_of s most ≡ none
+empty : (s : List ℕ) (most : ℕ) → length s ≡ 0 → whole_of s most ≡ None
 unfolding whole_of
 empty [] most e = refl
 empty (c ∷ s) most e = absurd (omega (arith, e))
@@ -122,26 +98,26 @@ module _ (s : List ℕ) (most : ℕ) (r : Run) (is-run : r ≡ digits_from s 0 0
   place : r.next ≡ (digits_from s 0 0).next
   place = ap (λ (x : Run). x.next) is-run
 
-  pub whole_cut : r.next < length s → none ≡ whole_of s most
+  pub whole_cut : r.next < length s → None ≡ whole_of s most
   whole_cut h = sym (cut s most (omega (arith, place)))
 
-  pub whole_stopped : r.next ≡ 0 → none ≡ whole_of s most
+  pub whole_stopped : r.next ≡ 0 → None ≡ whole_of s most
   whole_stopped h = pick (dec_lt 0 (length s))
     where
-      pick : Dec (0 < length s) → none ≡ whole_of s most
+      pick : Dec (0 < length s) → None ≡ whole_of s most
       pick (yes l) = whole_cut (omega arith)
       pick (no g) = sym (empty s most (omega arith))
 
-  whole_judged : 0 < length s → r.next ≡ length s → (b : Bool) → ltb most r.value ≡ b → cond b none (is r.value) ≡ whole_of s most
+  whole_judged : 0 < length s → r.next ≡ length s → (b : Bool) → ltb most r.value ≡ b → cond b None (Some r.value) ≡ whole_of s most
   whole_judged p e b t =
-      ap (λ (x : Bool). cond x none (is r.value)) (sym t)
-      ∙ ap (λ (x : Run). upto most (is x.value)) is-run
+      ap (λ (x : Bool). cond x None (Some r.value)) (sym t)
+      ∙ ap (λ (x : Run). upto most (Some x.value)) is-run
       ∙ sym (ended s most p (sym place ∙ e))
 
-  pub whole_large : 0 < length s → r.next ≡ length s → most < r.value → none ≡ whole_of s most
+  pub whole_large : 0 < length s → r.next ≡ length s → most < r.value → None ≡ whole_of s most
   whole_large p e h = whole_judged p e true (lt-ltb most r.value h)
 
-  pub whole_fits : 0 < length s → r.next ≡ length s → r.value ≤ most → is r.value ≡ whole_of s most
+  pub whole_fits : 0 < length s → r.next ≡ length s → r.value ≤ most → Some r.value ≡ whole_of s most
   whole_fits p e h = whole_judged p e false (le-ltb most r.value h)
 
 -- ---- digits of base 16
@@ -151,26 +127,26 @@ module _ (s : List ℕ) (i v : ℕ) where
   unfolding hex_from
   hex_more h t =
       ap (λ (l : List ℕ). hex_from l v) (drop-cons s i 0 h)
-      ∙ ap (λ (b : Bool). cond b (hex_from (drop (suc i) s) (v * 16 + digit_of (get_or s i 0))) Bad) t
+      ∙ ap (λ (b : Bool). cond b (hex_from (drop (suc i) s) (v * 16 + digit_of (get_or s i 0))) (Err Bad)) t
       ∙ ap (λ (n : ℕ). hex_from (drop n s) (v * 16 + digit_of (get_or s i 0))) (sym (add-one i))
 
-  pub hex_stop : i < length s → ltb (digit_of (get_or s i 0)) 16 ≡ false → hex_from (drop i s) v ≡ Bad
+  pub hex_stop : i < length s → ltb (digit_of (get_or s i 0)) 16 ≡ false → hex_from (drop i s) v ≡ Err Bad
   unfolding hex_from
   hex_stop h t =
       ap (λ (l : List ℕ). hex_from l v) (drop-cons s i 0 h)
-      ∙ ap (λ (b : Bool). cond b (hex_from (drop (suc i) s) (v * 16 + digit_of (get_or s i 0))) Bad) t
+      ∙ ap (λ (b : Bool). cond b (hex_from (drop (suc i) s) (v * 16 + digit_of (get_or s i 0))) (Err Bad)) t
 
-  pub hex_end : length s ≤ i → hex_from (drop i s) v ≡ Is v
+  pub hex_end : length s ≤ i → hex_from (drop i s) v ≡ Ok v
   unfolding hex_from
   hex_end h = ap (λ (l : List ℕ). hex_from l v) (drop_of_length-le s h)
 
 pub bits_long : (s : List ℕ) → length s ≡ 9 → hex_from (drop 1 s) 0 ≡ bits_of s
 unfolding bits_of
-bits_long s e = sym (ap (λ (b : Bool). cond b (hex_from (drop 1 s) 0) Bad) (eq-eqb (length s) 9 e))
+bits_long s e = sym (ap (λ (b : Bool). cond b (hex_from (drop 1 s) 0) (Err Bad)) (eq-eqb (length s) 9 e))
 
-pub bits_short : (s : List ℕ) → (length s ≡ 9 → ⊥) → Bad ≡ bits_of s
+pub bits_short : (s : List ℕ) → (length s ≡ 9 → ⊥) → Err Bad ≡ bits_of s
 unfolding bits_of
-bits_short s n = sym (ap (λ (b : Bool). cond b (hex_from (drop 1 s) 0) Bad) (ne_eqb (length s) 9 n))
+bits_short s n = sym (ap (λ (b : Bool). cond b (hex_from (drop 1 s) 0) (Err Bad)) (ne_eqb (length s) 9 n))
 
 -- 8 digits have 32 bits
 pub hex_room : (k : ℕ) → k ≤ 8 → 16 ^ k ≤ 4294967296
@@ -225,39 +201,24 @@ room_now v d n w h r =
 pub tail : (n : ℕ) (s : List ℕ) → take (length s - n) (drop n s) ≡ drop n s
 tail n s = take_all (length s - n) (drop n s) (le_of_eq (length-drop n s))
 
--- no exponent
-pub exponent_empty : (s : List ℕ) → length s ≡ 0 → power 0 0 false ≡ exponent_of s
-unfolding whole_of
-exponent_empty [] e = refl
-exponent_empty (c ∷ s) e = absurd (omega arith)
-
 -- a decimal, by its digits d: none; no power of ten behind them; or both
 module _ (word : List ℕ) (at : ℕ) (minus : Bool) (d : Digits) (found : d ≡ digits_of word at) where
-  pub decimal_none : count_of at d ≡ 0 → Bad ≡ decimal_at word at minus
+  pub decimal_none : count_of at d ≡ 0 → Err Bad ≡ decimal_at word at minus
   unfolding decimal_at
   decimal_none e = rw (eq-eqb (count_of at d) 0 e) at (ap (decimal_by word at minus) found)
 
-  decimal_judged : (count_of at d ≡ 0 → ⊥) → (b : Bool) → (power_of word d.next).good ≡ b → cond b (scaled word at minus d (power_of word d.next)) Bad ≡ decimal_at word at minus
+  pub decimal_some : (count_of at d ≡ 0 → ⊥) → powered word at minus d (power_of word d.next) ≡ decimal_at word at minus
   unfolding decimal_at
-  decimal_judged n b t =
-      ap (λ (x : Bool). cond x (scaled word at minus d (power_of word d.next)) Bad) (sym t)
-      ∙ ap (λ (x : Bool). cond x Bad (cond (power_of word d.next).good (scaled word at minus d (power_of word d.next)) Bad)) (sym (ne_eqb (count_of at d) 0 n))
-      ∙ ap (decimal_by word at minus) found
-
-  pub decimal_bad : (count_of at d ≡ 0 → ⊥) → (p : Power) → p ≡ power_of word d.next → p.good ≡ false → Bad ≡ decimal_at word at minus
-  decimal_bad n p e t = decimal_judged n false (ap (λ (q : Power). q.good) (sym e) ∙ t)
-
-  pub decimal_good : (count_of at d ≡ 0 → ⊥) → (p : Power) → p ≡ power_of word d.next → p.good ≡ true → (r : Float) → r ≡ scaled word at minus d p → r ≡ decimal_at word at minus
-  decimal_good n p e t r f = f ∙ ap (scaled word at minus d) e ∙ decimal_judged n true (ap (λ (q : Power). q.good) (sym e) ∙ t)
+  decimal_some n = rw (ne_eqb (count_of at d) 0 n) at (ap (decimal_by word at minus) found)
 
 -- a sign in front of the bits
 pub signed_is : (minus : Bool) (x : ieee.Float) (bits : ℕ) → bits ≡ ieee.to_bits ieee.binary32 x → ieee.to_bits ieee.binary32 (ieee.neg x) ≡ 2147483648 + ieee.to_bits ieee.binary32 x
-    → Is (cond minus (2147483648 + bits) bits) ≡ signed minus x
-signed_is true x bits e n = ap Is (ap (λ (z : ℕ). 2147483648 + z) e ∙ sym n)
-signed_is false x bits e n = ap Is e
+    → Ok (cond minus (2147483648 + bits) bits) ≡ signed minus x
+signed_is true x bits e n = ap Ok (ap (λ (z : ℕ). 2147483648 + z) e ∙ sym n)
+signed_is false x bits e n = ap Ok e
 
 -- an empty word is no float
-pub float_empty : (word : List ℕ) → length word ≡ 0 → Bad ≡ float_of word
+pub float_empty : (word : List ℕ) → length word ≡ 0 → Err Bad ≡ float_of word
 unfolding float_of decimal_at digits_of digits_from
 float_empty [] e = refl
 float_empty (c ∷ word) e = absurd (omega arith)

@@ -1,14 +1,13 @@
 -- `round` by one division: the number of dropped digits, the quotient rounded, and the bits that they give. Assumes nothing.
-use mathlib.Core.Path.{◌≡◌, refl, sym, ap, subst, ◌∙◌}
-use mathlib.Core.Bool.{Bool, true, false, cond, not, true≢false}
-use Prim.Native.Nat.{ℕ, zero, zero-le, suc, ◌+◌, ◌-◌, ◌*◌, ◌/◌, ◌%◌, ◌^◌, ◌<◌, ◌≤◌, compare, Ordering}
+use mathlib.Core.Path.{◌≡◌, refl, sym, ap, ◌∙◌}
+use mathlib.Core.Bool.{Bool, true, false, cond, true≢false}
+use Prim.Native.Nat.{ℕ, zero, zero-le, suc, ◌+◌, ◌-◌, ◌*◌, ◌/◌, ◌%◌, ◌^◌, ◌<◌, ◌≤◌, compare}
 use native.Mathlib.Decide.{dec_lt}
-use native.Mathlib.Nat.{le_trans, le_of_eq, lt_of_lt_of_le, lt_of_le_of_lt, lt_of_not-le, not-le_of_lt, mul_assoc, mul_comm, mul_right_comm, mul-le-mul, mul-le-mul_right, lt_of_mul-lt-mul_right, mul-pos, mul-div_cancel, zero-add, add_assoc, le-div_iff_mul-le, div-lt_iff_lt-mul, add-mul, one-mul, le_of_lt, pow-le-pow_right, div-add-mod', mod-lt}
-use native.Mathlib.Numerals.{add-one}
+use native.Mathlib.Nat.{le_trans, le_of_eq, lt_of_lt_of_le, lt_of_le_of_lt, lt_of_not-le, not-le_of_lt, mul_assoc, mul_comm, mul-le-mul, mul-le-mul_right, lt_of_mul-lt-mul_right, mul-pos, mul-div_cancel, zero-add, add_assoc, le-div_iff_mul-le, div-lt_iff_lt-mul, add-mul, one-mul, le_of_lt, pow-le-pow_right, div-add-mod', mod-lt}
 use native.Mathlib.Omega.{arith}
 use borrow.Author.Tests.{lt-ltb, le-ltb}
 use lib.Arith.{digits_div, digits_mod}
-use lib.Dec.{T, is_le, compare_is_eq, ltb, eqb, leb→le, nleb→lt, eqb→eq, eqb_refl, lit<}
+use lib.Dec.{ltb, lit<}
 use lib.Pow.{pow-add, pow_pos, pow_mono, shl_lt, shl-shr}
 use lib.Ieee.{Float, nan, inf, fin, binary32, up, down, size, nearest, neg, odd, units, round, to_bits}
 use lib.Ieee.Digits.{size-lt, size-le}
@@ -143,18 +142,6 @@ module _ (n den k t whole rest : ℕ) (positive : 0 < den) (is-unit : t ≡ 1677
       ∙ ap (λ (z : ℕ). to_bits binary32 (units binary32 false z k)) quotient
       ∙ units_bits (nearest whole (compare (rest * 2) t)) k rounded_le rounded_ge
 
--- ---- the whole number nearest to a quotient, by how twice the rest a compares with the divisor b
-
-module _ (w a b : ℕ) where
-  by_order : (o : Ordering) → (T (is_le o) → a ≤ b) → (T (not (is_le o)) → b < a) → (T (compare_is_eq o) → a ≡ b) → (a ≡ b → T (compare_is_eq o))
-      → (a < b → w ≡ nearest w o) × (b < a → w + 1 ≡ nearest w o) × (a ≡ b → w + w % 2 ≡ nearest w o)
-  by_order Ordering.lt h k e n = (λ _. refl, λ g. absurd (omega (arith, h tt)), λ q. absurd (n q))
-  by_order Ordering.eq h k e n = (λ g. absurd (omega (arith, e tt)), λ g. absurd (omega (arith, e tt)), λ _. refl)
-  by_order Ordering.gt h k e n = (λ g. absurd (omega (arith, k tt)), λ _. add-one w, λ q. absurd (n q))
-
-  pub nearest_by : (a < b → w ≡ nearest w (compare a b)) × (b < a → w + 1 ≡ nearest w (compare a b)) × (a ≡ b → w + w % 2 ≡ nearest w (compare a b))
-  nearest_by = by_order (compare a b) (leb→le a b) (nleb→lt a b) (eqb→eq a b) (λ (e : a ≡ b). subst (λ (x : ℕ). T (eqb a x)) e (eqb_refl a))
-
 -- ---- the steps of the division
 
 -- a unit in reach is doubled fewer than 512 times
@@ -162,13 +149,6 @@ pub few_doublings : (a k v : ℕ) → 0 < a → v ≡ a * 2 ^ k → v < limit �
 unfolding limit
 few_doublings a k v p e h =
     lt_of_not-le (λ (g : 512 ≤ k). not-le_of_lt h (le_trans (pow_mono g) (le_trans (le_of_eq (sym (one-mul (2 ^ k)))) (le_trans (mul-le-mul_right (2 ^ k) p) (le_of_eq (sym e))))))
-
--- a digit 0, and a digit 1
-pub digit_zero : (u w r : ℕ) → w * 2 * u + (r * 2 + 0) ≡ (w * u + r) * 2
-digit_zero u w r = omega (arith, mul_right_comm w 2 u)
-
-pub digit_one : (u w r s : ℕ) → s + u ≡ r * 2 + 0 → (w * 2 + 1) * u + s ≡ (w * u + r) * 2
-digit_one u w r s f = omega (arith, digit_zero u w r, add-mul (w * 2) 1 u, one-mul u)
 
 -- ---- a decimal: d × 10^up / 10^down
 

@@ -1,9 +1,7 @@
 -- Decimals: the floats that they give. Definitions only.
-use Rattle.std.specs.Prelude.{◌≡◌, false, ℕ, ◌*◌, ◌^◌, ◌≤◌, Float}
+use Rattle.std.specs.Prelude.{◌≡◌, false, Option, Some, None, ℕ, ◌*◌, ◌^◌, ◌≤◌, Float}
 use Rattle.std.specs.Float.{binary32}
 use Rattle.std.specs.Float.Ieee.{round, to_bits}
-use Rattle.decimals.specs.declared.decimal.Decimal.{Decimal}
-use Rattle.decimals.specs.declared.decimal.Decimal.TheVariants.{Is, Nothing}
 
 -- the float nearest to d / 10^k
 unfoldable pub over : ℕ → ℕ → Float
@@ -14,6 +12,6 @@ unfoldable pub nearest_to : ℕ → ℕ → ℕ → Float
 nearest_to d up down = round binary32 false (d * 10 ^ up) (10 ^ down)
 
 -- a decimal that is found for a float has at most 10 places and gives its bits
-abbrev pub Prints : ℕ → Decimal → Type 0
-Prints bits (Is d k) = (k ≤ 10) × (to_bits binary32 (over d k) ≡ bits)
-Prints bits Nothing = Unit {0}
+abbrev pub Prints : ℕ → Option (ℕ × ℕ) → Type 0
+Prints bits None = Unit {0}
+Prints bits (Some d) = (d.1 ≤ 10) × (to_bits binary32 (over d.0 d.1) ≡ bits)

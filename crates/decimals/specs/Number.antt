@@ -1,13 +1,12 @@
 -- Numbers of a text: what a word says as a whole number, and as a float. Definitions only.
-use Rattle.std.specs.Prelude.{Bool, true, false, cond, ◌&&◌, ◌||◌, List, [], ◌∷◌, ℕ, ◌+◌, ◌-◌, ◌*◌, ◌<◌, ◌≤◌, min, ltb, leb, eqb, length, take, drop, get_or}
+use Rattle.std.specs.Prelude.{Bool, true, false, cond, ◌&&◌, ◌||◌, Option, Some, None, Result, Ok, Err, List, [], ◌∷◌, ℕ, ◌+◌, ◌-◌, ◌*◌, ◌<◌, ◌≤◌, min, ltb, leb, eqb, length, take, drop, get_or}
 use Rattle.std.specs.Float.Ieee as ieee
-use Rattle.decimals.specs.declared.number.Float.{Float}
 use Rattle.decimals.specs.Decimal.{nearest_to}
 use Rattle.decimals.specs.declared.number.Digits.{Digits}
-use Rattle.decimals.specs.declared.number.Float.TheVariants.{Is, Bad, Long}
+use Rattle.decimals.specs.declared.number.FloatError.{FloatError}
+use Rattle.decimals.specs.declared.number.FloatError.TheVariants.{Bad, Long}
 use Rattle.decimals.specs.declared.number.Power.{Power}
 use Rattle.decimals.specs.declared.number.Run.{Run}
-use Rattle.decimals.specs.declared.number.Whole.{Whole}
 
 -- a byte from `low` to `high`
 abbrev pub within : ℕ → ℕ → ℕ → Bool
@@ -26,33 +25,28 @@ unfoldable pub digits_from : List ℕ → ℕ → ℕ → Run
 digits_from [] v i = record { value = v; next = i }
 digits_from (c ∷ s) v i = cond (ltb (digit_of c) 10) (digits_from s (more v (digit_of c)) (i + 1)) (record { value = v; next = i })
 
-abbrev pub is : ℕ → Whole
-is v = record { value = v; good = true }
-
-abbrev pub none : Whole
-none = record { value = 0; good = false }
-
 -- decimal digits and nothing else, read after the number v
-unfoldable pub read_from : List ℕ → ℕ → Whole
-read_from [] v = is v
-read_from (c ∷ s) v = cond (ltb (digit_of c) 10) (read_from s (more v (digit_of c))) none
+unfoldable pub read_from : List ℕ → ℕ → Option ℕ
+read_from [] v = Some v
+read_from (c ∷ s) v = cond (ltb (digit_of c) 10) (read_from s (more v (digit_of c))) None
 
-abbrev pub upto : ℕ → Whole → Whole
-upto most w = cond (ltb most w.value) none w
+abbrev pub upto : ℕ → Option ℕ → Option ℕ
+upto most None = None
+upto most (Some v) = cond (ltb most v) None (Some v)
 
 -- the whole number that a word says: one digit or more, and at most `most`
-unfoldable pub whole_of : List ℕ → ℕ → Whole
-whole_of [] most = none
+unfoldable pub whole_of : List ℕ → ℕ → Option ℕ
+whole_of [] most = None
 whole_of (c ∷ s) most = upto most (read_from (c ∷ s) 0)
 
 -- digits of base 16 and nothing else, read after the number v
-unfoldable pub hex_from : List ℕ → ℕ → Float
-hex_from [] v = Is v
-hex_from (c ∷ s) v = cond (ltb (digit_of c) 16) (hex_from s (v * 16 + digit_of c)) Bad
+unfoldable pub hex_from : List ℕ → ℕ → Result ℕ FloatError
+hex_from [] v = Ok v
+hex_from (c ∷ s) v = cond (ltb (digit_of c) 16) (hex_from s (v * 16 + digit_of c)) (Err Bad)
 
 -- a float's bits: 8 digits of base 16 behind the first byte
-unfoldable pub bits_of : List ℕ → Float
-bits_of word = cond (eqb (length word) 9) (hex_from (drop 1 word) 0) Bad
+unfoldable pub bits_of : List ℕ → Result ℕ FloatError
+bits_of word = cond (eqb (length word) 9) (hex_from (drop 1 word) 0) (Err Bad)
 
 -- ---- decimals: 43 is `+`, 45 `-`, 46 the point, 69 `E`, 101 `e`
 
@@ -100,45 +94,50 @@ unfoldable pub all_of : List ℕ → ℕ → Digits → ℕ
 all_of word at d = number_from (part word d.after d.next) (number_from (part word at d.point) 0)
 
 -- the power of ten from a place of a word on: none at the end; or an `e` and a whole number, perhaps with a sign
-abbrev pub power : ℕ → ℕ → Bool → Power
-power up down good = record { up = up; down = down; good = good }
+abbrev pub power : ℕ → ℕ → Power
+power up down = record { up = up; down = down }
 
-abbrev pub upward : Whole → Power
-upward w = power w.value 0 w.good
+abbrev pub upward : Option ℕ → Option Power
+upward None = None
+upward (Some v) = Some (power v 0)
 
-abbrev pub downward : Whole → Power
-downward w = power 0 w.value w.good
+abbrev pub downward : Option ℕ → Option Power
+downward None = None
+downward (Some v) = Some (power 0 v)
 
-abbrev pub exponent_of : List ℕ → Power
+abbrev pub exponent_of : List ℕ → Option Power
 exponent_of s =
     cond (eqb (get_or s 0 0) 45) (downward (whole_of (drop 1 s) 42949672960))
     (upward (whole_of (cond (eqb (get_or s 0 0) 43) (drop 1 s) s) 42949672960))
 
-unfoldable pub power_of : List ℕ → ℕ → Power
+unfoldable pub power_of : List ℕ → ℕ → Option Power
 power_of word at =
-    cond (eqb at (length word)) (power 0 0 true)
-    (cond (eqb (get_or word at 0) 101 || eqb (get_or word at 0) 69) (exponent_of (drop (at + 1) word)) (power 0 0 false))
+    cond (eqb at (length word)) (Some (power 0 0))
+    (cond (eqb (get_or word at 0) 101 || eqb (get_or word at 0) 69) (exponent_of (drop (at + 1) word)) None)
 
 -- a float with a sign in front
-abbrev pub signed : Bool → ieee.Float → Float
-signed minus x = Is (ieee.to_bits ieee.binary32 (cond minus (ieee.neg x) x))
+abbrev pub signed : Bool → ieee.Float → Result ℕ FloatError
+signed minus x = Ok (ieee.to_bits ieee.binary32 (cond minus (ieee.neg x) x))
 
 -- the float nearest to a decimal; with more than 40 digits, or a power of ten that is not from -60 to 60, it is too long
-unfoldable pub scaled : List ℕ → ℕ → Bool → Digits → Power → Float
+unfoldable pub scaled : List ℕ → ℕ → Bool → Digits → Power → Result ℕ FloatError
 scaled word at minus d p =
-    cond (ltb 40 (count_of at d) || ltb 60 p.up || ltb 60 p.down) Long
+    cond (ltb 40 (count_of at d) || ltb 60 p.up || ltb 60 p.down) (Err Long)
     (signed minus (nearest_to (all_of word at d) p.up (d.next - d.after + p.down)))
 
--- the float of the decimal from a place of a word on
-abbrev pub decimal_by : List ℕ → ℕ → Bool → Digits → Float
-decimal_by word at minus d =
-    cond (eqb (count_of at d) 0) Bad (cond (power_of word d.next).good (scaled word at minus d (power_of word d.next)) Bad)
+-- the float of the decimal from a place of a word on, by the power of ten that it ends with
+abbrev pub powered : List ℕ → ℕ → Bool → Digits → Option Power → Result ℕ FloatError
+powered word at minus d None = Err Bad
+powered word at minus d (Some p) = scaled word at minus d p
 
-unfoldable pub decimal_at : List ℕ → ℕ → Bool → Float
+abbrev pub decimal_by : List ℕ → ℕ → Bool → Digits → Result ℕ FloatError
+decimal_by word at minus d = cond (eqb (count_of at d) 0) (Err Bad) (powered word at minus d (power_of word d.next))
+
+unfoldable pub decimal_at : List ℕ → ℕ → Bool → Result ℕ FloatError
 decimal_at word at minus = decimal_by word at minus (digits_of word at)
 
 -- the float that a word says: an `x` and its bits; or a decimal, perhaps with a sign
-unfoldable pub float_of : List ℕ → Float
+unfoldable pub float_of : List ℕ → Result ℕ FloatError
 float_of word =
     cond (eqb (get_or word 0 0) 120 || eqb (get_or word 0 0) 88) (bits_of word)
     (cond (eqb (get_or word 0 0) 45) (decimal_at word 1 true) (cond (eqb (get_or word 0 0) 43) (decimal_at word 1 false) (decimal_at word 0 false)))

@@ -1,24 +1,11 @@
 // Whole numbers below 2^512.
-ghost use Rattle.std.specs.Prelude.{◌≡◌, ◌+◌, ◌*◌, ◌^◌, ◌<◌, ◌≤◌, ltb};
+ghost use Rattle.std.specs.Prelude.{◌≡◌, ◌+◌, ◌*◌, ◌^◌, ◌<◌, MatchOption};
 ghost use Rattle.decimals.specs.Big.{value_of, limit};
 
 // A number in words of 32 bits, the lowest first.
 #[derive(Clone, Copy)]
 pub struct Big {
     pub words: [u32; 16],
-}
-
-// Two numbers compared, and what is left of the first where it is not the less.
-#[derive(Clone, Copy)]
-pub struct Difference {
-    pub rest: Big,
-    pub less: bool,
-}
-
-fn wide(word: u32) -> u64
-    ensures { (result ≡ word) × (result < 2 ^ 32) }
-{
-    word as u64
 }
 
 // A small number.
@@ -36,33 +23,32 @@ pub fn times(a: Big, m: u32, c: u32) -> Big
     ensures { value_of result ≡ value_of a * m + c }
 {
     let mut words = [0u32; 16];
-    let mut carry = wide(c);
-    let mut i = 0;
-    while i < 16 {
-        let sum = wide(a.words[i]) * wide(m) + carry;
+    let mut carry = u64::from(c);
+    // An index: the word read and the word written stand at the same place.
+    for i in 0..16 {
+        let sum = u64::from(a.words[i]) * u64::from(m) + carry;
         words[i] = (sum % 0x1_0000_0000) as u32;
         carry = sum / 0x1_0000_0000;
-        i += 1;
     }
     Big { words }
 }
 
-// a less b.
-pub fn minus(a: Big, b: Big) -> Difference
-    ensures { (result.less ≡ ltb (value_of a) (value_of b)) × (value_of b ≤ value_of a → value_of result.rest + value_of b ≡ value_of a) }
+// a less b, if a is not the less.
+pub fn minus(a: Big, b: Big) -> Option<Big>
+    ensures { MatchOption result (value_of a < value_of b) (λ rest. value_of rest + value_of b ≡ value_of a) }
 {
     let mut words = [0u32; 16];
     let mut borrow: u64 = 0;
-    let mut i = 0;
-    while i < 16 {
-        let left = wide(a.words[i]) + 0x1_0000_0000 - wide(b.words[i]) - borrow;
+    // An index: both words read and the word written stand at the same place.
+    for i in 0..16 {
+        let left = u64::from(a.words[i]) + 0x1_0000_0000 - u64::from(b.words[i]) - borrow;
         words[i] = (left % 0x1_0000_0000) as u32;
         borrow = 1 - left / 0x1_0000_0000;
-        i += 1;
     }
-    Difference {
-        rest: Big { words },
-        less: borrow == 1,
+    if borrow == 0 {
+        Some(Big { words })
+    } else {
+        None
     }
 }
 
@@ -72,10 +58,8 @@ pub fn raised(a: Big, m: u32, k: u32) -> Big
     ensures { value_of result ≡ value_of a * m ^ k }
 {
     let mut made = a;
-    let mut i = 0;
-    while i < k {
+    for _ in 0..k {
         made = times(made, m, 0);
-        i += 1;
     }
     made
 }

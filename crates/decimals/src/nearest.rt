@@ -32,11 +32,10 @@ fn scaled(n: Big, unit: Big) -> Scale
 {
     let mut large = unit;
     let mut k = 0;
-    let mut compared = minus(n, large);
-    while !compared.less {
+    // A while: how often it doubles depends on n.
+    while minus(n, large).is_some() {
         large = times(large, 2, 0);
         k += 1;
-        compared = minus(n, large);
     }
     Scale { unit: large, k }
 }
@@ -47,16 +46,13 @@ fn lengthened(q: Quotient, unit: Big) -> Quotient
     ensures { (result.whole ≤ q.whole * 2 + 1) × (value_of result.rest < value_of unit) × (result.whole * value_of unit + value_of result.rest ≡ (q.whole * value_of unit + value_of q.rest) * 2) }
 {
     let whole = q.whole * 2;
-    let rest = q.rest;
-    let twice = times(rest, 2, 0);
-    let taken = minus(twice, unit);
-    if taken.less {
-        return Quotient { whole, rest: twice };
-    }
-    let left = taken.rest;
-    Quotient {
-        whole: whole + 1,
-        rest: left,
+    let twice = times(q.rest, 2, 0);
+    match minus(twice, unit) {
+        None => Quotient { whole, rest: twice },
+        Some(rest) => Quotient {
+            whole: whole + 1,
+            rest,
+        },
     }
 }
 
@@ -66,10 +62,8 @@ fn divided(n: Big, unit: Big) -> Quotient
     ensures { (result.whole < 2 ^ 24) × (value_of result.rest < value_of unit) × (result.whole * value_of unit + value_of result.rest ≡ value_of n * 2 ^ 24) }
 {
     let mut q = Quotient { whole: 0, rest: n };
-    let mut i: u32 = 0;
-    while i < 24 {
+    for _ in 0..24u32 {
         q = lengthened(q, unit);
-        i += 1;
     }
     q
 }
@@ -80,14 +74,11 @@ fn rounded(q: Quotient, unit: Big) -> u32
     ensures { (result ≤ 2 ^ 24) × (result ≡ nearest q.whole (compare (value_of q.rest * 2) (value_of unit))) }
 {
     let whole = q.whole;
-    let rest = q.rest;
-    let twice = times(rest, 2, 0);
-    let under = minus(twice, unit);
-    if under.less {
+    let twice = times(q.rest, 2, 0);
+    if minus(twice, unit).is_none() {
         return whole;
     }
-    let above = minus(unit, twice);
-    if above.less {
+    if minus(unit, twice).is_none() {
         return whole + 1;
     }
     whole + whole % 2

@@ -55,6 +55,11 @@ pub number_short : (n : ℕ) → length (number n) ≤ 10
 unfolding number
 number_short n = digits_short 10 n
 
+-- one below 10^9 has at most 9
+pub number_below : (n : ℕ) → n < 1000000000 → length (number n) ≤ 9
+unfolding number
+number_below n h = rw (← digits_more 8 n h) (digits_short 9 n)
+
 -- a number below 100 has at most 2 digits
 pub two_digits : (n : ℕ) → n < 100 → length (number n) ≤ 2
 two_digits n h = pick (dec_lt n 10)

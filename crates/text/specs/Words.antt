@@ -1,39 +1,43 @@
 -- Words of a line: what parts them, which is which, and how many there are; and the lines of a text. Definitions only.
-use Rattle.std.specs.Prelude.{Bool, false, cond, not, ◌||◌, List, [], ◌∷◌, ℕ, zero, suc, ◌+◌, eqb, take, drop}
-use Rattle.text.specs.declared.words.Stop.{Stop}
-use Rattle.text.specs.declared.words.Stop.TheVariants.{Byte, Space, Word as OfWord}
-use Rattle.text.specs.declared.words.Word.{Word}
+use Rattle.std.specs.Prelude.{◌≡◌, Bool, false, cond, not, ◌||◌, List, [], ◌∷◌, ℕ, zero, suc, ◌+◌, eqb, take, drop}
+use Rattle.std.specs.declared.ops.Range.{Range}
 
 -- a space, a tab or a carriage return
 abbrev pub is_space : ℕ → Bool
 is_space c = (eqb c 32 || eqb c 9) || eqb c 13
 
--- a byte that is looked for
-abbrev pub stops_at : Stop → ℕ → Bool
-stops_at (Byte b) c = eqb c b
-stops_at Space c = is_space c
-stops_at OfWord c = not (is_space c)
+-- any other byte
+abbrev pub is_word : ℕ → Bool
+is_word c = not (is_space c)
 
--- how many bytes stand before the first that is looked for
-unfoldable pub ahead : Stop → List ℕ → ℕ
-ahead stop [] = 0
-ahead stop (c ∷ s) = cond (stops_at stop c) 0 (suc (ahead stop s))
+-- the byte b
+abbrev pub is_byte : ℕ → ℕ → Bool
+is_byte b c = eqb c b
+
+-- each call answers what p gives
+abbrev pub Tests : (ℕ → Bool → Type 0) → (ℕ → Bool) → Type 0
+Tests post p = (c : ℕ) (r : Bool) → post c r → r ≡ p c
+
+-- how many bytes stand before the first that passes
+unfoldable pub ahead : (ℕ → Bool) → List ℕ → ℕ
+ahead p [] = 0
+ahead p (c ∷ s) = cond (p c) 0 (suc (ahead p s))
 
 -- the first word from a place on: where it starts and where it ends
-abbrev pub word_from : List ℕ → ℕ → Word
-word_from s from = record { from = from; to = from + ahead Space (drop from s) }
+abbrev pub word_from : List ℕ → ℕ → Range ℕ
+word_from s from = record { start = from; end = from + ahead is_space (drop from s) }
 
-unfoldable pub next_word : List ℕ → ℕ → Word
-next_word s at = word_from s (at + ahead OfWord (drop at s))
+unfoldable pub next_word : List ℕ → ℕ → Range ℕ
+next_word s at = word_from s (at + ahead is_word (drop at s))
 
 -- a text without the spaces at its start
 abbrev pub unspaced : List ℕ → List ℕ
-unspaced s = drop (ahead OfWord s) s
+unspaced s = drop (ahead is_word s) s
 
 -- word k of a text, from 0; an empty one where there are fewer
 unfoldable pub word_at : ℕ → List ℕ → List ℕ
-word_at zero s = take (ahead Space (unspaced s)) (unspaced s)
-word_at (suc k) s = word_at k (drop (ahead Space (unspaced s)) (unspaced s))
+word_at zero s = take (ahead is_space (unspaced s)) (unspaced s)
+word_at (suc k) s = word_at k (drop (ahead is_space (unspaced s)) (unspaced s))
 
 -- one more if a byte that is no space starts a word: it follows a space, or nothing
 abbrev pub begins : Bool → Bool → ℕ

@@ -1,17 +1,10 @@
--- What it is to write a text into bytes, and the texts of numbers and lines. Definitions only.
-use Rattle.std.specs.Prelude.{◌≡◌, ℕ, zero, suc, ◌+◌, ◌/◌, ◌%◌, ◌≤◌, cond, List, [], ◌∷◌, ◌++◌, length, take, ltb}
+-- What it is to write behind a text, and the texts of numbers and lines. Definitions only.
+use Rattle.std.specs.Prelude.{◌≡◌, ℕ, zero, suc, ◌+◌, ◌/◌, ◌%◌, ◌≤◌, cond, List, [], ◌∷◌, ◌++◌, length, ltb}
 
--- `text` has been written into the bytes o, from the place at on
-pub record Wrote (o : List ℕ) (at : ℕ) (text o' : List ℕ) (at' : ℕ) : Type 0 where
-  pub size : length o' ≡ length o
-  pub next : at' ≡ at + length text
-  pub fits : at' ≤ length o'
-  pub same : take at' o' ≡ take at o ++ text
-
--- the same, in at most `most` bytes
-pub record WroteUpto (most : ℕ) (o : List ℕ) (at : ℕ) (text o' : List ℕ) (at' : ℕ) : Type 0 where
-  pub wrote : Wrote o at text o' at'
-  pub short : at' ≤ at + most
+-- a text has been written behind `old`, in at most `most` bytes
+pub record Appends (most : ℕ) (old text new : List ℕ) : Type 0 where
+  pub wrote : new ≡ old ++ text
+  pub short : length new ≤ length old + most
 
 -- a number in decimal, in at most d digits
 abbrev pub digits : ℕ → ℕ → List ℕ

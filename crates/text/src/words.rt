@@ -1,61 +1,37 @@
 // Lines and words: places in a text.
-ghost use Rattle.std.specs.Prelude.{◌≡◌, ◌+◌, ◌≤◌, length, drop};
-ghost use Rattle.text.specs.Words.{is_space, stops_at, ahead, next_word, word_at, begins, word_count};
+ghost use Rattle.std.specs.Prelude.{◌≡◌, Bool, ℕ, ◌+◌, ◌≤◌, length, drop};
+ghost use Rattle.std.specs.Iterator.{YieldsFirstRef, item_count};
+ghost use Rattle.text.specs.Words.{Tests, is_byte, is_space, ahead, next_word, word_at, begins, word_count, lines_of};
 
-// What a place is looked for by: a byte, any space, or anything else.
-#[derive(Clone, Copy)]
-pub enum Stop {
-    Byte(u8),
-    Space,
-    Word,
-}
-
-// A word of a line: where it starts and where it ends.
-#[derive(Clone, Copy)]
-pub struct Word {
-    pub from: usize,
-    pub to: usize,
-}
+use std::ops::Range;
 
 fn is_space(byte: u8) -> bool
     ensures { result ≡ is_space byte }
 {
-    ((byte == b' ') | (byte == b'\t')) | (byte == b'\r')
+    matches!(byte, b' ' | b'\t' | b'\r')
 }
 
-fn stops(byte: u8, stop: Stop) -> bool
-    ensures { result ≡ stops_at stop byte }
+// The first place from `at` on whose byte passes a test; the end if there is none.
+pub fn find<F: Fn(u8) -> bool>(s: &[u8], at: usize, stop: F) -> usize
+    requires bounds { at ≤ length s.now }
+    requires callable { F.IsAlwaysCallable stop }
+    ensures bounds { (at ≤ result) × (result ≤ length s.now) }
+    ensures first { (p : ℕ → Bool) → Tests (F.post stop) p → result ≡ at + ahead p (drop at s.now) }
 {
-    match stop {
-        Stop::Byte(b) => byte == b,
-        Stop::Space => is_space(byte),
-        Stop::Word => !is_space(byte),
-    }
-}
-
-// The first place from `at` on that is looked for; the end if there is none.
-pub fn find(s: &[u8], at: usize, stop: Stop) -> usize
-    requires { at ≤ length s.now }
-    ensures { (at ≤ result) × (result ≤ length s.now) × (result ≡ at + ahead stop (drop at s.now)) }
-{
-    let mut i = at;
-    while i < s.len() {
-        if stops(s[i], stop) {
-            return i;
-        }
-        i += 1;
-    }
-    i
+    s[at..]
+        .iter()
+        .position(|byte| stop(*byte))
+        .map_or(s.len(), |k| at + k)
 }
 
 // The first word from `at` on; an empty one where there is none.
-pub fn next_word(s: &[u8], at: usize) -> Word
+pub fn next_word(s: &[u8], at: usize) -> Range<usize>
     requires { at ≤ length s.now }
-    ensures { (at ≤ result.from) × (result.from ≤ result.to) × (result.to ≤ length s.now) × (result ≡ next_word s.now at) }
+    ensures { (at ≤ result.start) × (result.start ≤ result.end) × (result.end ≤ length s.now) × (result ≡ next_word s.now at) }
 {
-    let from = find(s, at, Stop::Word);
-    let to = find(s, from, Stop::Space);
-    Word { from, to }
+    let from = find(s, at, |byte| !is_space(byte));
+    let to = find(s, from, is_space);
+    from..to
 }
 
 // Word k of a line, from 0; an empty one where there are fewer.
@@ -63,23 +39,19 @@ pub fn word_at(line: &[u8], k: usize) -> &[u8]
     ensures { result.now ≡ word_at k line.now }
 {
     let mut at = 0;
-    let mut i = 0;
-    while i < k {
+    for _ in 0..k {
         let passed = next_word(line, at);
-        at = passed.to;
-        i += 1;
+        at = passed.end;
     }
     let found = next_word(line, at);
-    let from = found.from;
-    let to = found.to;
-    &line[from..to]
+    &line[found]
 }
 
 // One more if a byte that is no space starts a word.
 fn begins(inside: bool, space: bool) -> usize
     ensures { (result ≡ begins inside space) × (result ≤ 1) }
 {
-    if inside | space { 0 } else { 1 }
+    usize::from(!(inside | space))
 }
 
 // How many words a line has.
@@ -88,12 +60,43 @@ pub fn word_count(line: &[u8]) -> usize
 {
     let mut count = 0;
     let mut inside = false;
-    let mut i = 0;
-    while i < line.len() {
-        let space = is_space(line[i]);
+    for byte in line {
+        let space = is_space(*byte);
         count += begins(inside, space);
         inside = !space;
-        i += 1;
     }
     count
+}
+
+// The lines of a text, each without its line feed.
+#[derive(Clone, Copy)]
+pub struct Lines<'a> {
+    pub rest: &'a [u8],
+}
+
+impl<'a> Lines<'a> {
+    pub fn new(text: &'a [u8]) -> Self
+        ensures { result.rest.now ≡ text.now }
+    {
+        Lines { rest: text }
+    }
+}
+
+impl<'a> Iterator for Lines<'a> {
+    type Item = &'a [u8];
+
+    ghost next_gives = { YieldsFirstRef (λ s. lines_of s.rest.now) };
+
+    ghost remaining = { item_count (λ s. lines_of s.rest.now) };
+
+    fn next(&mut self) -> Option<&'a [u8]> {
+        if self.rest.is_empty() {
+            return None;
+        }
+        let rest = self.rest;
+        let end = find(rest, 0, |byte| byte == b'\n');
+        let next = (end + 1).min(rest.len());
+        self.rest = &rest[next..];
+        Some(&rest[..end])
+    }
 }

@@ -1,66 +1,91 @@
-// Text written: each function writes into `out` from the place `at` on, and returns the place after
-// what it wrote.
-ghost use Rattle.std.specs.Prelude.{[], ◌∷◌, ◌+◌, ◌<◌, ◌≤◌, length};
-ghost use Rattle.text.specs.Written.{Wrote, WroteUpto, number, spaced, pair};
+// Text written: a buffer that fills from its start.
+ghost use Rattle.std.specs.Prelude.{◌≡◌, List, [], ◌∷◌, ◌++◌, ℕ, ◌+◌, ◌<◌, ◌≤◌, length, take};
+ghost use Rattle.text.specs.Written.{Appends, number, spaced, pair};
 
-pub fn put(out: &mut [u8], at: usize, byte: u8) -> usize
-    requires { at < length out.old }
-    ensures { Wrote out.old at (byte ∷ []) out.new result }
-{
-    out[at] = byte;
-    at + 1
+use std::marker::Model;
+
+// A text of at most N bytes, which lie in the value itself.
+#[derive(Drop)]
+pub struct Text<const N: usize> {
+    bytes: [u8; N],
+    len: usize,
 }
 
-pub fn put_word(out: &mut [u8], at: usize, word: &[u8]) -> usize
-    requires { at + length word.now ≤ length out.old }
-    ensures { Wrote out.old at word.now out.new result }
-{
-    let mut n = at;
-    let mut i = 0;
-    while i < word.len() {
-        n = put(out, n, word[i]);
-        i += 1;
+// Clauses see the bytes that are written.
+impl<const N: usize> Model for Text<N> {
+    ghost Value = { List ℕ };
+
+    ghost view = { λ t. take t.len t.bytes };
+
+    ghost invariant = { λ t. t.len ≤ N };
+}
+
+impl<const N: usize> Text<N> {
+    pub fn new() -> Self
+        ensures { result ≡ [] }
+    {
+        Text {
+            bytes: [0; N],
+            len: 0,
+        }
     }
-    n
-}
 
-// A number in decimal: the digits before the last, then the last.
-pub fn put_number(out: &mut [u8], at: usize, v: u32) -> usize
-    requires { at + 10 ≤ length out.old }
-    ensures { WroteUpto 10 out.old at (number v) out.new result }
-{
-    if v < 10 {
-        return put(out, at, (48 + v) as u8);
+    pub fn as_bytes(&self) -> &[u8]
+        ensures { result.now ≡ self.now }
+    {
+        &self.bytes[..self.len]
     }
-    let n = put_number(out, at, v / 10);
-    put(out, n, (48 + v % 10) as u8)
-}
 
-// A space and a number.
-pub fn put_spaced(out: &mut [u8], at: usize, v: u32) -> usize
-    requires { at + 11 ≤ length out.old }
-    ensures { WroteUpto 11 out.old at (spaced v) out.new result }
-{
-    let n = put(out, at, b' ');
-    put_number(out, n, v)
-}
+    pub fn push(&mut self, byte: u8)
+        requires { length self.old < N }
+        ensures text { self.new ≡ self.old ++ byte ∷ [] }
+        ensures len { length self.new ≡ length self.old + 1 }
+    {
+        self.bytes[self.len] = byte;
+        self.len += 1;
+    }
 
-// Two numbers, with words before, between and after them.
-pub fn put_pair(
-    out: &mut [u8],
-    at: usize,
-    first: &[u8],
-    a: u32,
-    between: &[u8],
-    b: u32,
-    last: &[u8],
-) -> usize
-    requires { at + length first.now + length between.now + length last.now + 20 ≤ length out.old }
-    ensures { WroteUpto (length first.now + length between.now + length last.now + 20) out.old at (pair first.now a between.now b last.now) out.new result }
-{
-    let n = put_word(out, at, first);
-    let m = put_number(out, n, a);
-    let k = put_word(out, m, between);
-    let l = put_number(out, k, b);
-    put_word(out, l, last)
+    pub fn push_word(&mut self, word: &[u8])
+        requires { length self.old + length word.now ≤ N }
+        ensures text { self.new ≡ self.old ++ word.now }
+        ensures len { length self.new ≡ length self.old + length word.now }
+    {
+        let end = self.len + word.len();
+        let bytes = &mut self.bytes[..];
+        bytes[self.len..end].copy_from_slice(word);
+        self.len = end;
+    }
+
+    // A number in decimal: the digits before the last, then the last.
+    pub fn push_number(&mut self, v: u32)
+        requires { length self.old + 10 ≤ N }
+        ensures { Appends 10 self.old (number v) self.new }
+    {
+        if v < 10 {
+            return self.push((48 + v) as u8);
+        }
+        self.push_number(v / 10);
+        self.push((48 + v % 10) as u8);
+    }
+
+    // A space and a number.
+    pub fn push_spaced(&mut self, v: u32)
+        requires { length self.old + 11 ≤ N }
+        ensures { Appends 11 self.old (spaced v) self.new }
+    {
+        self.push(b' ');
+        self.push_number(v);
+    }
+
+    // Two numbers, with words before, between and after them.
+    pub fn push_pair(&mut self, first: &[u8], a: u32, between: &[u8], b: u32, last: &[u8])
+        requires { length self.old + length first.now + length between.now + length last.now + 20 ≤ N }
+        ensures { Appends (length first.now + length between.now + length last.now + 20) self.old (pair first.now a between.now b last.now) self.new }
+    {
+        self.push_word(first);
+        self.push_number(a);
+        self.push_word(between);
+        self.push_number(b);
+        self.push_word(last);
+    }
 }

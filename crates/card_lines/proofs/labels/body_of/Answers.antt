@@ -1,12 +1,18 @@
 -- `card_lines::labels::body_of` meets its contract. Assumes nothing.
-use mathlib.Core.Path.{ap, ◌∙◌}
-use Prim.Native.Nat.{ℕ}
-use lib.ListN.{drop}
-use Rattle.card_lines.specs.Labels.{body_of}
-use Rattle.card_lines.proofs.Labelling.{from_place}
+use Rattle.std.proofs.Common.{sym, ap, ◌∙◌}
+use Rattle.decimals.proofs.Reading.{tail}
+use Rattle.card_lines.specs.Labels.{body_of, is_label}
 use Rattle.card_lines.proofs.labels.body_of.Goals as goal
+
+pub returns-then-not-is_label : goal.returns-then-not-is_label
+unfolding body_of
+returns-then-not-is_label c =
+    let e = sym (ap is_label c.word_at.ensures) ∙ sym c.is_label.ensures ∙ c.if-not-is_label.true in
+    rw e
 
 pub returns : goal.returns
 unfolding body_of
-returns c = let line = c.args.line.now in
-    from_place c.body_start-from.result line ∙ ap (λ (n : ℕ). drop n line) c.body_start-from.ensures.1
+returns c =
+    let e = sym (ap is_label c.word_at.ensures) ∙ sym c.is_label.ensures ∙ c.if-not-is_label.false in
+    let t = tail c.next_word-passed.result.end c.args.line.now in
+    rw e (cc)

@@ -1,57 +1,54 @@
--- `card_lines::labels::node_named` meets its contract. The loop's invariant: the node looked for is the one that the lines from `start` on give,
--- behind k nodes. Assumes nothing.
-use mathlib.Core.Path.{◌≡◌, refl, sym, ap, ◌∙◌}
-use mathlib.Core.Bool.{Bool, true}
-use mathlib.Core.List.{List}
-use Prim.Native.Nat.{ℕ, ◌+◌, ◌-◌, min}
-use native.Mathlib.Omega.{arith}
-use borrow.Author.Rules.{rules}
-use lib.ListN.{length, take, drop}
+-- `card_lines::labels::node_named` meets its contract. The loop's invariant: the node looked for is the one that the lines left give, behind k
+-- nodes. Assumes nothing.
+use Rattle.std.proofs.Common.{◌≡◌, sym, ap, ◌∙◌, true, false, ℕ, ◌+◌, ◌<◌, length, List, Some, Result, Ok, Err, arith}
+use Rattle.std.specs.Prelude.{OkIff}
+use Rattle.std.specs.Result.{result_ok}
+use borrow.Author.Tests.{lt-ltb, le-ltb}
 use Rattle.decimals.specs.Number.{upto}
 use Rattle.text.specs.Words.{lines_of}
-use Rattle.text.proofs.Finding.{line_here, no_line}
+use Rattle.text.proofs.Finding.{lines_few}
 use Rattle.card_lines.specs.Names.{alike}
 use Rattle.card_lines.specs.Labels.{bare, label_of, nodes_in, node_named}
-use Rattle.card_lines.proofs.Naming.{alike_by}
 use Rattle.card_lines.proofs.Labelling.{named_here, named_on, named_none}
 use Rattle.card_lines.proofs.labels.node_named.Goals as goal
 
--- the test, as the definition has it
-told : (r : Bool) (label bared line name : List ℕ) → (r ≡ true → label ≡ name) × (label ≡ name → r ≡ true) → label ≡ label_of bared → bared ≡ bare line
-    → r ≡ alike (label_of (bare line)) name
-told r label bared line name h e f = alike_by r label name h ∙ ap (λ (w : List ℕ). alike w name) (e ∙ ap label_of f)
+-- a node's number, if it is one
+placed : {E : Type 0} (r : Result ℕ E) (k : ℕ) → OkIff r (k < 65536) k → result_ok r ≡ upto 65535 (Some k)
+placed (Ok x) k m = rw (le-ltb 65535 k (omega (arith, m.0))) (ap Some m.1)
+placed (Err e) k m = rw (lt-ltb 65535 k (omega (arith, m)))
 
-pub returns-then-same : goal.returns-then-same
-returns-then-same c =
-    let a = c.args in
-    let text = a.text.now in
-    let start = c.loop-start.start in
-    let end = c.find-end.result in
-    let line = take (end - start) (drop start text) in
-    let next = min (end + 1) (length text) in
-    let here = line_here text start end next (omega arith) c.find-end.ensures.2 refl in
-    let first = named_here a.name.now c.loop-start.k line (lines_of (drop next text)) (sym (told _ _ _ line a.name.now c.same.ensures c.label_of.ensures c.bare-line.ensures) ∙ c.if-same.true) ∙ ap (node_named a.name.now c.loop-start.k) (sym here) ∙ c.loop-start.invariant.2 in
-    (c.place.ensures.0, c.place.ensures.1 ∙ ap (upto 65535) first)
+pub loop-line-init : goal.loop-line-init
+loop-line-init c =
+    let all : lines_of c.into_iter-line-iterator.result.rest.now ≡ lines_of c.args.text.now = cc in
+    (omega (arith, ap (λ (ls : List (List ℕ)). length ls) all), ap (node_named c.args.name.now 0) all)
 
-pub loop-start-preserved : goal.loop-start-preserved
-loop-start-preserved c =
-    let a = c.args in
-    let text = a.text.now in
-    let start = c.loop-start.start in
-    let end = c.find-end.result in
-    let line = take (end - start) (drop start text) in
-    let next = c.line_after-start.result in
-    let here = line_here text start end next (omega arith) c.find-end.ensures.2 c.line_after-start.ensures in
-    let nodes = c.nodes_in-k.ensures.1 ∙ ap nodes_in c.bare-line.ensures in (
-      search rules,
-      search rules,
-      ap (λ (n : ℕ). node_named a.name.now (c.loop-start.k + n) (lines_of (drop next text))) nodes
-          ∙ named_on a.name.now c.loop-start.k line (lines_of (drop next text)) (sym (told _ _ _ line a.name.now c.same.ensures c.label_of.ensures c.bare-line.ensures) ∙ c.if-same.false)
-          ∙ ap (node_named a.name.now c.loop-start.k) (sym here)
-          ∙ c.loop-start.invariant.2,
+pub overflow_add-k : goal.overflow_add-k
+overflow_add-k c =
+    let steps = c.in-Some.ensures.steps in
+    omega (arith, ap (λ (ls : List (List ℕ)). length ls) steps, c.nodes_in-k.ensures.0, c.loop-line.invariant.0, lines_few c.args.text.now)
+
+pub returns-then-eq : goal.returns-then-eq
+returns-then-eq c =
+    let name = c.args.name.now in
+    let k = c.loop-line.k in
+    let line = c.in-Some.line.now in
+    let same : alike (label_of (bare line)) name ≡ true = cc in
+    c.ok.ensures.value
+    ∙ placed c.try_from.result k c.try_from.ensures
+    ∙ ap (upto 65535) (named_here name k line _ same ∙ ap (node_named name k) (sym c.in-Some.ensures.steps) ∙ c.loop-line.invariant.1)
+
+pub loop-line-preserved : goal.loop-line-preserved
+loop-line-preserved c =
+    let name = c.args.name.now in
+    let k = c.loop-line.k in
+    let line = c.in-Some.line.now in
+    let steps = c.in-Some.ensures.steps in
+    let other : alike (label_of (bare line)) name ≡ false = cc in
+    let nodes : c.nodes_in-k.result ≡ nodes_in (bare line) = cc in (
+      omega (arith, ap (λ (ls : List (List ℕ)). length ls) steps, c.nodes_in-k.ensures.0, c.loop-line.invariant.0),
+      ap (λ (n : ℕ). node_named name (k + n) (lines_of c.next.new.self.rest.now)) nodes ∙ named_on name k line _ other ∙ ap (node_named name k) (sym steps) ∙ c.loop-line.invariant.1,
     )
 
 pub returns : goal.returns
 returns c =
-    let a = c.args in
-    (omega arith, ap (upto 65535) (named_none a.name.now c.loop-start.k (lines_of (drop c.loop-start.start a.text.now)) (no_line a.text.now c.loop-start.start (omega arith)) ∙ c.loop-start.invariant.2))
+    ap (upto 65535) (named_none c.args.name.now c.loop-line.k _ c.in-None.ensures.steps.0 ∙ c.loop-line.invariant.1)

@@ -1,15 +1,15 @@
 -- `card_lines::labels::nodes_in` meets its contract. Assumes nothing.
-use mathlib.Core.Path.{sym, ap, ◌∙◌}
-use native.Mathlib.Omega.{arith}
-use Rattle.text.specs.Words.{word_at}
-use Rattle.card_lines.specs.Names.{names, place_in, is_node}
+use Rattle.std.proofs.Common.{◌≡◌, refl, ap, ◌∙◌, ◌≤◌, Bool, true, false, cond, arith}
+use mir.Val.{bool_byte}
 use Rattle.card_lines.specs.Labels.{nodes_in}
 use Rattle.card_lines.proofs.labels.nodes_in.Goals as goal
 
-pub returns-then-is_node : goal.returns-then-is_node
-unfolding nodes_in
-returns-then-is_node c = (omega arith, rw (sym (c.is_node.ensures ∙ ap is_node (c.named.ensures.1 ∙ ap (place_in names) (c.word_at.ensures ∙ ap (word_at 0) c.body_of.ensures))) ∙ c.if-is_node.true))
+byte_of : (b : Bool) → (bool_byte b ≤ 1) × (bool_byte b ≡ cond b 1 0)
+byte_of true = (omega arith, refl)
+byte_of false = (omega arith, refl)
 
-pub returns-else-is_node : goal.returns-else-is_node
+pub returns : goal.returns
 unfolding nodes_in
-returns-else-is_node c = (omega arith, rw (sym (c.is_node.ensures ∙ ap is_node (c.named.ensures.1 ∙ ap (place_in names) (c.word_at.ensures ∙ ap (word_at 0) c.body_of.ensures))) ∙ c.if-is_node.false))
+returns c =
+    let byte = byte_of c.is_node.result in
+    (omega (arith, byte.0, c.from.ensures), c.from.ensures ∙ byte.1 ∙ ap (λ (b : Bool). cond b 1 0) (cc))

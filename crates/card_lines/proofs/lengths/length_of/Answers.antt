@@ -1,27 +1,34 @@
--- `card_lines::lengths::length_of` meets its contract. Assumes nothing.
-use mathlib.Core.Path.{sym, ap, ◌∙◌}
-use Prim.Native.Nat.{ℕ}
-use lib.ListN.{take}
-use lib.Seq.{length-take-le}
+-- `card_lines::lengths::length_of` meets its contract: milliseconds before `ms`, or samples. Assumes nothing.
+use Rattle.std.proofs.Common.{◌≡◌, refl, ap, ◌∙◌, ℕ, Option, Some, None}
+use Rattle.std.specs.Prelude.{ok_or}
 use Rattle.decimals.specs.Number.{float_of}
-use Rattle.card_lines.specs.Lengths.{ms_length, whole_length, length_of}
+use Rattle.card_lines.specs.declared.reason.Reason.TheVariants as reason
+use Rattle.card_lines.specs.Lengths.{length_by, whole_length, length_of}
+use Rattle.card_lines.proofs.Reasons.{handed_on}
 use Rattle.card_lines.proofs.lengths.length_of.Goals as goal
 
-pub slice_bounds-float_of-end : goal.slice_bounds-float_of-end
-slice_bounds-float_of-end c = sym (length-take-le _ _ c.before_ms-end.ensures.1)
+in_range : (o : Option ℕ) → ok_or o reason.Range ≡ length_by o
+in_range None = refl
+in_range (Some n) = refl
 
-pub returns-then-in_ms : goal.returns-then-in_ms
+pub returns-in_err-ms : goal.returns-in_err-ms
 unfolding length_of
-returns-then-in_ms c = let a = c.args in
-    rw (sym c.in_ms.ensures ∙ c.if-in_ms.true)
-    (c.ms_length.ensures ∙ ap (ms_length a.t) (c.float_of.ensures ∙ ap (λ (n : ℕ). float_of (take n a.word.now)) c.before_ms-end.ensures.0))
+returns-in_err-ms c =
+    let ms = c.in-Some.ensures.cases in
+    let read = c.in_err-ms.ensures ∙ ap float_of ms.1 in
+    rw (ms.0, ← read) (handed_on c.from_residual.result _ c.from_residual.ensures)
 
-pub returns-then-whole : goal.returns-then-whole
+pub returns-in-Some : goal.returns-in-Some
 unfolding length_of
-returns-then-whole c = let whole = c.whole_of-whole in
-    rw (sym c.in_ms.ensures ∙ c.if-in_ms.false) (rw c.if-whole.true at (ap whole_length whole.ensures.1))
+returns-in-Some c =
+    let ms = c.in-Some.ensures.cases in
+    let read = c.in_ok-ms.ensures ∙ ap float_of ms.1 in
+    rw (ms.0, ← read) (c.ok_or.ensures.value ∙ in_range c.samples_of.result ∙ ap length_by c.samples_of.ensures)
 
-pub returns-else-whole : goal.returns-else-whole
+pub returns-in_default-whole_of : goal.returns-in_default-whole_of
 unfolding length_of
-returns-else-whole c = let whole = c.whole_of-whole in
-    rw (sym c.in_ms.ensures ∙ c.if-in_ms.false) (rw c.if-whole.false at (ap whole_length whole.ensures.1))
+returns-in_default-whole_of c = rw (c.in_default.ensures.cases) (ap whole_length c.in_default-whole_of.ensures.1)
+
+pub returns : goal.returns
+unfolding length_of
+returns c = rw (c.in_default.ensures.cases) (ap whole_length c.in-Some-whole_of.ensures.1)

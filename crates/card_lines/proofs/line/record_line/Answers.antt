@@ -1,16 +1,15 @@
--- `card_lines::line::record_line` meets its contract, by the name's place. Assumes nothing.
-use borrow.Author.Tests.{eq-eqb, ne_eqb}
+-- `card_lines::line::record_line` meets its contract, by the name. Assumes nothing.
 use Rattle.card_lines.specs.Line.{record_line}
 use Rattle.card_lines.proofs.line.record_line.Goals as goal
 
-pub returns-then-t-eq-HEAD : goal.returns-then-t-eq-HEAD
+pub returns-in-Head : goal.returns-in-Head
 unfolding record_line
-returns-then-t-eq-HEAD c = rw (eq-eqb _ 0 c.if-t-eq-HEAD.true) c.head_line.ensures
+returns-in-Head c = rw c.in-Head.is c.head_line.ensures
 
-pub returns-then-t-eq-WIRE : goal.returns-then-t-eq-WIRE
+pub returns-in-Node : goal.returns-in-Node
 unfolding record_line
-returns-then-t-eq-WIRE c = rw (ne_eqb _ 0 c.if-t-eq-HEAD.false, eq-eqb _ 11 c.if-t-eq-WIRE.true) c.wire_line.ensures
+returns-in-Node c = rw c.in-Node.is c.node_line.ensures
 
-pub returns : goal.returns
+pub returns-in-Wire : goal.returns-in-Wire
 unfolding record_line
-returns c = rw (ne_eqb _ 0 c.if-t-eq-HEAD.false, ne_eqb _ 11 c.if-t-eq-WIRE.false) c.node_line.ensures
+returns-in-Wire c = rw c.in-Wire.is c.wire_line.ensures

@@ -6,7 +6,7 @@ use lib.ListN.{drop}
 use lib.Seq.{sets}
 use Rattle.text.specs.Words.{lines_of}
 use Rattle.cards.specs.Board.{lines_say}
-use Rattle.card_lines.proofs.Labelling.{from_place}
+use Rattle.decimals.proofs.Reading.{tail}
 use Rattle.cards.proofs.board.board_of.Goals as goal
 
 pub returns : goal.returns
@@ -15,7 +15,7 @@ returns c =
     let text = a.text.now in
     let mark = c.mark_length-from in
     let said = c.lines_board.ensures in
-    let e = from_place mark.result text ∙ ap (λ (n : ℕ). drop n text) mark.ensures.1 in
+    let e = tail mark.result text ∙ ap (λ (n : ℕ). drop n text) mark.ensures.1 in
     record {
       within = said.within;
       answered = said.answered ∙ ap (λ (t : List ℕ). (lines_say (lines_of t)).made) e;

@@ -1,51 +1,70 @@
 -- `cards::board::lines_board` meets its contract. The loop's invariant: what is written for the lines so far, after which the other lines say
 -- what the card says. Assumes nothing.
-use mathlib.Core.Path.{refl, sym, subst, ◌∙◌}
-use Prim.Native.Nat.{◌≤◌, ◌+◌, ◌-◌, min}
+use mathlib.Core.Path.{◌≡◌, refl, sym, ap, subst, ◌∙◌}
+use Prim.Native.Nat.{ℕ, ◌≤◌, ◌+◌}
 use native.Mathlib.Omega.{arith}
 use borrow.Author.Rules.{rules}
-use lib.ListN.{length, take, drop}
+use mathlib.Core.List.{List}
+use mathlib.Core.Logic.{inl}
+use Rattle.std.specs.Prelude.{Err}
+use Rattle.cards.specs.declared.board.Wrong.TheVariants.{Bad}
+use lib.ListN.{length}
 use Rattle.text.specs.Words.{lines_of}
-use Rattle.text.proofs.Finding.{line_here}
+use Rattle.text.proofs.Finding.{lines_few}
 use Rattle.card_lines.specs.Line.{said_of}
 use Rattle.cards.specs.Adding.{Stepped}
-use Rattle.cards.proofs.Making.{adds-line, partly_start, partly_on, partly_bad, partly_answer, partly_bytes}
+use Rattle.cards.specs.Board.{written}
+use Rattle.cards.proofs.Making.{Partly, adds-line, partly_start, partly_on, partly_bad, partly_answer, partly_bytes}
 use Rattle.cards.proofs.board.lines_board.Goals as goal
 
-pub loop-start-init : goal.loop-start-init
-loop-start-init c =
+pub loop-i-init : goal.loop-i-init
+loop-i-init c =
     let a = c.args in
-    (search rules, search rules, search rules, record { few_nodes = omega arith; few_wires = omega arith; sum = omega arith }, partly_start a.text.now a.out.now)
+    let text = a.text.now in
+    let zero : c.into_iter-i-iterator.result.count ≡ 0 = cc in
+    let all : lines_of c.into_iter-i-iterator.result.iter.rest.now ≡ lines_of text = cc in
+    let size = ap (λ (ls : List (List ℕ)). length ls) all in (
+      (tt, tt, inl (omega (arith, zero, size, lines_few text))),
+      tt,
+      omega (arith, zero, size),
+      refl,
+      record { few_nodes = omega arith; few_wires = omega arith; sum = omega arith },
+      subst (λ (n : ℕ). Partly text a.out.now a.out.now (written 0 0 0) n (lines_of c.into_iter-i-iterator.result.iter.rest.now)) (sym zero) (partly_start text a.out.now _ all),
+    )
 
-pub returns-in-Bad : goal.returns-in-Bad
-returns-in-Bad c =
+pub loop-i-preserved : goal.loop-i-preserved
+loop-i-preserved c =
+    let at = c.loop-i in
+    let steps = c.in-Some.ensures.steps in
     let text = c.args.text.now in
-    let at = c.loop-start in
-    let found = c.find-end in
-    let line = take (found.result - at.start) (drop at.start text) in
-    let added = adds-line (said_of (lines_of text) at.done.nodes line) _ (sym c.said.ensures) c.add_line.ensures in
-    let next = min (found.result + 1) (length text) in
-    let bad = partly_bad at.invariant.4 line next (line_here text at.start found.result next (omega arith) found.ensures.2 refl) added _ c.in-Bad.is in
-    record { within = tt; answered = bad.0; bytes = bad.1 }
+    let added = adds-line (said_of (lines_of text) at.done.nodes c.in-Some.line.now) _ (sym c.said.ensures) c.add_line.ensures in
+    let on = partly_on at.invariant.5 c.in-Some.line.now _ steps.0 added _ c.in-Ok.is in
+    let size = ap (λ (ls : List (List ℕ)). length ls) steps.0 in (
+      (tt, tt, inl (omega (arith, size, steps.2, at.invariant.2, lines_few text))),
+      tt,
+      omega (arith, size, steps.2, at.invariant.2),
+      search rules,
+      subst Stepped c.in-Ok.is added.room,
+      subst (λ (n : ℕ). Partly text c.args.out.now c.add_line.new.out c.in-Ok.next n (lines_of c.next.new.self.iter.rest.now)) (sym steps.2) on,
+    )
 
-pub loop-start-preserved : goal.loop-start-preserved
-loop-start-preserved c =
+pub returns-in-Err : goal.returns-in-Err
+returns-in-Err c =
+    let at = c.loop-i in
+    let steps = c.in-Some.ensures.steps in
     let text = c.args.text.now in
-    let at = c.loop-start in
-    let found = c.find-end in
-    let line = take (found.result - at.start) (drop at.start text) in
-    let added = adds-line (said_of (lines_of text) at.done.nodes line) _ (sym c.said.ensures) c.add_line.ensures in
-    let next = c.line_after-start in
-    let here = line_here text at.start found.result next.result (omega arith) found.ensures.2 next.ensures in
-    (search rules, search rules, search rules, subst Stepped c.in-On.is added.room, partly_on at.invariant.4 line next.result here added _ c.in-On.is)
+    let added = adds-line (said_of (lines_of text) at.done.nodes c.in-Some.line.now) _ (sym c.said.ensures) c.add_line.ensures in
+    let bad = partly_bad at.invariant.5 c.in-Some.line.now _ steps.0 added _ c.in-Err.is in
+    record { within = tt; answered = ap (λ (i : ℕ). Err (Bad (i + 1) c.in-Err.reason)) steps.1 ∙ bad.0; bytes = bad.1 }
 
 pub returns : goal.returns
 returns c =
-    let at = c.loop-start in
+    let at = c.loop-i in
     let judged = c.judged.ensures in
-    let fits : at.done.at ≤ length c.args.out.now = omega (arith, at.invariant.3.few_nodes, at.invariant.3.few_wires, at.invariant.3.sum) in
+    let past = c.in-None.ensures.steps in
+    let fits : at.done.at ≤ length c.args.out.now = omega (arith, at.invariant.4.few_nodes, at.invariant.4.few_wires, at.invariant.4.sum) in
     record {
       within = judged.within;
-      answered = judged.answered ∙ partly_answer at.invariant.4 (omega arith) fits judged.bytes;
-      bytes = partly_bytes at.invariant.4 (omega arith) fits judged.bytes;
+      answered = judged.answered ∙ partly_answer at.invariant.5 past.0.0 fits judged.bytes;
+      bytes = partly_bytes at.invariant.5 past.0.0 fits judged.bytes;
     }

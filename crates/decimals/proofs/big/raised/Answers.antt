@@ -4,7 +4,7 @@ use Prim.Native.Nat.{ℕ, ◌<◌, ◌+◌, ◌*◌, ◌^◌}
 use native.Mathlib.Nat.{mul-one, pow-zero, pow-le-pow_right, mul-le-mul_left}
 use native.Mathlib.Omega.{arith}
 use borrow.Author.Rules.{rules}
-use Rattle.decimals.specs.Big.{value_of, limit}
+use Rattle.decimals.specs.Big.{limit}
 use Rattle.decimals.proofs.Sums.{raised_more}
 use Rattle.decimals.proofs.big.raised.Goals as goal
 
@@ -18,21 +18,12 @@ fits a v m i k l e h p b =
     let room = mul-le-mul_left a (pow-le-pow_right {n = m} p {i = i + 1} {j = k} (omega arith)) in
     omega arith
 
-pub loop-i-init : goal.loop-i-init
-loop-i-init c = (search rules, first _ c.args.m)
-
 pub times-made-requires : goal.times-made-requires
 times-made-requires c =
     let a = c.args in
     let pre = c.requires in
-    fits _ _ a.m c.loop-i.i a.k limit c.loop-i.invariant.1 c.loop-i-test.true pre.0 pre.1
+    fits _ _ a.m c.loop.counter a.k limit c.loop.invariant.1 c.loop-test.true pre.0 pre.1
 
-pub loop-i-preserved : goal.loop-i-preserved
-loop-i-preserved c =
-    (search rules, c.times-made.ensures ∙ raised_more _ _ c.args.m c.loop-i.i c.loop-i.invariant.1)
-
-pub returns : goal.returns
-returns c =
-    let a = c.args in
-    let end : c.loop-i.i ≡ a.k = omega arith in
-    c.loop-i.invariant.1 ∙ ap (λ (n : ℕ). value_of a.a * a.m ^ n) end
+pub loop-preserved : goal.loop-preserved
+loop-preserved c =
+    (search rules, c.times-made.ensures ∙ raised_more _ _ c.args.m c.loop.counter c.loop.invariant.1)

@@ -27,12 +27,6 @@ pub loop-i-init : goal.loop-i-init
 unfolding lowest
 loop-i-init c = (search rules, search rules, search rules, omega arith)
 
-pub overflow_mul-sum : goal.overflow_mul-sum
-overflow_mul-sum c = omega (arith, product-room _ _ c.wide.ensures.1 c.wide-in-loop-i.ensures.1)
-
-pub overflow_add-sum : goal.overflow_add-sum
-overflow_add-sum c = omega (arith, product-room _ _ c.wide.ensures.1 c.wide-in-loop-i.ensures.1)
-
 pub loop-i-preserved : goal.loop-i-preserved
 loop-i-preserved c =
     let a = c.args in
@@ -40,11 +34,11 @@ loop-i-preserved c =
     let words = c.loop-i.words in
     let i = c.loop-i.i in
     let carry = c.loop-i.carry in
-    let x = c.wide.result in
-    let m = c.wide-in-loop-i.result in
+    let x = c.from.result in
+    let m = c.from-in-loop-i.result in
     let sum = x * m + carry in
-    let same = c.wide-in-loop-i.ensures.0 in
-    let room = product-room x m c.wide.ensures.1 c.wide-in-loop-i.ensures.1 in
+    let same = c.from-in-loop-i.ensures in
+    let room = product-room x m (omega arith) (omega arith) in
     let long : length words ≡ 16 = c.loop-i.invariant.2 in (
       search rules,
       omega arith,
@@ -52,7 +46,7 @@ loop-i-preserved c =
       ap (λ (z : ℕ). z + sum / 4294967296 * weight (i + 1)) (lowest-next words i (sum % 4294967296) (omega arith))
           ∙ ap (λ (z : ℕ). lowest words i + sum % 4294967296 * weight i + sum / 4294967296 * z) (pow_more 4294967296 i)
           ∙ product-step (weight i) (lowest words i) (lowest read i) carry x m a.c (c.loop-i.invariant.3 ∙ ap (λ (z : ℕ). lowest read i * z + a.c) (sym same))
-          ∙ ap (λ (z : ℕ). (lowest read i + z * weight i) * m + a.c) c.wide.ensures.0
+          ∙ ap (λ (z : ℕ). (lowest read i + z * weight i) * m + a.c) c.from.ensures
           ∙ ap (λ (z : ℕ). z * m + a.c) (sym (lowest-more read i))
           ∙ ap (λ (z : ℕ). lowest read (i + 1) * z + a.c) same,
     )

@@ -1,9 +1,6 @@
 -- `decimals::decimal::quotient` meets its contract: both operands are exact, so the operation rounds once. Assumes nothing.
-use Rattle.decimals.proofs.Scaling.{digits_fit, quotient_at}
+use Rattle.decimals.proofs.Scaling.{quotient_at}
 use Rattle.decimals.proofs.decimal.quotient.Goals as goal
-
-pub int_to_float-result : goal.int_to_float-result
-int_to_float-result c = digits_fit _ c.requires.0
 
 pub returns : goal.returns
 returns c = quotient_at _ _ _ c.requires.0 c.ten.ensures

@@ -1,11 +1,9 @@
 -- `decimals::nearest::divided` meets its contract. The loop's invariant: the digits found and what is left are n, doubled i times.
 -- Assumes nothing.
-use mathlib.Core.Path.{◌≡◌, ap, ◌∙◌}
-use Prim.Native.Nat.{ℕ, ◌≤◌, ◌<◌, ◌*◌, ◌^◌}
-use native.Mathlib.Nat.{zero-mul, pow-le-pow_right, lt_of_lt_of_le}
+use Prim.Native.Nat.{ℕ, ◌≤◌, ◌<◌, ◌^◌}
+use native.Mathlib.Nat.{pow-le-pow_right, lt_of_lt_of_le}
 use native.Mathlib.Omega.{arith}
 use borrow.Author.Rules.{rules}
-use Rattle.decimals.specs.Big.{value_of}
 use Rattle.decimals.proofs.Sums.{pow_more, raised_more}
 use Rattle.decimals.proofs.nearest.divided.Goals as goal
 
@@ -13,20 +11,12 @@ use Rattle.decimals.proofs.nearest.divided.Goals as goal
 few : (i w : ℕ) → i ≤ 24 → w < 2 ^ i → w < 16777216
 few i w h l = lt_of_lt_of_le l (pow-le-pow_right {n = 2} (omega arith) {i = i} {j = 24} h)
 
-pub loop-i-init : goal.loop-i-init
-loop-i-init c = (search rules, search rules, c.requires.0, omega (arith, zero-mul (value_of c.args.unit)))
-
 pub lengthened-q-requires : goal.lengthened-q-requires
 lengthened-q-requires c =
-    (few c.loop-i.i _ c.loop-i.invariant.0 c.loop-i.invariant.1, c.loop-i.invariant.2, c.requires.1)
+    (few c.loop.counter _ c.loop.invariant.0 c.loop.invariant.1, c.loop.invariant.2, c.requires.1)
 
-pub loop-i-preserved : goal.loop-i-preserved
-loop-i-preserved c =
+pub loop-preserved : goal.loop-preserved
+loop-preserved c =
     let more = c.lengthened-q.ensures in
-    let next = raised_more _ _ 2 c.loop-i.i c.loop-i.invariant.3 in
-    (search rules, omega (arith, more.0, pow_more 2 c.loop-i.i, c.loop-i.invariant.1), more.1, omega (arith, more.2, next))
-
-pub returns : goal.returns
-returns c =
-    let end : c.loop-i.i ≡ 24 = omega arith in
-    (few c.loop-i.i _ c.loop-i.invariant.0 c.loop-i.invariant.1, c.loop-i.invariant.2, c.loop-i.invariant.3 ∙ ap (λ (n : ℕ). value_of c.args.n * 2 ^ n) end)
+    let next = raised_more _ _ 2 c.loop.counter c.loop.invariant.3 in
+    (search rules, omega (arith, more.0, pow_more 2 c.loop.counter, c.loop.invariant.1), more.1, omega (arith, more.2, next))

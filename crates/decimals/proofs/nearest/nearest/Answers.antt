@@ -1,7 +1,7 @@
 -- `decimals::nearest::nearest` meets its contract: one division, rounded once. Assumes nothing.
 use mathlib.Core.Path.{◌≡◌, sym, ap, ◌∙◌}
 use Prim.Native.Nat.{ℕ, ◌+◌, ◌*◌, ◌^◌, ◌<◌, ◌≤◌}
-use native.Mathlib.Nat.{le_trans, le_of_eq, le_of_lt, lt_of_le_of_lt, lt_of_lt_of_le, mul-le-mul, mul-le-mul_right, mul-le-mul_left, mul-pos}
+use native.Mathlib.Nat.{le_trans, le_of_eq, lt_of_lt_of_le, mul-le-mul, mul-le-mul_right, mul-le-mul_left, mul-pos}
 use native.Mathlib.Omega.{arith}
 use borrow.Author.Rules.{rules}
 use borrow.Author.Tests.{le-ltb}
@@ -49,15 +49,6 @@ returns-then-k-gt253 c =
     let a = c.args in
     let made = c.scaled-scale.ensures in
     (omega arith, infinity_bits (value_of a.digits) a.up a.down _ c.scaled-scale.result.k _ (in_units _ _ _ c.args.up c.raised-n.ensures c.raised.ensures) (unit _ _ c.args.down c.scaled-scale.result.k c.scaled-scale.ensures.4 (first_unit _ _ c.args.down c.raised-2.ensures c.small.ensures)) made.1 made.3 c.if-k-gt253.true)
-
-pub divided-requires : goal.divided-requires
-divided-requires c = let made = c.scaled-scale.ensures in
-    (made.1, made.2)
-
-pub rounded-requires : goal.rounded-requires
-rounded-requires c =
-    let made = c.scaled-scale.ensures in
-    (c.divided.ensures.0, lt_of_le_of_lt (mul-le-mul_right 2 (le_of_lt c.divided.ensures.1)) made.2)
 
 pub returns : goal.returns
 returns c =

@@ -1,8 +1,8 @@
 -- `decimals::number::scaled` meets its contract: too long, or all digits, one rounding, and the sign. Assumes nothing.
 use mathlib.Core.Path.{ap, ◌∙◌}
-use Prim.Native.Nat.{ℕ, ◌+◌, ◌-◌, ◌≤◌}
-use native.Mathlib.Omega.{arith}
+use Prim.Native.Nat.{ℕ, ◌+◌, ◌-◌}
 use borrow.Author.Tests.{lt-ltb, le-ltb}
+use Rattle.std.specs.Prelude.{Ok}
 use lib.Ieee.{binary32, to_bits}
 use Rattle.decimals.specs.Decimal.{nearest_to}
 use Rattle.decimals.specs.Number.{scaled}
@@ -22,24 +22,11 @@ pub returns-then-power-gt60-2 : goal.returns-then-power-gt60-2
 unfolding scaled
 returns-then-power-gt60-2 c = rw (le-ltb 40 _ c.if-d-at-gt40.false, le-ltb 60 _ c.if-power-gt60.false, lt-ltb 60 _ c.if-power-gt60-2.true)
 
-pub all_of-digits-requires : goal.all_of-digits-requires
-all_of-digits-requires c = (c.requires, c.if-d-at-gt40.false)
-
-pub nearest-requires : goal.nearest-requires
-nearest-requires c =
-    (c.all_of-digits.ensures.0, c.if-power-gt60.false, sum _ _ _ c.if-d-at-gt40.false c.if-power-gt60-2.false)
-  where
-    sum : (a b d : ℕ) → a + b ≤ 40 → d ≤ 60 → b + d ≤ 100
-    sum a b d h l = omega arith
-
-pub signed-requires : goal.signed-requires
-signed-requires c = omega (arith, c.nearest.ensures.0)
-
 pub returns : goal.returns
 unfolding scaled
 returns c =
     let a = c.args in
     let down = a.d.next - a.d.after + a.power.down in
     rw (le-ltb 40 _ c.if-d-at-gt40.false, le-ltb 60 _ c.if-power-gt60.false, le-ltb 60 _ c.if-power-gt60-2.false)
-    (c.signed.ensures
+    (ap Ok c.signed.ensures
     ∙ signed_is a.minus _ c.nearest.result (c.nearest.ensures.1 ∙ ap (λ (v : ℕ). to_bits binary32 (nearest_to v a.power.up down)) c.all_of-digits.ensures.1) (nearest_neg _ a.power.up down))
