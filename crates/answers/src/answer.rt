@@ -1,388 +1,285 @@
-// Answers in words: what is wrong with a card or a board. Each function writes into `out` from the place
-// `at` on, at most so many bytes as its contract says, and returns the place after what it wrote.
+// Answers in words: what is wrong with a card or a board.
 ghost use Rattle.std.specs.Prelude.{◌+◌, ◌≤◌, length};
 
 use crate::fault::{
-    Fault, NO_HEAD, ORDER, RECORD, RULES, SIZE, board_end, ends_at, fields_at, node_count,
-    node_fault, source_fault, wire_fault,
+    Fault, board_end, ends_at, fields_at, node_count, node_fault, source_fault, wire_fault,
 };
-use crate::kind::put_kind;
-use card_lines::labels::{bare, body_of, line_after, mark_length};
-use card_lines::names::{HEAD, WIRE, named};
+use crate::kind::push_kind;
+use card_lines::labels::{bare, body_of, mark_length};
+use card_lines::names::{Name, named};
 use card_lines::reason::Reason;
-use cards::board::Made;
-use text::words::{Stop, find, next_word, word_at};
-use text::written::{put, put_number, put_pair, put_word};
+use cards::board::Wrong;
+use kinds::types::Kind;
+use records::answer::Answer;
+use text::words::{Lines, next_word, word_at};
+use text::written::Text;
 use values::float::of_bits;
 
-// What may be wrong with a line, a line each.
-const REASONS: [u8; 420] =
-    *b"unknown name\nwrong number of fields\nno whole number, or too large\nno float\ndecimal too long: write its bits, x and 8 hexadecimal digits\nout of order: block, then nodes, then wires\nbefore the block line\ntoo many of these\nmilliseconds out of range: 0 to 3000, and at least one sample for an all-pass\nno name: a letter, then letters, digits, _ - .\nname given twice\na name before a line that is no node\nno node has this name";
-
-// Where line k of a table starts.
-fn entry_start(table: &[u8], k: usize) -> usize
-    ensures { result ≤ length table.now }
+// What is wrong with a line, in words.
+fn reason_words(reason: Reason) -> &'static [u8]
+    ensures { length result.now ≤ 90 }
 {
-    let mut at = 0;
-    let mut i = 0;
-    while i < k {
-        at = line_after(table, find(table, at, Stop::Byte(b'\n')));
-        i += 1;
-    }
-    at
-}
-
-// Line k of a table, up to 90 bytes of it.
-fn put_entry(out: &mut [u8], at: usize, table: &[u8], k: usize) -> usize
-    requires { at + 90 ≤ length out.old }
-    ensures { result ≤ at + 90 }
-{
-    let from = entry_start(table, k);
-    let end = find(table, from, Stop::Byte(b'\n'));
-    if 90 < end - from {
-        let to = from + 90;
-        return put_word(out, at, &table[from..to]);
-    }
-    put_word(out, at, &table[from..end])
-}
-
-// The line of a reason.
-fn reason_line(reason: Reason) -> usize {
     match reason {
-        Reason::Name => 0,
-        Reason::Fields => 1,
-        Reason::Whole => 2,
-        Reason::Float => 3,
-        Reason::Long => 4,
-        Reason::Late => 5,
-        Reason::Early => 6,
-        Reason::Many => 7,
-        Reason::Range => 8,
-        Reason::Label => 9,
-        Reason::Twice => 10,
-        Reason::NoNode => 11,
-        Reason::Missing => 12,
-    }
-}
-
-// What is wrong with a line.
-pub fn put_reason(out: &mut [u8], at: usize, reason: Reason) -> usize
-    requires { at + 100 ≤ length out.old }
-    ensures { result ≤ at + 100 }
-{
-    put_entry(out, at, &REASONS, reason_line(reason))
-}
-
-// How many sources a node has, and may have.
-fn put_sources(out: &mut [u8], at: usize, has: u32, few: u32, many: u32) -> usize
-    requires { at + 100 ≤ length out.old }
-    ensures { result ≤ at + 100 }
-{
-    if few == many {
-        return put_pair(out, at, b"sources: ", has, b", must be ", few, b"");
-    }
-    let n = put_pair(out, at, b"sources: ", has, b", must be ", few, b" to ");
-    put_number(out, n, many)
-}
-
-// A text with a number after it.
-fn put_of(out: &mut [u8], at: usize, text: &[u8], number: u32) -> usize
-    requires { at + length text.now + 10 ≤ length out.old }
-    ensures { result ≤ at + length text.now + 10 }
-{
-    let n = put_word(out, at, text);
-    put_number(out, n, number)
-}
-
-fn put_rule(out: &mut [u8], at: usize, k: usize) -> usize
-    requires { at + 90 ≤ length out.old }
-    ensures { result ≤ at + 90 }
-{
-    put_entry(out, at, &RULES, k)
-}
-
-// The rule that a board breaks.
-fn put_fault(out: &mut [u8], at: usize, fault: Fault) -> usize
-    requires { at + 100 ≤ length out.old }
-    ensures { result ≤ at + 100 }
-{
-    match fault {
-        Fault::Rule(k) => put_rule(out, at, k),
-        Fault::Node(k, node) => {
-            let n = put_rule(out, at, k);
-            put_number(out, n, node)
+        Reason::Name => b"unknown name",
+        Reason::Fields => b"wrong number of fields",
+        Reason::Whole => b"no whole number, or too large",
+        Reason::Float => b"no float",
+        Reason::Long => b"decimal too long: write its bits, x and 8 hexadecimal digits",
+        Reason::Late => b"out of order: block, then nodes, then wires",
+        Reason::Early => b"before the block line",
+        Reason::Many => b"too many of these",
+        Reason::Range => {
+            b"milliseconds out of range: 0 to 3000, and at least one sample for an all-pass"
         }
-        Fault::Sources(has, few, many) => put_sources(out, at, has, few, many),
+        Reason::Label => b"no name: a letter, then letters, digits, _ - .",
+        Reason::Twice => b"name given twice",
+        Reason::NoNode => b"a name before a line that is no node",
+        Reason::Missing => b"no node has this name",
+    }
+}
+
+// What the judge refuses with each number, and where: the offset of a record, or a node's number.
+#[derive(Clone, Copy)]
+enum Refused {
+    Record,
+    Order { at: u32 },
+    Head,
+    Node { at: u32 },
+    Wire { at: u32 },
+    Sources { node: u32 },
+}
+
+impl From<Answer> for Refused {
+    fn from(refusal: Answer) -> Self {
+        let place = refusal.place;
+        match refusal.number {
+            2 => Refused::Order { at: place },
+            3 => Refused::Head,
+            4 => Refused::Node { at: place },
+            5 => Refused::Wire { at: place },
+            6 => Refused::Sources { node: place },
+            _ => Refused::Record,
+        }
+    }
+}
+
+// The rule that a board breaks, in words.
+fn push_fault(out: &mut Text<512>, fault: Fault)
+    requires { length out.old + 140 ≤ 512 }
+    ensures { length out.new ≤ length out.old + 140 }
+{
+    out.push_word(fault.words());
+    match fault {
+        Fault::Missing(node) | Fault::NoInput(node) => out.push_number(node),
+        Fault::Sources { has, few, many } => {
+            out.push_pair(b"", has, b", must be ", few, b"");
+            if few != many {
+                out.push_word(b" to ");
+                out.push_number(many);
+            }
+        }
+        _ => {}
     }
 }
 
 // The number of the node whose record stands at an offset, or of the wire behind so many nodes.
-fn node_at(place: u32) -> u32 {
-    if place < 8 {
-        return 0;
-    }
-    (place - 8) / 14
+fn node_at(at: u32) -> u32 {
+    at.saturating_sub(8) / 14
 }
 
-fn wire_at(place: u32, count: usize) -> usize
+fn wire_at(at: u32, count: usize) -> usize
     requires { count ≤ 65 }
 {
-    let start = 8 + 14 * count as u32;
-    if place < start {
-        return 0;
-    }
-    ((place - start) / 8) as usize
+    (at as usize).saturating_sub(8 + 14 * count) / 8
 }
 
 // The rule that a board breaks by which the judge refuses it so.
-fn fault_of(s: &[u8], number: u32, place: u32) -> Fault {
-    match number {
-        2 => {
-            if place == 0 {
-                Fault::Rule(NO_HEAD)
-            } else {
-                Fault::Rule(ORDER)
-            }
-        }
-        3 => Fault::Rule(SIZE),
-        4 => node_fault(fields_at(s, place as usize), node_at(place) as usize),
-        5 => {
+fn fault_of(s: &[u8], refused: Refused) -> Fault {
+    match refused {
+        Refused::Record => Fault::Record,
+        Refused::Order { at: 0 } => Fault::NoHead,
+        Refused::Order { .. } => Fault::Order,
+        Refused::Head => Fault::Size,
+        Refused::Node { at } => node_fault(fields_at(s, at as usize), node_at(at) as usize),
+        Refused::Wire { at } => {
             let count = node_count(s);
-            wire_fault(ends_at(s, place as usize), count, wire_at(place, count))
+            wire_fault(ends_at(s, at as usize), count, wire_at(at, count))
         }
-        6 => source_fault(s, place as usize),
-        _ => Fault::Rule(RECORD),
+        Refused::Sources { node } => source_fault(s, node as usize),
     }
 }
 
-// Node i by its number and its fields.
-fn put_node(s: &[u8], at_record: usize, i: u32, out: &mut [u8], at: usize) -> usize
-    requires { at + 100 ≤ length out.old }
-    ensures { result ≤ at + 100 }
+// Node i, whose record stands at `at`, by its number and its fields.
+fn push_node(out: &mut Text<512>, s: &[u8], at: usize, i: u32)
+    requires { length out.old + 100 ≤ 512 }
+    ensures { length out.new ≤ length out.old + 100 }
 {
-    let node = fields_at(s, at_record);
-    let a = put_of(out, at, b"node ", i);
-    let b = put_word(out, a, b": ");
-    let c = put_kind(out, b, node.t as usize, node.n, of_bits(node.f));
-    put_word(out, c, b": ")
+    let node = fields_at(s, at);
+    out.push_word(b"node ");
+    out.push_number(i);
+    out.push_word(b": ");
+    match Kind::from_number(node.t) {
+        Some(kind) => push_kind(out, kind, node.n, of_bits(node.f)),
+        None => out.push_word(b"no type"),
+    }
+    out.push_word(b": ");
+}
+
+// Two numbers with a word before each, and a colon.
+fn push_ends(out: &mut Text<512>, first: &[u8], ends: (u16, u16), between: &[u8])
+    requires { (length first.now ≤ 10) × (length between.now ≤ 10) × (length out.old + 100 ≤ 512) }
+    ensures { length out.new ≤ length out.old + 100 }
+{
+    let (a, b) = ends;
+    out.push_pair(first, u32::from(a), between, u32::from(b), b": ");
 }
 
 // What a refusal is about: the head, a node or a wire.
-fn put_subject(s: &[u8], number: u32, place: u32, out: &mut [u8], at: usize) -> usize
-    requires { at + 100 ≤ length out.old }
-    ensures { result ≤ at + 100 }
+fn push_subject(out: &mut Text<512>, s: &[u8], refused: Refused)
+    requires { length out.old + 100 ≤ 512 }
+    ensures { length out.new ≤ length out.old + 100 }
 {
-    match number {
-        3 => {
-            let head = ends_at(s, 0);
-            put_pair(
-                out,
-                at,
-                b"block ",
-                head.first as u32,
-                b" input ",
-                head.second as u32,
-                b": ",
-            )
-        }
-        4 => put_node(s, place as usize, node_at(place), out, at),
-        5 => {
-            let wire = ends_at(s, place as usize);
-            put_pair(
-                out,
-                at,
-                b"wire ",
-                wire.first as u32,
-                b" ",
-                wire.second as u32,
-                b": ",
-            )
-        }
-        6 => {
-            let node = place as usize;
-            if node < node_count(s) {
-                put_node(s, 8 + 14 * node, place, out, at)
-            } else {
-                at
+    match refused {
+        Refused::Head => push_ends(out, b"block ", ends_at(s, 0), b" input "),
+        Refused::Node { at } => push_node(out, s, at as usize, node_at(at)),
+        Refused::Wire { at } => push_ends(out, b"wire ", ends_at(s, at as usize), b" "),
+        Refused::Sources { node } => {
+            if (node as usize) < node_count(s) {
+                push_node(out, s, 8 + 14 * node as usize, node);
             }
         }
-        _ => at,
+        Refused::Record | Refused::Order { .. } => {}
     }
 }
 
-// What is wrong with the board s, which the judge refuses with this number and place, 1 to 6.
-pub fn why(s: &[u8], number: u32, place: u32, out: &mut [u8], at: usize) -> usize
-    requires { at + 200 ≤ length out.old }
-    ensures { result ≤ at + 200 }
-{
-    let n = put_subject(s, number, place, out, at);
-    put_fault(out, n, fault_of(s, number, place))
-}
-
-// Where a line stands in a text: its number, from 1, and its bytes; 0 where it is not found.
+// A line of a text, and its number, from 1.
 #[derive(Clone, Copy)]
-struct Spot {
-    line: usize,
-    from: usize,
-    to: usize,
+struct Spot<'a> {
+    number: usize,
+    line: &'a [u8],
 }
 
-// Whether a line's record is named by one of the places `first` to `last`.
-fn is_among(line: &[u8], first: usize, last: usize) -> bool {
-    let body = body_of(line);
-    let word = word_at(body, 0);
-    if word.len() == 0 {
-        return false;
-    }
-    let t = named(word);
-    (first <= t) & (t <= last)
-}
-
-// The line of record k, from 0, of those that are named by the places `first` to `last`.
-fn spot_of(text: &[u8], first: usize, last: usize, k: usize) -> Spot
-    ensures { (result.from ≤ result.to) × (result.to ≤ length text.now) }
+// Line k, from 0, of those whose record's name is asked for.
+fn spot_of<'a, F: Fn(Name) -> bool>(text: &'a [u8], k: usize, asked: F) -> Option<Spot<'a>>
+    requires { F.IsAlwaysCallable asked }
 {
-    let mut line = 0;
     let mut left = k;
-    let mut start = 0;
-    while start < text.len() {
-        let end = find(text, start, Stop::Byte(b'\n'));
-        line += 1;
-        if is_among(bare(&text[start..end]), first, last) {
+    for (i, line) in Lines::new(text).enumerate() {
+        let Some(name) = named(word_at(body_of(bare(line)), 0)) else {
+            continue;
+        };
+        if asked(name) {
             if left == 0 {
-                return Spot {
+                return Some(Spot {
+                    number: i.saturating_add(1),
                     line,
-                    from: start,
-                    to: end,
-                };
+                });
             }
             left -= 1;
         }
-        start = line_after(text, end);
     }
-    Spot {
-        line: 0,
-        from: 0,
-        to: 0,
-    }
+    None
 }
 
 // The line of a card that a refusal is about.
-fn spot_by(text: &[u8], board: &[u8], number: u32, place: u32) -> Spot
-    ensures { (result.from ≤ result.to) × (result.to ≤ length text.now) }
-{
-    if number == 4 {
-        return spot_of(text, 1, 10, node_at(place) as usize);
-    }
-    if number == 5 {
-        return spot_of(text, WIRE, WIRE, wire_at(place, node_count(board)));
-    }
-    if number == 6 {
-        let head = ends_at(board, 0);
-        let node = place as usize;
-        if (node < node_count(board)) & (head.second as u32 != place) {
-            return spot_of(text, 1, 10, node);
+fn spot_by<'a>(text: &'a [u8], board: &[u8], refused: Refused) -> Option<Spot<'a>> {
+    let is_node = |name| matches!(name, Name::Node(_));
+    let count = node_count(board);
+    match refused {
+        Refused::Node { at } => spot_of(text, node_at(at) as usize, is_node),
+        Refused::Wire { at } => spot_of(text, wire_at(at, count), |name| name == Name::Wire),
+        Refused::Sources { node }
+            if (node as usize) < count && u32::from(ends_at(board, 0).1) != node => {
+            spot_of(text, node as usize, is_node)
         }
+        _ => spot_of(text, 0, |name| name == Name::Head),
     }
-    spot_of(text, HEAD, HEAD, 0)
 }
 
 // The words of a line, a space before each, as far as they fit 60 bytes.
-fn put_words(out: &mut [u8], at: usize, line: &[u8]) -> usize
-    requires { at + 64 ≤ length out.old }
-    ensures { result ≤ at + 64 }
+fn push_words(out: &mut Text<512>, line: &[u8])
+    requires { length out.old + 64 ≤ 512 }
+    ensures { length out.new ≤ length out.old + 64 }
 {
-    let mut n = at;
-    let mut start = 0;
-    while start < line.len() {
-        let word = next_word(line, start);
-        let from = word.from;
-        let to = word.to;
-        if from == to {
-            return n;
+    let mut room = 60;
+    let mut rest = line;
+    // A `while`: a turn passes a word.
+    while !rest.is_empty() {
+        let word = next_word(rest, 0);
+        let size = word.len();
+        if size == 0 {
+            return;
         }
-        if 60 - (n - at) <= to - from {
-            return put_word(out, n, b" ..");
+        if room <= size {
+            return out.push_word(b" ..");
         }
-        let m = put(out, n, b' ');
-        n = put_word(out, m, &line[from..to]);
-        start = to;
+        out.push(b' ');
+        out.push_word(&rest[word.start..word.end]);
+        room -= size + 1;
+        rest = &rest[word.end..];
     }
-    n
 }
 
 // A line's number; from 4,294,967,295 on, that.
-fn put_count(out: &mut [u8], at: usize, n: usize) -> usize
-    requires { at + 10 ≤ length out.old }
-    ensures { result ≤ at + 10 }
+fn push_count(out: &mut Text<512>, n: usize)
+    requires { length out.old + 10 ≤ 512 }
+    ensures { length out.new ≤ length out.old + 10 }
 {
-    if n < 4294967295 {
-        return put_number(out, at, n as u32);
-    }
-    put_number(out, at, 4294967295)
+    out.push_number(u32::try_from(n).unwrap_or(u32::MAX));
+}
+
+// The line of a card that a refusal is about, in its own words, and a colon.
+fn push_spot(out: &mut Text<512>, spot: Spot)
+    requires { length out.old + 100 ≤ 512 }
+    ensures { length out.new ≤ length out.old + 100 }
+{
+    out.push_word(b"line ");
+    push_count(out, spot.number);
+    out.push(b':');
+    push_words(out, bare(spot.line));
+    out.push_word(b": ");
 }
 
 // A bad line: its number and what is wrong with it.
-fn put_bad(out: &mut [u8], line: usize, reason: Reason) -> usize
-    requires { 512 ≤ length out.old }
-    ensures { result ≤ 200 }
-{
-    let a = put_word(out, 0, b"line ");
-    let b = put_count(out, a, line);
-    let c = put_word(out, b, b": ");
-    let d = put_reason(out, c, reason);
-    put(out, d, b'\n')
-}
-
-// The line of a card that a refusal is about, in its own words, and a colon; or that there is none.
-fn put_spot(text: &[u8], spot: Spot, out: &mut [u8]) -> usize
-    requires { (512 ≤ length out.old) × (spot.from ≤ spot.to) × (spot.to ≤ length text.now) }
-    ensures { result ≤ 100 }
-{
-    if spot.line == 0 {
-        return 0;
-    }
-    let from = spot.from;
-    let to = spot.to;
-    let a = put_word(out, 0, b"line ");
-    let b = put_count(out, a, spot.line);
-    let c = put_word(out, b, b":");
-    let d = put_words(out, c, bare(&text[from..to]));
-    put_word(out, d, b": ")
+fn bad_text(line: usize, reason: Reason) -> Text<512> {
+    let mut out = Text::new();
+    out.push_word(b"line ");
+    push_count(&mut out, line);
+    out.push_word(b": ");
+    out.push_word(reason_words(reason));
+    out.push(b'\n');
+    out
 }
 
 // A refusal of a card's board.
-fn put_refused(text: &[u8], board: &[u8], number: u32, place: u32, out: &mut [u8]) -> usize
-    requires { 512 ≤ length out.old }
-    ensures { result ≤ 300 }
-{
-    let start = mark_length(text);
-    let end = board_end(board);
-    let card = &text[start..];
-    let a = put_spot(card, spot_by(card, board, number, place), out);
-    let b = put_fault(out, a, fault_of(&board[..end], number, place));
-    put_pair(out, b, b" (refused ", number, b" ", place, b")\n")
+fn refused_text(text: &[u8], board: &[u8], refusal: Answer) -> Text<512> {
+    let refused = Refused::from(refusal);
+    let card = &text[mark_length(text)..];
+    let mut out = Text::new();
+    if let Some(spot) = spot_by(card, board, refused) {
+        push_spot(&mut out, spot);
+    }
+    push_fault(&mut out, fault_of(&board[..board_end(board)], refused));
+    out.push_pair(b" (refused ", refusal.number, b" ", refusal.place, b")\n");
+    out
 }
 
-// What became of a card, in the first bytes of `out`: its first bad line, or the judge's refusal with the
-// line that it is about; nothing if the board is accepted. The board may have other bytes after it.
-pub fn answer_text(text: &[u8], board: &[u8], made: Made, out: &mut [u8]) -> usize
-    requires { 512 ≤ length out.old }
-    ensures { result ≤ 512 }
-{
-    match made {
-        Made::Board(_) => 0,
-        Made::Refused(number, place) => put_refused(text, board, number, place, out),
-        Made::Bad(line, reason) => put_bad(out, line, reason),
+// What became of a card that gives no board: its first bad line, or the judge's refusal with the line that
+// it is about. The board may have other bytes after it.
+pub fn answer_text(text: &[u8], board: &[u8], wrong: Wrong) -> Text<512> {
+    match wrong {
+        Wrong::Refused(refusal) => refused_text(text, board, refusal),
+        Wrong::Bad(line, reason) => bad_text(line, reason),
     }
 }
 
-// A refusal of a board's bytes, in the first bytes of `out`.
-pub fn refusal_text(s: &[u8], number: u32, place: u32, out: &mut [u8]) -> usize
-    requires { 512 ≤ length out.old }
-    ensures { result ≤ 512 }
-{
-    let a = put_pair(out, 0, b"refused ", number, b" ", place, b": ");
-    let b = why(s, number, place, out, a);
-    put(out, b, b'\n')
+// A refusal of a board's bytes.
+pub fn refusal_text(s: &[u8], refusal: Answer) -> Text<512> {
+    let refused = Refused::from(refusal);
+    let mut out = Text::new();
+    out.push_pair(b"refused ", refusal.number, b" ", refusal.place, b": ");
+    push_subject(&mut out, s, refused);
+    push_fault(&mut out, fault_of(s, refused));
+    out.push(b'\n');
+    out
 }

@@ -7,5 +7,5 @@ use Rattle.boards.specs.declared.board.Board.{Board}
 -- the board was accepted, so its table holds the sources of its wires
 pub record Accepted (b : Board) : Type 0 where
   pub sound : Sound b
-  pub table : Table b.counts b.lists
-  pub gathered : Gathered (wires_of b.sources b.targets b.wires) b.counts b.lists
+  pub table : Table b.sources.counts b.sources.lists
+  pub gathered : Gathered (wires_of b.wires.list b.wires.count) b.sources.counts b.sources.lists

@@ -19,119 +19,105 @@ mod write;
 use answers::answer::{answer_text, refusal_text};
 use answers::fault::board_end;
 use boards::judge::read_board;
-use cards::board::{Made, board_of};
-use check::same;
+use cards::board::{Wrong, board_of};
 use decimals::number::whole_of;
 use input::read_full;
+use records::answer::Answer;
 use resizing::resize::{Reason, Resized, resize};
 use size::show_resized;
 use std::io;
+use std::io::{Stderr, Stdout};
 use std::rt::Env;
-use text::words::{Stop, find};
 use write::{Form, text_of};
 
-// A refusal of a board's bytes.
-fn show_refusal(to: &impl Print, s: &[u8], number: u32, place: u32) -> io::Result<()> {
-    let mut out = [0u8; 512];
-    let n = refusal_text(s, number, place, &mut out);
-    to.write_all(&out[..n])
+// Where the answers go, and what is told beside them.
+#[derive(Drop)]
+struct Streams {
+    out: Stdout,
+    err: Stderr,
+}
+
+// What is asked for.
+#[derive(Clone, Copy)]
+enum Mode {
+    Bytes,
+    Show(Form),
+    Size,
+    Check,
+}
+
+// What a word asks for.
+fn mode_of(word: &[u8]) -> Option<Mode> {
+    match word {
+        b"bytes" => Some(Mode::Bytes),
+        b"text" => Some(Mode::Show(Form::Card)),
+        b"dot" => Some(Mode::Show(Form::Graph)),
+        b"size" => Some(Mode::Size),
+        b"check" => Some(Mode::Check),
+        _ => None,
+    }
 }
 
 // Board to card, or to graph.
-fn show_form(stdout: &impl Print, stderr: &impl Print, s: &[u8], form: Form) -> io::Result<()> {
-    let board = read_board(s);
-    let refused = board.refused;
-    if refused.number != 0 {
-        return show_refusal(stderr, s, refused.number, refused.place);
+fn show_form(to: &Streams, s: &[u8], form: Form) -> io::Result<()> {
+    match read_board(s) {
+        Ok(board) => to.out.write_all(text_of(&board, form).as_bytes()),
+        Err(refusal) => to.err.write_all(refusal_text(s, refusal).as_bytes()),
     }
-    let mut out = [0u8; 24576];
-    let n = text_of(board, form, &mut out);
-    stdout.write_all(&out[..n])
 }
 
-// A board's bytes in base 16.
-fn show_hex(stdout: &impl Print, s: &[u8]) -> io::Result<()> {
-    let mut i = 0;
-    while i < s.len() {
-        print!(stdout; "{:02x}", s[i])?;
-        i += 1;
-        if i % 32 == 0 {
-            stdout.write_all(b"\n")?;
+// A board's bytes in base 16, 32 on a line.
+fn show_hex(to: &Streams, s: &[u8]) -> io::Result<()> {
+    for (i, byte) in s.iter().enumerate() {
+        print!(to.out; "{byte:02x}")?;
+        if i % 32 == 31 {
+            to.out.write_all(b"\n")?;
         }
     }
-    stdout.write_all(b"\n")
+    to.out.write_all(b"\n")
 }
 
 // For a check: what becomes of a board at another block size, and its bytes where a line is corrected.
-fn show_at(stdout: &impl Print, s: &mut [u8], size: u32) -> io::Result<()> {
+fn show_at(to: &Streams, s: &mut [u8], size: u32) -> io::Result<()> {
     let resized = resize(s, size);
-    show_resized(stdout, size, resized)?;
-    if let Resized::Line(_, _, _) = resized {
-        return show_hex(stdout, s);
+    show_resized(&to.out, size, resized)?;
+    if let Ok(Resized::Line(_, _, _)) = resized {
+        return show_hex(to, s);
     }
     Ok(())
 }
 
-// A board's bytes, or for a check all its forms, and what becomes of it at one block size after another.
-fn show_board(
-    stdout: &impl Print,
-    stderr: &impl Print,
-    s: &mut [u8],
-    check: bool,
-) -> io::Result<()> {
-    if check {
-        show_hex(stdout, s)?;
-        show_form(stdout, stderr, s, Form::Card)?;
-        show_form(stdout, stderr, s, Form::Graph)?;
-        show_at(stdout, s, 1)?;
-        show_at(stdout, s, 64)?;
-        show_at(stdout, s, 128)
-    } else {
-        stdout.write_all(s)
-    }
-}
-
-// What is wrong with a card.
-fn show_answer(to: &impl Print, card: &[u8], board: &[u8], made: Made) -> io::Result<()> {
-    let mut out = [0u8; 512];
-    let n = answer_text(card, board, made, &mut out);
-    to.write_all(&out[..n])
-}
-
-// For a check: the same, and what the board's bytes are answered with.
-fn show_wrong(stdout: &impl Print, card: &[u8], board: &[u8], made: Made) -> io::Result<()> {
-    show_answer(stdout, card, board, made)?;
-    if let Made::Refused(number, place) = made {
-        let end = board_end(board);
-        return show_refusal(stdout, &board[..end], number, place);
+// For a check: all forms of a board, and what becomes of it at one block size after another.
+fn show_all(to: &Streams, s: &mut [u8]) -> io::Result<()> {
+    show_hex(to, s)?;
+    show_form(to, s, Form::Card)?;
+    show_form(to, s, Form::Graph)?;
+    for size in [1, 64, 128] {
+        show_at(to, s, size)?;
     }
     Ok(())
 }
 
-// Card to board.
-fn show_card(stdout: &impl Print, stderr: &impl Print, card: &[u8], check: bool) -> io::Result<()> {
-    let mut out = [0u8; 2048];
-    let made = board_of(card, &mut out);
-    if let Made::Board(n) = made {
-        return show_board(stdout, stderr, &mut out[..n], check);
+// For a check: what is wrong with a card, and what the board's bytes are answered with.
+fn show_wrong(to: &Streams, card: &[u8], board: &[u8], wrong: Wrong) -> io::Result<()> {
+    to.out
+        .write_all(answer_text(card, board, wrong).as_bytes())?;
+    if let Wrong::Refused(refusal) = wrong {
+        let board = &board[..board_end(board)];
+        to.out.write_all(refusal_text(board, refusal).as_bytes())?;
     }
-    if check {
-        show_wrong(stdout, card, &out, made)
-    } else {
-        show_answer(stderr, card, &out, made)
-    }
+    Ok(())
 }
 
 // Each card of a text, up to a `%` or the text's end.
-fn show_cards(stdout: &impl Print, stderr: &impl Print, cards: &[u8]) -> io::Result<()> {
-    let mut at = 0;
-    while at < cards.len() {
-        let end = find(cards, at, Stop::Byte(b'%'));
-        show_card(stdout, stderr, &cards[at..end], true)?;
-        if end == cards.len() {
-            return Ok(());
+fn check_cards(to: &Streams, cards: &[u8]) -> io::Result<()> {
+    for card in cards.split_inclusive(|byte| *byte == b'%') {
+        let card = card.strip_suffix(b"%").unwrap_or(card);
+        let mut board = [0u8; 2048];
+        match board_of(card, &mut board) {
+            Ok(n) => show_all(to, &mut board[..n])?,
+            Err(wrong) => show_wrong(to, card, &board, wrong)?,
         }
-        at = end + 1;
     }
     Ok(())
 }
@@ -139,99 +125,75 @@ fn show_cards(stdout: &impl Print, stderr: &impl Print, cards: &[u8]) -> io::Res
 // The input is cut at this length. No board is so long that the rest could change an answer.
 const MOST: usize = 69632;
 
-// Why a board was not carried: refused bytes in the words that the other modes have for them.
-fn show_kept(stderr: &impl Print, s: &[u8], size: u32, reason: Reason) -> io::Result<()> {
-    match reason {
-        Reason::Refused(number, place) => {
-            stderr.write_all(b"not carried: ")?;
-            show_refusal(stderr, s, number, place)
-        }
-        _ => show_resized(stderr, size, Resized::Kept(reason)),
+// Card to board, unless the text was cut.
+fn show_bytes(to: &Streams, card: &[u8]) -> io::Result<()> {
+    if card.len() == MOST {
+        return to.err.write_all(b"text too long: at most 69631 bytes\n");
+    }
+    let mut board = [0u8; 2048];
+    match board_of(card, &mut board) {
+        Ok(n) => to.out.write_all(&board[..n]),
+        Err(wrong) => to
+            .err
+            .write_all(answer_text(card, &board, wrong).as_bytes()),
     }
 }
 
-// A board at blocks of `size`: its bytes, if it was carried there.
-fn show_size(stdout: &impl Print, stderr: &impl Print, s: &mut [u8], size: u32) -> io::Result<()> {
+// A board at blocks of `size`: its bytes, if it was carried there. Refused bytes are told in the words
+// that the other modes have for them.
+fn show_size(to: &Streams, s: &mut [u8], size: u32) -> io::Result<()> {
     let resized = resize(s, size);
-    match resized {
-        Resized::Kept(reason) => show_kept(stderr, s, size, reason),
-        _ => {
-            show_resized(stderr, size, resized)?;
-            stdout.write_all(s)
-        }
+    if let Err(Reason::Refused(number, place)) = resized {
+        to.err.write_all(b"not carried: ")?;
+        let refusal = Answer { number, place };
+        return to.err.write_all(refusal_text(s, refusal).as_bytes());
     }
+    show_resized(&to.err, size, resized)?;
+    if resized.is_ok() {
+        to.out.write_all(s)?;
+    }
+    Ok(())
 }
 
 // The block size that a word says; 0, which is none, where it says no number.
 fn size_of(word: &[u8]) -> u32 {
-    let whole = whole_of(word, 128);
-    if whole.good { whole.value as u32 } else { 0 }
+    whole_of(word, 128).map_or(0, |size| size as u32)
 }
 
-// Card to board, unless the text was cut.
-fn show_bytes(stdout: &impl Print, stderr: &impl Print, input: &[u8]) -> io::Result<()> {
-    if input.len() == MOST {
-        return stderr.write_all(b"text too long: at most 69631 bytes\n");
-    }
-    show_card(stdout, stderr, input, false)
-}
-
-// What the first word asks.
-fn run(
-    stdout: &impl Print,
-    stderr: &impl Print,
-    mode: &[u8],
-    size: &[u8],
-    input: &mut [u8],
-) -> io::Result<()> {
-    if same(mode, b"bytes") {
-        show_bytes(stdout, stderr, input)
-    } else if same(mode, b"text") {
-        show_form(stdout, stderr, input, Form::Card)
-    } else if same(mode, b"dot") {
-        show_form(stdout, stderr, input, Form::Graph)
-    } else if same(mode, b"size") {
-        show_size(stdout, stderr, input, size_of(size))
-    } else {
-        show_cards(stdout, stderr, input)
-    }
-}
-
-// Whether a word asks for something that is done with the input.
-fn is_mode(mode: &[u8]) -> bool {
-    if same(mode, b"bytes") | same(mode, b"text") | same(mode, b"dot") {
-        return true;
-    }
-    same(mode, b"size") | same(mode, b"check")
-}
-
-fn show_use(stderr: &impl Print) -> io::Result<()> {
-    stderr.write_all(
+fn show_use(err: &impl Print) -> io::Result<()> {
+    err.write_all(
         b"card bytes   < CARD  > BOARD   a card's board\ncard text    < BOARD > CARD    a board's card\n",
     )?;
-    stderr.write_all(
+    err.write_all(
         b"card dot     < BOARD > GRAPH   a board's graph, for Graphviz: dot -Tsvg\ncard size M  < BOARD > BOARD   the board at blocks of M samples, 1 to 128\n",
     )?;
-    stderr.write_all(
+    err.write_all(
         b"card check   < CARDS           cards with a % between them, for a check\ndocs/CARD.md says what a card is.\n",
     )
 }
 
+// A word of the command; an empty one where there is none, or one that is too long.
+fn word<'a>(rt: &impl Env, i: usize, place: &'a mut [u8; 8]) -> &'a [u8] {
+    let n = rt.arg(i, place).unwrap_or(0);
+    &place[..n]
+}
+
 fn main(rt: HostRuntime) -> io::Result<()> {
-    let mut mode = [0u8; 8];
-    let m = rt.arg(1, &mut mode).unwrap_or(0);
-    if !is_mode(&mode[..m]) {
-        return show_use(&rt.stderr());
-    }
-    let mut word = [0u8; 8];
-    let w = rt.arg(2, &mut word).unwrap_or(0);
+    let to = Streams {
+        out: rt.stdout(),
+        err: rt.stderr(),
+    };
+    let mut place = [0u8; 8];
+    let Some(mode) = mode_of(word(&rt, 1, &mut place)) else {
+        return show_use(&to.err);
+    };
     let mut input = [0u8; MOST];
     let n = read_full(&mut rt.stdin(), &mut input)?;
-    run(
-        &rt.stdout(),
-        &rt.stderr(),
-        &mode[..m],
-        &word[..w],
-        &mut input[..n],
-    )
+    let input = &mut input[..n];
+    match mode {
+        Mode::Bytes => show_bytes(&to, input),
+        Mode::Show(form) => show_form(&to, input, form),
+        Mode::Size => show_size(&to, input, size_of(word(&rt, 2, &mut [0; 8]))),
+        Mode::Check => check_cards(&to, input),
+    }
 }

@@ -41,16 +41,18 @@ lines_append [] ys = refl
 lines_append (x ∷ xs) ys =
     ap (λ (z : List ℕ). line late_word x.source x.target ++ z) (lines_append xs ys) ∙ sym (append_assoc (line late_word x.source x.target) (late_lines xs) (late_lines ys))
 
--- the late ones of one wire more, from s to t
-module _ (l ss ts : List ℕ) (i s t : ℕ) (is : s ≡ get_or ss i 0) (it : t ≡ get_or ts i 0) where
-  lates_more : (b : Bool) → is_late l (wire s t) ≡ b
-      → late_lines (late_wires l (wires_of ss ts (i + 1))) ≡ late_lines (late_wires l (wires_of ss ts i)) ++ late_lines (cond b (wire s t ∷ []) [])
-  lates_more b e = ap late_lines (late-more l ss ts i s t b is it e) ∙ lines_append (late_wires l (wires_of ss ts i)) (cond b (wire s t ∷ []) [])
+-- the late ones of one wire more, p
+module _ (l : List ℕ) (ws : List (ℕ × ℕ)) (i : ℕ) (p : ℕ × ℕ) (is : p ≡ get_or ws i (0, 0)) (h : i < length ws) where
+  lates_more : (b : Bool) → is_late l (wire p.0 p.1) ≡ b
+      → late_lines (late_wires l (wires_of ws (i + 1))) ≡ late_lines (late_wires l (wires_of ws i)) ++ late_lines (cond b (wire p.0 p.1 ∷ []) [])
+  lates_more b e =
+      let more : late_wires l (wires_of ws (i + 1)) ≡ late_wires l (wires_of ws i) ++ cond b (wire p.0 p.1 ∷ []) [] = rw is (late-more l ws i b h (rw (← is) e)) in
+      ap late_lines more ∙ lines_append (late_wires l (wires_of ws i)) (cond b (wire p.0 p.1 ∷ []) [])
 
-  pub lates_hit : is_late l (wire s t) ≡ true → late_lines (late_wires l (wires_of ss ts (i + 1))) ≡ late_lines (late_wires l (wires_of ss ts i)) ++ line late_word s t
+  pub lates_hit : is_late l (wire p.0 p.1) ≡ true → late_lines (late_wires l (wires_of ws (i + 1))) ≡ late_lines (late_wires l (wires_of ws i)) ++ line late_word p.0 p.1
   unfolding late_lines
-  lates_hit e = lates_more true e ∙ ap (λ (x : List ℕ). late_lines (late_wires l (wires_of ss ts i)) ++ x) (append-nil (line late_word s t))
+  lates_hit e = lates_more true e ∙ ap (λ (x : List ℕ). late_lines (late_wires l (wires_of ws i)) ++ x) (append-nil (line late_word p.0 p.1))
 
-  pub lates_miss : is_late l (wire s t) ≡ false → late_lines (late_wires l (wires_of ss ts (i + 1))) ≡ late_lines (late_wires l (wires_of ss ts i))
+  pub lates_miss : is_late l (wire p.0 p.1) ≡ false → late_lines (late_wires l (wires_of ws (i + 1))) ≡ late_lines (late_wires l (wires_of ws i))
   unfolding late_lines
-  lates_miss e = lates_more false e ∙ append-nil (late_lines (late_wires l (wires_of ss ts i)))
+  lates_miss e = lates_more false e ∙ append-nil (late_lines (late_wires l (wires_of ws i)))

@@ -3,9 +3,9 @@
 #![tactic(auto)]
 
 use answers::answer::answer_text;
-use cards::board::{Made, board_of};
-use check::same;
+use cards::board::board_of;
 use input::read_full;
+use listing::lines::board_text;
 use std::io;
 use std::rt::Env;
 
@@ -13,29 +13,15 @@ use std::rt::Env;
 // after them reaches 65,535: no byte past the cut can change an answer. A card of this length is refused.
 const MOST: usize = 69632;
 
-fn show_board(stdout: &impl Print, s: &[u8]) -> io::Result<()> {
-    let mut out = [0u8; 2048];
-    let n = listing::lines::board_text(s, &mut out);
-    stdout.write_all(&out[..n])
-}
-
-// What is wrong with a card.
-fn show_answer(stderr: &impl Print, card: &[u8], board: &[u8], made: Made) -> io::Result<()> {
-    let mut out = [0u8; 512];
-    let n = answer_text(card, board, made, &mut out);
-    stderr.write_all(&out[..n])
-}
-
 fn show_card(stdout: &impl Print, stderr: &impl Print, card: &[u8]) -> io::Result<()> {
     if card.len() == MOST {
         return stderr.write_all(b"text too long: at most 69631 bytes\n");
     }
     let mut board = [0u8; 2048];
-    let made = board_of(card, &mut board);
-    if let Made::Board(n) = made {
-        return show_board(stdout, &board[..n]);
+    match board_of(card, &mut board) {
+        Ok(n) => stdout.write_all(board_text(&board[..n]).as_bytes()),
+        Err(wrong) => stderr.write_all(answer_text(card, &board, wrong).as_bytes()),
     }
-    show_answer(stderr, card, &board, made)
 }
 
 // What the first word asks: nothing, or a card.
@@ -44,9 +30,8 @@ fn main(rt: HostRuntime) -> io::Result<()> {
     let w = rt.arg(1, &mut word).unwrap_or(0);
     let mut bytes = [0u8; MOST];
     let n = read_full(&mut rt.stdin(), &mut bytes)?;
-    if same(&word[..w], b"card") {
-        show_card(&rt.stdout(), &rt.stderr(), &bytes[..n])
-    } else {
-        show_board(&rt.stdout(), &bytes[..n])
+    match &word[..w] {
+        b"card" => show_card(&rt.stdout(), &rt.stderr(), &bytes[..n]),
+        _ => rt.write_all(board_text(&bytes[..n]).as_bytes()),
     }
 }

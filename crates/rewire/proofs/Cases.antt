@@ -5,25 +5,25 @@ use mathlib.Core.Bool.{true, false}
 use mathlib.Core.List.{[], ◌∷◌}
 use Rattle.decimals.specs.Number.{digit_of, read_from, whole_of}
 use Rattle.text.specs.Words.{ahead, word_at}
-use Rattle.rewire.specs.declared.change.Line.TheVariants.{Empty, Says, Other}
-use Rattle.rewire.specs.Change.{change_of}
+use Rattle.std.specs.Prelude.{Some, None, Ok}
+use Rattle.rewire.specs.Change.{no_change, change_of}
 
-pub adds : change_of (43 ∷ 32 ∷ 51 ∷ 32 ∷ 48 ∷ []) ≡ Says (record { adding = true; source = 3; target = 0 })
+pub adds : change_of (43 ∷ 32 ∷ 51 ∷ 32 ∷ 48 ∷ []) ≡ Ok (Some (record { adding = true; source = 3; target = 0 }))
 unfolding change_of word_at ahead whole_of read_from digit_of
 adds = refl
 
-pub pulls : change_of (45 ∷ 32 ∷ 49 ∷ 50 ∷ 32 ∷ 54 ∷ 53 ∷ 53 ∷ 51 ∷ 53 ∷ []) ≡ Says (record { adding = false; source = 12; target = 65535 })
+pub pulls : change_of (45 ∷ 32 ∷ 49 ∷ 50 ∷ 32 ∷ 54 ∷ 53 ∷ 53 ∷ 51 ∷ 53 ∷ []) ≡ Ok (Some (record { adding = false; source = 12; target = 65535 }))
 unfolding change_of word_at ahead whole_of read_from digit_of
 pulls = refl
 
-pub too_large : change_of (43 ∷ 32 ∷ 54 ∷ 53 ∷ 53 ∷ 51 ∷ 54 ∷ 32 ∷ 48 ∷ []) ≡ Other
+pub too_large : change_of (43 ∷ 32 ∷ 54 ∷ 53 ∷ 53 ∷ 51 ∷ 54 ∷ 32 ∷ 48 ∷ []) ≡ no_change
 unfolding change_of word_at ahead whole_of read_from digit_of
 too_large = refl
 
-pub word_behind : change_of (43 ∷ 32 ∷ 51 ∷ 32 ∷ 48 ∷ 32 ∷ 43 ∷ []) ≡ Other
+pub word_behind : change_of (43 ∷ 32 ∷ 51 ∷ 32 ∷ 48 ∷ 32 ∷ 43 ∷ []) ≡ no_change
 unfolding change_of word_at ahead whole_of read_from digit_of
 word_behind = refl
 
-pub nothing : change_of (32 ∷ 13 ∷ []) ≡ Empty
+pub nothing : change_of (32 ∷ 13 ∷ []) ≡ Ok None
 unfolding change_of word_at ahead
 nothing = refl

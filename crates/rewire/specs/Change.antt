@@ -1,28 +1,35 @@
 -- A change of wires as a line of text. Definitions only.
-use Rattle.std.specs.Prelude.{ℕ, true, false, cond, ◌&&◌, List, [], ◌∷◌, eqb}
+use Rattle.std.specs.Prelude.{ℕ, true, false, cond, Option, Some, None, Result, Ok, Err, List, [], ◌∷◌, eqb}
 use Rattle.decimals.specs.Number.{whole_of}
 use Rattle.text.specs.Words.{word_at}
 use Rattle.text.specs.Written.{pair}
-use Rattle.decimals.specs.declared.number.Whole.{Whole}
 use Rattle.rewire.specs.declared.change.Change.{Change}
-use Rattle.rewire.specs.declared.change.Line.{Line}
-use Rattle.rewire.specs.declared.change.Line.TheVariants.{Empty, Says, Other}
+use Rattle.rewire.specs.declared.change.NoChange.{NoChange}
+
+abbrev pub no_change : Result (Option Change) NoChange
+no_change = Err (record {})
 
 -- "+" adds a wire, "-" pulls one
-abbrev pub signed : ℕ → ℕ → ℕ → Line
+abbrev pub signed : ℕ → ℕ → ℕ → Result (Option Change) NoChange
 signed sign s t =
-    cond (eqb sign 43) (Says (record { adding = true; source = s; target = t }))
-    (cond (eqb sign 45) (Says (record { adding = false; source = s; target = t })) Other)
+    cond (eqb sign 43) (Ok (Some (record { adding = true; source = s; target = t })))
+    (cond (eqb sign 45) (Ok (Some (record { adding = false; source = s; target = t }))) no_change)
+
+-- a sign and two numbers, where there are two
+abbrev pub by_numbers : ℕ → Option ℕ → Option ℕ → Result (Option Change) NoChange
+by_numbers sign (Some s) (Some t) = signed sign s t
+by_numbers sign (Some s) None = no_change
+by_numbers sign None t = no_change
 
 -- what the first word, the two numbers and the word behind them say
-abbrev pub by_words : List ℕ → Whole → Whole → List ℕ → Line
-by_words [] s t more = Empty
-by_words (c ∷ d ∷ sign) s t more = Other
-by_words (c ∷ []) s t (d ∷ more) = Other
-by_words (c ∷ []) s t [] = cond (s.good && t.good) (signed c s.value t.value) Other
+abbrev pub by_words : List ℕ → Option ℕ → Option ℕ → List ℕ → Result (Option Change) NoChange
+by_words [] s t more = Ok None
+by_words (c ∷ d ∷ sign) s t more = no_change
+by_words (c ∷ []) s t (d ∷ more) = no_change
+by_words (c ∷ []) s t [] = by_numbers c s t
 
 -- a line: nothing but spaces; or a sign, source and target; or no change
-unfoldable pub change_of : List ℕ → Line
+unfoldable pub change_of : List ℕ → Result (Option Change) NoChange
 change_of line = by_words (word_at 0 line) (whole_of (word_at 1 line) 65535) (whole_of (word_at 2 line) 65535) (word_at 3 line)
 
 -- the change written again: sign, source and target, one space between

@@ -15,7 +15,7 @@ ghost use Rattle.boards.specs.Judge.{judge_of};
 ghost use Rattle.rewire.specs.Step.{made_of, length_after, Plays};
 
 use boards::judge::judge;
-use change::{Change, Line, change_of, change_text};
+use change::{Change, NoChange, change_of, change_text};
 use files::name::open_read;
 use input::read_full;
 use listing::lines::board_text;
@@ -23,7 +23,7 @@ use std::env::{Env, FillError};
 use std::io;
 use std::rt::Files;
 use step::{answer_text, length_after, make};
-use text::words::{Stop, find};
+use text::words::Lines;
 
 // Makes a change on the board that the first n bytes are, shows it with what came of it, and returns
 // the board's length.
@@ -33,18 +33,11 @@ fn show_change(rt: &impl Print, bytes: &mut [u8], n: usize, change: Change) -> i
     ensures long { IfOk result (λ m. m ≡ length_after change n (made_of change bytes.old n).0) }
     ensures plays { IfOk result (λ m. Plays bytes.new m) }
 {
-    let mut out = [0u8; 2048];
-    let k = change_text(change, &mut out);
     let answer = make(bytes, n, change);
-    let after = length_after(n, change, answer);
-    rt.write_all(&out[..k])?;
-    let m = answer_text(answer, &bytes[..after], &mut out);
-    rt.write_all(&out[..m])?;
+    let after = length_after(n, change, &answer);
+    rt.write_all(change_text(change).as_bytes())?;
+    rt.write_all(answer_text(&answer, &bytes[..after]).as_bytes())?;
     Ok(after)
-}
-
-fn show_bad(rt: &impl Print, line: usize) -> io::Result<()> {
-    println!(rt; "line {line} is no change")
 }
 
 // Each change of the text, up to a line that is none, on the board that the first `board` bytes are.
@@ -52,24 +45,14 @@ fn show_changes(rt: &impl Print, bytes: &mut [u8], board: usize, text: &[u8]) ->
     requires { Plays bytes.old board }
 {
     let mut n = board;
-    let mut line = 0;
-    let mut start = 0;
-    while start < text.len() {
-        let end = find(text, start, Stop::Byte(b'\n'));
-        line += 1;
-        match change_of(&text[start..end]) {
-            Line::Empty => {}
-            Line::Says(change) => {
-                n = show_change(rt, bytes, n, change)?;
-            }
-            Line::Other => {
-                return show_bad(rt, line);
+    for (i, line) in Lines::new(text).enumerate() {
+        match change_of(line) {
+            Ok(None) => {}
+            Ok(Some(change)) => n = show_change(rt, bytes, n, change)?,
+            Err(NoChange) => {
+                return println!(rt; "line {} is no change", i.saturating_add(1));
             }
         }
-        if end == text.len() {
-            return Ok(());
-        }
-        start = end + 1;
     }
     Ok(())
 }
@@ -78,9 +61,7 @@ fn show_changes(rt: &impl Print, bytes: &mut [u8], board: usize, text: &[u8]) ->
 fn show_board(rt: &impl Print, s: &[u8]) -> io::Result<bool>
     ensures { IfOk result (λ b. b ≡ true → (judge_of s.now).number ≡ 0) }
 {
-    let mut out = [0u8; 2048];
-    let m = board_text(s, &mut out);
-    rt.write_all(&out[..m])?;
+    rt.write_all(board_text(s).as_bytes())?;
     Ok(judge(s).number == 0)
 }
 

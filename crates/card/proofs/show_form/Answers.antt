@@ -1,9 +1,12 @@
 -- `card::show_form` is safe: the board was accepted. Assumes nothing.
+use mathlib.Core.Path.{subst}
+use Rattle.boards.specs.Judge.{read_board}
+use Rattle.boards.specs.Read.{Read}
 use Rattle.graph.proofs.Wired.{table, gathered}
-use borrow.Author.Rules.{rules}
 use Rattle.card.proofs.show_form.Goals as goal
 
-pub text_of-n-requires : goal.text_of-n-requires
-text_of-n-requires g c =
-    let read = c.read_board-board.ensures in
-    (search rules, record { sound = read.sound; table = table _ _ read c.if-refused-ne0.false; gathered = gathered _ _ read c.if-refused-ne0.false })
+pub text_of-requires : goal.text_of-requires
+text_of-requires c =
+    let s = c.args.s.now in
+    let read = subst (Read (read_board s)) c.in-Ok.is c.read_board.ensures in
+    record { sound = read.1; table = table s c.in-Ok.board read; gathered = gathered s c.in-Ok.board read }

@@ -45,8 +45,8 @@ slice_bounds-answer_text-end-2 g c =
     let small : Bytes a.bytes.now = λ i. search rules in
     sym (length-take-le _ _ (plays a.change a.bytes.now a.n c.requires small _ _ _ made.answered made.bytes c.length_after-after.ensures).within)
 
-pub answer_text-m-requires-clause-answer_value : goal.answer_text-m-requires-clause-answer_value
-answer_text-m-requires-clause-answer_value g c z =
+pub answer_text-requires : goal.answer_text-requires
+answer_text-requires g c z =
     let a = c.args in
     let answer = c.make-answer.ensures in
     let small : Bytes a.bytes.now = λ i. search rules in

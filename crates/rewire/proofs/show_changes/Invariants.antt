@@ -1,11 +1,11 @@
 use mathlib.Core.Path.{◌≡◌}
-use Prim.Native.Nat.{◌≤◌, ◌-◌}
 use lib.ListN.{length}
 use Rattle.rewire.specs.Step.{Plays}
 use Rattle.rewire.proofs.show_changes.Given as goal
 
-abbrev pub invariant-loop-start : goal.invariant-loop-start
-invariant-loop-start g l = (l.line ≤ l.start) × (l.start ≤ length l.text) × (length l.bytes ≡ length l.initial.bytes) × Plays l.bytes l.n
-
-abbrev pub decreases-loop-start : goal.decreases-loop-start
-decreases-loop-start g l = length l.text - l.start
+abbrev pub invariant-loop-i : goal.invariant-loop-i
+invariant-loop-i g l =
+    (goal.iterator-loop-i g).can_next l.i-iterator
+    × (goal.iterator-loop-i g).is_finite l.i-iterator
+    × (length l.bytes ≡ length l.initial.bytes)
+    × Plays l.bytes l.n

@@ -1,31 +1,37 @@
 -- `listing::lines::board_text` meets its contract: a refused board's line, or the text of an accepted one's wires. Assumes nothing.
-use mathlib.Core.Path.{sym, ap, subst}
+use mathlib.Core.Path.{◌≡◌, sym, ap, subst, ◌∙◌}
 use mathlib.Core.List.{List}
 use Prim.Native.Nat.{ℕ}
-use Rattle.graph.proofs.Accepted.{refused_board, accepted_board}
-use Rattle.graph.proofs.Wired.{sources_within, targets_within, table, gathered}
-use Rattle.text.specs.Written.{Wrote}
-use Rattle.listing.specs.Text.{text_of}
+use Rattle.boards.specs.Judge.{read_board}
+use Rattle.boards.specs.Read.{Read}
+use Rattle.boards.specs.Wires.{wires_of}
+use Rattle.graph.proofs.Wired.{wires_within, table, gathered}
+use Rattle.listing.specs.Text.{order_text, text_of}
 use Rattle.listing.proofs.lines.board_text.Goals as goal
 
-pub returns-then-refused-ne0 : goal.returns-then-refused-ne0
-unfolding text_of
-returns-then-refused-ne0 c =
-    subst (λ (t : List ℕ). Wrote c.args.out.now 0 t c.refusal_text.new.out c.refusal_text.result)
-    (sym (ap text_of (refused_board _ _ c.read_board-board.ensures c.if-refused-ne0.true)))
-    c.refusal_text.ensures
+pub visiting_list-requires : goal.visiting_list-requires
+visiting_list-requires c =
+    let s = c.args.s.now in
+    table s c.in-Ok.board (subst (Read (read_board s)) c.in-Ok.is c.read_board.ensures)
 
-pub order_text-requires : goal.order_text-requires
-order_text-requires c =
-    let read = c.read_board-board.ensures in
-    record {
-      in_bounds = (c.requires, read.sound.few_wires, sources_within _ _ read c.if-refused-ne0.false, targets_within _ _ read c.if-refused-ne0.false);
-      table = (table _ _ read c.if-refused-ne0.false, gathered _ _ read c.if-refused-ne0.false);
-    }
+pub listed_text-requires : goal.listed_text-requires
+listed_text-requires c =
+    let s = c.args.s.now in
+    let read = subst (Read (read_board s)) c.in-Ok.is c.read_board.ensures in
+    (read.1.few_wires, read.1.wires_long, wires_within s c.in-Ok.board read)
 
-pub returns : goal.returns
+pub returns-in-Ok : goal.returns-in-Ok
 unfolding text_of
-returns c =
-    subst (λ (t : List ℕ). Wrote c.args.out.now 0 t c.order_text.new.out c.order_text.result)
-    (sym (ap text_of (accepted_board _ _ c.read_board-board.ensures c.if-refused-ne0.false)))
-    c.order_text.ensures
+returns-in-Ok c =
+    let s = c.args.s.now in
+    let board = c.in-Ok.board in
+    let read = subst (Read (read_board s)) c.in-Ok.is c.read_board.ensures in
+    let ws = wires_of board.wires.list board.wires.count in
+    let list = (c.visiting_list.ensures ws (gathered s board read)).same in
+    c.listed_text.ensures ∙ ap (λ (l : List ℕ). order_text l ws) list ∙ sym (ap text_of read.0)
+
+pub returns-in-Err : goal.returns-in-Err
+unfolding text_of
+returns-in-Err c =
+    let read = subst (Read (read_board c.args.s.now)) c.in-Err.is c.read_board.ensures in
+    c.refusal_text.ensures ∙ sym (ap text_of read.1)

@@ -1,39 +1,46 @@
 -- `listing::lines::listed_text` meets its contract: the line of the list, then those of its late wires. Assumes nothing.
-use mathlib.Core.Path.{◌≡◌}
+use mathlib.Core.Path.{◌≡◌, ap, ◌∙◌}
+use mathlib.Core.List.{List, [], ◌∷◌, ◌++◌}
+use Prim.Native.Nat.{ℕ, ◌≤◌}
 use native.Mathlib.Omega.{arith}
 use lib.ListN.{length, take}
-use lib.Seq.{length-take-le}
-use Rattle.boards.specs.Wires.{wires_of}
+use lib.Seq.{length-take-le, get_or-take}
+use Rattle.boards.specs.Wires.{Within, wires_of}
 use Rattle.graph.specs.Late.{late_wires}
-use Rattle.text.proofs.Writing.{wrote_both}
-use Rattle.listing.specs.Text.{late_lines, order_text}
+use Rattle.listing.specs.Text.{spaced_all, order_word, late_lines, order_text}
 use Rattle.listing.proofs.lines.listed_text.Goals as goal
 
-pub put_order-n-requires : goal.put_order-n-requires
-put_order-n-requires c =
-    let pre = c.requires in
-    (omega (arith, pre.in_bounds.0, pre.list_len.1), pre.list_len.0, pre.list_len.1, pre.list_len.2)
+-- the listed nodes are below 64, and no more than 64
+listed_fits : (nodes : List ℕ) (count : ℕ) (l : List ℕ) → l ≡ take count nodes → length nodes ≡ 64 → count ≤ 64 → Within 64 nodes count → (length l ≤ 64) × Within 64 l (length l)
+listed_fits nodes count l e long few below =
+    let size = length-take-le count nodes (omega (arith, long, few)) in
+    rw e (omega (arith, size, few), λ j h. rw (get_or-take count nodes j 0 (omega (arith, size, h))) (below j (omega (arith, size, h))))
 
-pub put_lates-requires : goal.put_lates-requires
-put_lates-requires c =
-    let pre = c.requires in
-    let a = c.args in
-    let long : length (take a.count a.list.now) ≡ a.count = length-take-le a.count a.list.now (omega (arith, pre.list_len.0, pre.list_len.1)) in
-    record {
-      wires_in_bounds = (
-        omega (arith, pre.in_bounds.0, pre.in_bounds.1, pre.list_len.1, c.put_order-n.ensures.short, c.put_order-n.ensures.wrote.size),
-        pre.in_bounds.1,
-        pre.in_bounds.2,
-        pre.in_bounds.3,
-      );
-      list_len = (long, c.places-at.ensures);
-    }
+pub push_nodes-requires : goal.push_nodes-requires
+push_nodes-requires c =
+    let order = c.args.order.now in
+    let fits = listed_fits order.nodes order.count c.listed.result.now c.listed.ensures order.long order.fits order.below in
+    (omega (arith, fits.0, c.push_word.ensures.len, ap (λ (l : List ℕ). length l) c.new-out.ensures), fits.1)
+
+pub push_lates-requires : goal.push_lates-requires
+push_lates-requires c =
+    let order = c.args.order.now in
+    let fits = listed_fits order.nodes order.count c.listed.result.now c.listed.ensures order.long order.fits order.below in
+    let pre = c.requires in (
+      omega (arith, fits.0, c.push_word.ensures.len, ap (λ (l : List ℕ). length l) c.new-out.ensures, c.push_nodes.ensures.short, c.push.ensures.len, pre.0),
+      pre.0,
+      pre.1,
+      pre.2,
+    )
 
 pub returns : goal.returns
 unfolding order_text
 returns c =
-    let a = c.args in
-    wrote_both
-    {t = late_lines (late_wires (take a.count a.list.now) (wires_of a.sources.now a.targets.now a.wires))}
-    c.put_order-n.ensures.wrote
-    c.put_lates.ensures
+    let order = c.args.order.now in
+    let wires = c.args.wires.now in
+    let l = take order.count order.nodes in
+    let head : c.push_word.new.self ≡ order_word = c.push_word.ensures.text ∙ ap (λ (t : List ℕ). t ++ order_word) c.new-out.ensures in
+    let nodes : c.push_nodes.new.out ≡ order_word ++ spaced_all l =
+    c.push_nodes.ensures.wrote ∙ ap (λ (t : List ℕ). t ++ spaced_all c.listed.result.now) head ∙ ap (λ (k : List ℕ). order_word ++ spaced_all k) c.listed.ensures in
+    c.push_lates.ensures
+    ∙ ap (λ (t : List ℕ). t ++ late_lines (late_wires l (wires_of wires.list wires.count))) (c.push.ensures.text ∙ ap (λ (t : List ℕ). t ++ (10 ∷ [])) nodes)

@@ -1,66 +1,74 @@
 -- `rewire::change::change_of` meets its contract: each return by the words that the line has. Assumes nothing.
-use mathlib.Core.Path.{◌≡◌, sym, ap, ◌∙◌}
-use mathlib.Core.Bool.{cond, ◌&&◌}
+use mathlib.Core.Path.{◌≡◌, refl, sym, ap, ◌∙◌}
 use mathlib.Core.List.{List}
 use Prim.Native.Nat.{ℕ}
 use lib.ListN.{length, get_or}
+use Rattle.std.proofs.lemmas.Bool.{eqb-true, eqb-false}
+use Rattle.std.specs.Prelude.{Option, Some, None}
 use Rattle.decimals.specs.Number.{whole_of}
 use Rattle.text.specs.Words.{word_at}
-use Rattle.decimals.specs.declared.number.Whole.{Whole}
-use Rattle.rewire.specs.declared.change.Line.TheVariants.{Other}
-use Rattle.rewire.specs.Change.{signed, change_of}
-use Rattle.rewire.proofs.Saying.{no_words, long_sign, more_words, said}
+use Rattle.rewire.specs.Change.{by_numbers, change_of}
+use Rattle.rewire.proofs.Saying.{no_words, long_sign, more_words, three_words}
 use Rattle.rewire.proofs.change.change_of.Goals as goal
 
-abbrev source : List ℕ → Whole
+abbrev source : List ℕ → Option ℕ
 source line = whole_of (word_at 1 line) 65535
 
-abbrev target : List ℕ → Whole
+abbrev target : List ℕ → Option ℕ
 target line = whole_of (word_at 2 line) 65535
 
--- the line by its sign, the word behind its numbers, and the numbers as they were read
-numbers : (line sign more : List ℕ) (s t : Whole) → sign ≡ word_at 0 line → more ≡ word_at 3 line → s ≡ source line → t ≡ target line → length sign ≡ 1 → length more ≡ 0
-    → cond (s.good && t.good) (signed (get_or sign 0 0) s.value t.value) Other ≡ change_of line
+pub returns-then-is_empty : goal.returns-then-is_empty
 unfolding change_of
-numbers line sign more s t is behind from to one none =
-    ap (λ (w : List ℕ). cond (s.good && t.good) (signed (get_or w 0 0) s.value t.value) Other) is
-    ∙ said (word_at 0 line) (word_at 3 line) s (source line) t (target line) from to (ap length (sym is) ∙ one) (ap length (sym behind) ∙ none)
-
-pub returns-then-sign-eq0 : goal.returns-then-sign-eq0
-unfolding change_of
-returns-then-sign-eq0 c =
-    let sign = c.word_at-sign in
+returns-then-is_empty c =
     let line = c.args.line.now in
-    no_words (source line) (target line) (word_at 0 line) (word_at 3 line) (ap length (sym sign.ensures) ∙ c.if-sign-eq0.true)
+    let none = eqb-true _ 0 (sym c.is_empty.ensures ∙ c.if-is_empty.true) in
+    no_words (source line) (target line) (word_at 0 line) (word_at 3 line) (ap length (sym c.word_at-sign.ensures) ∙ none)
 
 pub returns-then-sign-ne1 : goal.returns-then-sign-ne1
 unfolding change_of
 returns-then-sign-ne1 c =
-    let sign = c.word_at-sign in
     let line = c.args.line.now in
-    long_sign (source line) (target line) (word_at 0 line) (word_at 3 line) (λ z. c.if-sign-eq0.false (ap length sign.ensures ∙ z)) (λ z. c.if-sign-ne1.true (ap length sign.ensures ∙ z))
+    let sign = c.word_at-sign in
+    let some = eqb-false _ 0 (sym c.is_empty.ensures ∙ c.if-is_empty.false) in
+    long_sign (source line) (target line) (word_at 0 line) (word_at 3 line) (λ z. some (ap length sign.ensures ∙ z)) (λ z. c.if-sign-ne1.true (ap length sign.ensures ∙ z))
 
-pub returns-then-word_at-ne0 : goal.returns-then-word_at-ne0
+pub returns-then-not-is_empty : goal.returns-then-not-is_empty
 unfolding change_of
-returns-then-word_at-ne0 c =
-    let sign = c.word_at-sign in
+returns-then-not-is_empty c =
     let line = c.args.line.now in
-    more_words (source line) (target line) (word_at 0 line) (word_at 3 line) (ap length (sym sign.ensures) ∙ c.if-sign-ne1.false) (λ z. c.if-word_at-ne0.true (ap length c.word_at.ensures ∙ z))
+    let some = eqb-false _ 0 (sym c.is_empty-2.ensures ∙ c.if-not-is_empty.true) in
+    more_words (source line) (target line) (word_at 0 line) (word_at 3 line) (ap length (sym c.word_at-sign.ensures) ∙ c.if-sign-ne1.false) (λ z. some (ap length c.word_at.ensures ∙ z))
 
-pub returns-then-not-source-target : goal.returns-then-not-source-target
-returns-then-not-source-target c =
-    let s = c.whole_of-source in
-    let t = c.whole_of-target in
-    let read = numbers c.args.line.now c.word_at-sign.result.now c.word_at.result.now s.result t.result c.word_at-sign.ensures c.word_at.ensures
-    (s.ensures.1 ∙ ap (λ (w : List ℕ). whole_of w 65535) c.word_at-2.ensures) (t.ensures.1 ∙ ap (λ (w : List ℕ). whole_of w 65535) c.word_at-3.ensures)
-    c.if-sign-ne1.false c.if-word_at-ne0.false in
-    rw c.if-not-source-target.true at read
+-- the line by its sign and the numbers as they were read
+numbers : (line sign more : List ℕ) (s t : Option ℕ) → sign ≡ word_at 0 line → more ≡ word_at 3 line → s ≡ source line → t ≡ target line → length sign ≡ 1 → length more ≡ 0
+    → by_numbers (get_or sign 0 0) s t ≡ change_of line
+unfolding change_of
+numbers line sign more s t is behind from to one none =
+    ap (λ (w : List ℕ). by_numbers (get_or w 0 0) s t) is
+    ∙ ap (λ (x : Option ℕ). by_numbers (get_or (word_at 0 line) 0 0) x t) from
+    ∙ ap (λ (x : Option ℕ). by_numbers (get_or (word_at 0 line) 0 0) (source line) x) to
+    ∙ sym (three_words (source line) (target line) (word_at 0 line) (word_at 3 line) (ap length (sym is) ∙ one) (ap length (sym behind) ∙ none))
+
+pub returns-in_default : goal.returns-in_default
+returns-in_default c =
+    let line = c.args.line.now in
+    let none = eqb-true _ 0 (sym c.is_empty-2.ensures ∙ c.if-not-is_empty.false) in
+    let from = sym c.in_default.is ∙ c.whole_of.ensures.1 ∙ ap (λ (w : List ℕ). whole_of w 65535) c.word_at-2.ensures in
+    numbers line c.word_at-sign.result.now c.word_at.result.now None (target line) c.word_at-sign.ensures c.word_at.ensures from refl c.if-sign-ne1.false none
+
+pub returns-in_default-whole_of : goal.returns-in_default-whole_of
+returns-in_default-whole_of c =
+    let line = c.args.line.now in
+    let none = eqb-true _ 0 (sym c.is_empty-2.ensures ∙ c.if-not-is_empty.false) in
+    let from = sym c.in-Some.is ∙ c.whole_of.ensures.1 ∙ ap (λ (w : List ℕ). whole_of w 65535) c.word_at-2.ensures in
+    let to = sym c.in_default-whole_of.is ∙ c.whole_of-2.ensures.1 ∙ ap (λ (w : List ℕ). whole_of w 65535) c.word_at-3.ensures in
+    numbers line c.word_at-sign.result.now c.word_at.result.now (Some c.in-Some.source) None c.word_at-sign.ensures c.word_at.ensures from to c.if-sign-ne1.false none
 
 pub returns : goal.returns
 returns c =
-    let s = c.whole_of-source in
-    let t = c.whole_of-target in
-    let read = numbers c.args.line.now c.word_at-sign.result.now c.word_at.result.now s.result t.result c.word_at-sign.ensures c.word_at.ensures
-    (s.ensures.1 ∙ ap (λ (w : List ℕ). whole_of w 65535) c.word_at-2.ensures) (t.ensures.1 ∙ ap (λ (w : List ℕ). whole_of w 65535) c.word_at-3.ensures)
-    c.if-sign-ne1.false c.if-word_at-ne0.false in
-    c.signed.ensures ∙ (rw c.if-not-source-target.false at read)
+    let line = c.args.line.now in
+    let none = eqb-true _ 0 (sym c.is_empty-2.ensures ∙ c.if-not-is_empty.false) in
+    let from = sym c.in-Some.is ∙ c.whole_of.ensures.1 ∙ ap (λ (w : List ℕ). whole_of w 65535) c.word_at-2.ensures in
+    let to = sym c.in-Some-whole_of.is ∙ c.whole_of-2.ensures.1 ∙ ap (λ (w : List ℕ). whole_of w 65535) c.word_at-3.ensures in
+    c.signed.ensures
+    ∙ numbers line c.word_at-sign.result.now c.word_at.result.now (Some c.in-Some.source) (Some c.in-Some-whole_of.target) c.word_at-sign.ensures c.word_at.ensures from to c.if-sign-ne1.false none

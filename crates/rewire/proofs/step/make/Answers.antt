@@ -6,6 +6,6 @@ pub returns-then-change : goal.returns-then-change
 unfolding made_of
 returns-then-change c = rw c.if-change.true c.add_wire.ensures
 
-pub returns : goal.returns
+pub returns-else-change : goal.returns-else-change
 unfolding made_of
-returns c = rw c.if-change.false c.pull_wire.ensures
+returns-else-change c = rw c.if-change.false c.pull_wire.ensures

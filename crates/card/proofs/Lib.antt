@@ -1,2 +1,0 @@
--- Laws that the proofs of `card` cite.
-pub mod Ends
