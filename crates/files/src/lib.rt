@@ -6,30 +6,35 @@ pub mod name;
 pub mod output;
 
 use crate::name::{open_read, open_update};
-use std::fs::{Metadata, OpenFile};
-use std::io;
+use std::fs::OpenFile;
 use std::os::unix::fs::MetadataExt;
 use std::rt::Files;
 
-// The device and the number of an open file, and whether it is a regular one: two names that lead to one
-// file have both numbers alike. Where they cannot be told, it is not regular.
-#[derive(Clone, Copy)]
+// The device and the number of a regular file: two names that lead to one file have both alike.
+#[derive(Clone, Copy, Debug, PartialEq, Eq)]
 pub struct Identity {
     pub device: u64,
     pub number: u64,
-    pub regular: bool,
 }
 
-// Of an open file, as the system tells.
-pub fn identify(file: &impl OpenFile) -> Identity {
-    taken(file.metadata())
+// Of an open file, as the system tells; none of what is no regular file, or where it tells nothing.
+pub fn identify(file: &impl OpenFile) -> Option<Identity> {
+    let told = file.metadata().ok()?;
+    if !told.is_file() {
+        return None;
+    }
+    Some(Identity {
+        device: told.dev(),
+        number: told.ino(),
+    })
 }
 
 // Whether two open files are one regular file: to write the one would lose the other.
 pub fn same_file(a: &impl OpenFile, b: &impl OpenFile) -> bool {
-    let x = identify(a);
-    let y = identify(b);
-    x.regular & y.regular & (x.device == y.device) & (x.number == y.number)
+    match (identify(a), identify(b)) {
+        (Some(x), Some(y)) => x == y,
+        _ => false,
+    }
 }
 
 // Whether an output that is there is the open file, under any name. Opening it for reading and writing
@@ -43,27 +48,11 @@ pub fn is_open_file<R: Files>(rt: &R, file: &R::File, output: &[u8]) -> bool {
 
 // The same of a file that is named; no file has an empty name.
 pub fn is_file<R: Files>(rt: &R, name: &[u8], output: &[u8]) -> bool {
-    if name.len() == 0 {
+    if name.is_empty() {
         return false;
     }
     match open_read(rt, name) {
         Ok(file) => is_open_file(rt, &file, output),
         Err(_) => false,
-    }
-}
-
-// What is wanted of what the system told, if it did.
-fn taken(told: io::Result<Metadata>) -> Identity {
-    match told {
-        Ok(told) => Identity {
-            device: told.dev(),
-            number: told.ino(),
-            regular: told.is_file(),
-        },
-        Err(_) => Identity {
-            device: 0,
-            number: 0,
-            regular: false,
-        },
     }
 }

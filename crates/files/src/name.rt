@@ -12,10 +12,12 @@ pub fn path_of(name: &[u8]) -> io::Result<&str>
     ensures text { IsOk result ↔ IsUtf8 name.now }
     ensures same { IfOk result (λ path. path.now ≡ name.now) }
 {
-    match str::from_utf8(name) {
-        Ok(path) => Ok(path),
-        Err(_) => Err(io::Error::from(io::ErrorKind::InvalidFilename)),
-    }
+    str::from_utf8(name).map_err(|_| io::Error::from(io::ErrorKind::InvalidFilename))
+}
+
+// Opens a file as the options say.
+fn open<R: Files>(rt: &R, name: &[u8], options: &OpenOptions) -> io::Result<R::File> {
+    options.open(rt, path_of(name)?)
 }
 
 // Opens a file for reading.
@@ -25,10 +27,7 @@ pub fn open_read<R: Files>(rt: &R, name: &[u8]) -> io::Result<R::File> {
 
 // Opens a file for reading and writing, and leaves its bytes as they are.
 pub fn open_update<R: Files>(rt: &R, name: &[u8]) -> io::Result<R::File> {
-    OpenOptions::new()
-        .read(true)
-        .write(true)
-        .open(rt, path_of(name)?)
+    open(rt, name, OpenOptions::new().read(true).write(true))
 }
 
 // Opens a file for writing and empties it, if it is a regular one; or makes it.
@@ -38,10 +37,7 @@ pub fn open_overwrite<R: Files>(rt: &R, name: &[u8]) -> io::Result<R::File> {
 
 // Makes a file, where none has the name, and opens it for writing.
 pub fn create<R: Files>(rt: &R, name: &[u8]) -> io::Result<R::File> {
-    OpenOptions::new()
-        .write(true)
-        .create_new(true)
-        .open(rt, path_of(name)?)
+    open(rt, name, OpenOptions::new().write(true).create_new(true))
 }
 
 // Gives a file another name, which is taken from the file that has it.

@@ -1,23 +1,41 @@
 // For programs: input read into a buffer.
 #![tactic(auto)]
 
+ghost use Rattle.std.specs.Prelude.{◌<◌, length, take, IfOk, OnOk};
 ghost use Rattle.std.specs.Io.{ReadsAtMost};
+ghost use Rattle.std.specs.Io.KnownBytes.{Consumes, IsAtEnd};
+ghost use Rattle.io.specs.Counts.{IsPrefixLen};
 
 use std::io;
 use std::io::Read;
 
-// Reads until `buf` is full or the input ends, and returns how many bytes it put at the start of `buf`.
-// Ruled out: more bytes than there is room for (one_byte_more).
-pub fn read_full(input: &mut impl Read, buf: &mut [u8]) -> io::Result<usize>
-    ensures { ReadsAtMost result buf.new }
+// Reads until `buf` is full, the input ends or a read fails: how many bytes it put at the start of `buf`,
+// and the failure that ended it. Ruled out: more bytes than there is room for (one_byte_more); a failure
+// that is answered as the input's end (failure_unsaid).
+pub fn fill<R: Read>(input: &mut R, buf: &mut [u8]) -> (usize, io::Result<()>)
+    ensures within { IsPrefixLen result.0 buf.new }
+    ensures bytes { Consumes (R.remaining input.old) (R.remaining input.new) (take result.0 buf.new) }
+    ensures end { OnOk result.1 (result.0 < length buf.new → IsAtEnd (R.remaining input.new)) }
 {
     let mut done = 0;
+    // A `while`: a turn passes as many bytes as a read gave.
     while done < buf.len() {
-        let n = input.read(&mut buf[done..])?;
-        if n == 0 {
-            break;
+        match input.read(&mut buf[done..]) {
+            Ok(0) => break,
+            Ok(n) => done += n,
+            Err(why) => return (done, Err(why)),
         }
-        done += n;
     }
+    (done, Ok(()))
+}
+
+// The same, where a failure is all that the caller needs to know: how many bytes, or the failure.
+pub fn read_full<R: Read>(input: &mut R, buf: &mut [u8]) -> io::Result<usize>
+    ensures within { ReadsAtMost result buf.new }
+    ensures bytes { IfOk result (λ n. Consumes (R.remaining input.old) (R.remaining input.new) (take n buf.new)) }
+    ensures end { IfOk result (λ n. n < length buf.new → IsAtEnd (R.remaining input.new)) }
+{
+    let (done, ended) = fill(input, buf);
+    ended?;
     Ok(done)
 }

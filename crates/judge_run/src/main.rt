@@ -2,27 +2,26 @@
 // place of each answer on a line.
 #![tactic(auto)]
 
+ghost use Rattle.std.specs.Prelude.{◌<◌, length, IfSome};
+
 use boards::judge::judge;
 use input::read_full;
-use records::answer::Answer;
 use std::io;
-use values::bytes::u16_at;
 
-fn show(rt: &impl Print, a: Answer) -> io::Result<()> {
-    println!(rt; "{} {}", a.number, a.place)
+// The first of some boards, and those after it; none where it is cut short.
+fn next_board(boards: &[u8]) -> Option<(&[u8], &[u8])>
+    ensures { IfSome result (λ p. length p.1.now < length boards.now) }
+{
+    let (size, rest) = boards.split_first_chunk()?;
+    rest.split_at_checked(usize::from(u16::from_le_bytes(*size)))
 }
 
-fn judge_all(rt: &impl Print, s: &[u8]) -> io::Result<()> {
-    let mut at = 0;
-    while 2 <= s.len() - at {
-        let size = u16_at(s, at) as usize;
-        let start = at + 2;
-        if s.len() - start < size {
-            return Ok(());
-        }
-        let end = start + size;
-        show(rt, judge(&s[start..end]))?;
-        at = end;
+fn judge_all(rt: &impl Print, boards: &[u8]) -> io::Result<()> {
+    let mut rest = boards;
+    while let Some((board, after)) = next_board(rest) {
+        let answer = judge(board);
+        println!(rt; "{} {}", answer.number, answer.place)?;
+        rest = after;
     }
     Ok(())
 }

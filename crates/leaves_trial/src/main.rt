@@ -3,12 +3,11 @@
 // questions, and the lines by its own reading of document 01.
 #![tactic(auto)]
 
-ghost use Rattle.std.specs.Prelude.{◌+◌, ◌≤◌, length};
+ghost use Rattle.std.specs.Prelude.{◌≡◌, length};
 
 use input::read_full;
-use leaves::lengths::Length;
 use leaves::onepole::OnePole;
-use std::io;
+use std::{fmt, io};
 use values::bytes::u32_at;
 use values::float::{finite, of_bits, to_bits, within};
 
@@ -19,8 +18,10 @@ struct Line(u32, u32);
 // Where the leaf may not be asked.
 const OUTSIDE: Line = Line(0xffff_ffff, 0);
 
-fn bit(b: bool) -> u32 {
-    if b { 1 } else { 0 }
+impl fmt::Display for Line {
+    fn fmt<W: fmt::Write>(&self, f: &mut fmt::Formatter<W>) -> fmt::Result {
+        write!(f, "{:08x} {:08x}", self.0, self.1)
+    }
 }
 
 fn sine(phase: f32) -> Line {
@@ -34,11 +35,9 @@ fn sine(phase: f32) -> Line {
     }
 }
 
-fn length(l: Length) -> Line {
-    match l {
-        Length::Samples(n) => Line(0, n),
-        Length::OutOfRange => Line(12, 0),
-    }
+// A line's length; or the number that stands for none, 12.
+fn length(samples: Option<u32>) -> Line {
+    samples.map_or(Line(12, 0), |n| Line(0, n))
 }
 
 fn position(m: f32, n: u32) -> Line {
@@ -62,11 +61,18 @@ fn pole(b: f32, y1: f32, x: f32) -> Line {
 }
 
 fn range(x: f32, most: f32) -> Line {
-    Line(bit(finite(x)), bit(within(x, most)))
+    Line(u32::from(finite(x)), u32::from(within(x, most)))
 }
 
-fn answer(leaf: u32, a: u32, b: u32, c: u32) -> Line {
-    match leaf {
+// The answer to a question. Numbers for the leaves: they are read here alone, so names for them would
+// only be matched a second time.
+fn answer(question: &[u8]) -> Line
+    requires { length question.now ≡ 16 }
+{
+    let a = u32_at(question, 4);
+    let b = u32_at(question, 8);
+    let c = u32_at(question, 12);
+    match u32_at(question, 0) {
         0 => Line(to_bits(of_bits(a)), 0),
         1 => range(of_bits(a), of_bits(b)),
         2 => sine(of_bits(a)),
@@ -83,26 +89,10 @@ fn answer(leaf: u32, a: u32, b: u32, c: u32) -> Line {
     }
 }
 
-fn show(rt: &impl Print, l: Line) -> io::Result<()> {
-    println!(rt; "{:08x} {:08x}", l.0, l.1)
-}
-
-fn answer_at(s: &[u8], at: usize) -> Line
-    requires { at + 16 ≤ length s.now }
-{
-    answer(
-        u32_at(s, at),
-        u32_at(s, at + 4),
-        u32_at(s, at + 8),
-        u32_at(s, at + 12),
-    )
-}
-
+// A line for each whole question.
 fn answer_all(rt: &impl Print, s: &[u8]) -> io::Result<()> {
-    let mut at = 0;
-    while 16 <= s.len() - at {
-        show(rt, answer_at(s, at))?;
-        at += 16;
+    for question in s.chunks_exact(16) {
+        println!(rt; "{}", answer(question))?;
     }
     Ok(())
 }

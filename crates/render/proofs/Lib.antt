@@ -1,3 +1,2 @@
--- Laws that the proofs of `render` share.
-pub mod Parts
+-- A law that the proof of `turn` cites.
 pub mod Turns

@@ -1,141 +1,139 @@
 // The board that a sound is played through: the plate with a mix, a board's bytes from a file, or the
 // board of a card.
-ghost use Rattle.std.specs.Prelude.{◌≤◌, length};
-ghost use Rattle.render.specs.Board.{Given};
+ghost use Rattle.std.specs.Prelude.{◌≤◌, length, IfOk};
 
 use answers::answer::{answer_text, refusal_text};
-use cards::board::{Made as Card, board_of as read_card};
-use check::same;
-use decimals::number::{Float, float_of};
+use cards::board::board_of as read_card;
+use decimals::number::{FloatError, float_of};
 use files::name::open_read;
+use records::answer::Answer;
 use sounds::file::read_full;
 use sounds::say;
 use sounds::say::To;
+use std::io;
 use std::rt::Files;
+use text::written::Text;
 use values::float::of_bits;
 
-// A board's bytes, so many; or something is wrong, and was told.
+// What stands for a board: `plate MIX`, `board FILE` or `card FILE`.
 #[derive(Clone, Copy)]
-pub enum Made {
-    Bytes(usize),
-    Bad,
+pub enum Form {
+    Plate,
+    Board,
+    Card,
 }
 
-// The plate's board at blocks of 128 samples.
-fn write_plate(to: To, mix: &[u8], bits: u32, board: &mut [u8]) -> Made
-    requires { 1270 ≤ length board.old }
-    ensures { Given (length board.new) result }
-{
-    let answer = plate_board::writer::write(128, of_bits(bits), &mut board[..1270]);
-    if answer.number != 0 {
-        say::problem(to, mix, b"mix not finite");
-        return Made::Bad;
-    }
-    Made::Bytes(1270)
-}
-
-// The plate with a mix that is written as a number.
-fn plate_of(to: To, mix: &[u8], board: &mut [u8]) -> Made
-    requires { 1270 ≤ length board.old }
-    ensures { Given (length board.new) result }
-{
-    match float_of(mix) {
-        Float::Is(bits) => write_plate(to, mix, bits, board),
-        Float::Bad => {
-            say::problem(to, mix, b"no float");
-            Made::Bad
+impl Form {
+    pub fn named(word: &[u8]) -> Option<Form> {
+        match word {
+            b"plate" => Some(Form::Plate),
+            b"board" => Some(Form::Board),
+            b"card" => Some(Form::Card),
+            _ => None,
         }
-        Float::Long => {
-            say::problem(
+    }
+
+    // Whether the board comes from a file, which the form's other word names.
+    pub fn is_file(self) -> bool {
+        matches!(self, Form::Board | Form::Card)
+    }
+}
+
+// Why there is no board. An answer is what is wrong with a card or a board, in words.
+#[derive(Drop)]
+pub enum BoardError {
+    Mix(FloatError),
+    MixNotFinite,
+    Unopened(io::Error),
+    LongText,
+    Answer(Text<512>),
+}
+
+impl BoardError {
+    // What is wrong with a board, by its refusal.
+    pub fn refused(board: &[u8], refusal: Answer) -> BoardError {
+        BoardError::Answer(refusal_text(board, refusal))
+    }
+
+    // Told of the mix or the file.
+    pub fn tell(self, to: To, what: &[u8]) {
+        match self {
+            BoardError::Mix(FloatError::Bad) => say::problem(to, what, "no float"),
+            BoardError::Mix(FloatError::Long) => say::problem(
                 to,
-                mix,
-                b"decimal too long: write its bits, x and 8 hexadecimal digits",
-            );
-            Made::Bad
+                what,
+                "decimal too long: write its bits, x and 8 hexadecimal digits",
+            ),
+            BoardError::MixNotFinite => say::problem(to, what, "mix not finite"),
+            BoardError::Unopened(why) => say::failed(to, what, why, "cannot be opened"),
+            BoardError::LongText => { say::problem(to, what, "text too long: at most 69631 bytes") }
+            BoardError::Answer(text) => say::answer(to, what, text.as_bytes()),
         }
     }
+}
+
+// The plate at blocks of 128 samples, with a mix that is written as a number.
+fn plate_of(mix: &[u8], board: &mut [u8]) -> Result<usize, BoardError>
+    requires { 1270 ≤ length board.old }
+    ensures { IfOk result (λ n. n ≤ length board.new) }
+{
+    let bits = match float_of(mix) {
+        Ok(bits) => bits,
+        Err(why) => return Err(BoardError::Mix(why)),
+    };
+    let answer = plate_board::writer::write(128, of_bits(bits), &mut board[..1270]);
+    if answer.checked().is_err() {
+        return Err(BoardError::MixNotFinite);
+    }
+    Ok(1270)
 }
 
 // A board's bytes from a file. No byte past the buffer's end can change the judge's answer.
-fn board_of<R: Files>(rt: &R, to: To, file: &[u8], board: &mut [u8]) -> Made
-    ensures { Given (length board.new) result }
+fn board_of<R: Files>(rt: &R, file: &[u8], board: &mut [u8]) -> Result<usize, BoardError>
+    ensures { IfOk result (λ n. n ≤ length board.new) }
 {
-    match open_read(rt, file) {
-        Ok(mut opened) => Made::Bytes(read_full(&mut opened, board)),
-        Err(why) => {
-            say::failed(to, file, why, b"cannot be opened");
-            Made::Bad
-        }
-    }
-}
-
-// What is wrong with a card.
-fn tell_card(to: To, file: &[u8], text: &[u8], board: &[u8], card: Card) {
-    let mut out = [0u8; 512];
-    let n = answer_text(text, board, card, &mut out);
-    say::answer(to, file, &out[..n]);
-}
-
-// What is wrong with a board, by its refusal.
-pub fn tell_board(to: To, file: &[u8], board: &[u8], number: u32, place: u32) {
-    let mut out = [0u8; 512];
-    let n = refusal_text(board, number, place, &mut out);
-    say::answer(to, file, &out[..n]);
+    let mut opened = open_read(rt, file).map_err(BoardError::Unopened)?;
+    Ok(read_full(&mut opened, board))
 }
 
 // The board that a card's text says.
-fn card_of(to: To, file: &[u8], text: &[u8], board: &mut [u8]) -> Made
+fn card_of(text: &[u8], board: &mut [u8]) -> Result<usize, BoardError>
     requires { 1932 ≤ length board.old }
-    ensures { Given (length board.new) result }
+    ensures { IfOk result (λ n. n ≤ length board.new) }
 {
-    let card = read_card(text, board);
-    if let Card::Board(n) = card {
-        return Made::Bytes(n);
+    match read_card(text, board) {
+        Ok(n) => Ok(n),
+        Err(wrong) => Err(BoardError::Answer(answer_text(text, board, wrong))),
     }
-    tell_card(to, file, text, board, card);
-    Made::Bad
 }
 
 // The board of a card in a file. A text that fills the buffer may have been cut.
-fn card_in<R: Files>(rt: &R, to: To, file: &[u8], board: &mut [u8]) -> Made
+fn card_in<R: Files>(rt: &R, file: &[u8], board: &mut [u8]) -> Result<usize, BoardError>
     requires { 1932 ≤ length board.old }
-    ensures { Given (length board.new) result }
+    ensures { IfOk result (λ n. n ≤ length board.new) }
 {
-    let mut opened = match open_read(rt, file) {
-        Ok(opened) => opened,
-        Err(why) => {
-            say::failed(to, file, why, b"cannot be opened");
-            return Made::Bad;
-        }
-    };
+    let mut opened = open_read(rt, file).map_err(BoardError::Unopened)?;
     let mut text = [0u8; 69632];
     let n = read_full(&mut opened, &mut text);
-    if n == 69632 {
-        say::problem(to, file, b"text too long: at most 69631 bytes");
-        return Made::Bad;
+    if n == text.len() {
+        return Err(BoardError::LongText);
     }
-    card_of(to, file, &text[..n], board)
+    card_of(&text[..n], board)
 }
 
-// `plate MIX`, `board FILE` or `card FILE`: a form is a word here, and a function that fills the buffer.
-pub fn make<R: Files>(rt: &R, to: To, form: &[u8], what: &[u8], board: &mut [u8]) -> Made
+// Fills a buffer with the board's bytes, so many: a form is a word above, and a function here.
+pub fn make<R: Files>(
+    rt: &R,
+    form: Form,
+    what: &[u8],
+    board: &mut [u8],
+) -> Result<usize, BoardError>
     requires { 1932 ≤ length board.old }
-    ensures { Given (length board.new) result }
+    ensures { IfOk result (λ n. n ≤ length board.new) }
 {
-    if same(form, b"plate") {
-        return plate_of(to, what, board);
+    match form {
+        Form::Plate => plate_of(what, board),
+        Form::Board => board_of(rt, what, board),
+        Form::Card => card_in(rt, what, board),
     }
-    if same(form, b"board") {
-        return board_of(rt, to, what, board);
-    }
-    if same(form, b"card") {
-        return card_in(rt, to, what, board);
-    }
-    say::problem(to, form, b"neither plate nor board nor card");
-    Made::Bad
-}
-
-// Whether the bytes of a form come from a file, which its other word names.
-pub fn from_file(form: &[u8]) -> bool {
-    same(form, b"board") | same(form, b"card")
 }

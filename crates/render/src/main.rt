@@ -17,81 +17,62 @@ mod render;
 mod turn;
 mod words;
 
-ghost use Rattle.std.specs.Prelude.{◌≡◌};
 ghost use Rattle.io.specs.Counts.{IsPrefixLen};
 
-use check::same;
 use files::name::open_read;
-use render::render;
+use render::{Job, render};
 use sounds::file::read_full;
 use sounds::say;
 use sounds::say::To;
 use std::env::FillError;
 use std::fs::File;
+use std::io::Write;
 use std::rt::{Env, Files};
-use text::words::{Stop, find, word_at, word_count};
-use words::{Asked, Understood, nothing, with_word};
+use text::words::{Lines, find, word_at, word_count};
+use words::{Asked, WordError};
 
-fn usage(to: To) {
-    say::text(
-        to,
-        b"render IN.wav OUT.wav plate MIX [SECONDS] [mono|left|right] [progress]\n",
-    );
-    say::text(
-        to,
-        b"render IN.wav OUT.wav board FILE [SECONDS] [mono|left|right] [progress]\n",
-    );
-    say::text(
-        to,
-        b"render IN.wav OUT.wav card FILE [SECONDS] [mono|left|right] [progress]\n",
-    );
-    say::text(to, b"render list FILE, render check FILE\n");
-    say::text(
-        to,
-        b"IN: WAV, 44100 Hz, mono or stereo, 8, 16, 24 or 32 bit whole numbers or 32 bit floats\n",
-    );
-    say::text(
-        to,
-        b"OUT: WAV, 32 bit floats in stereo; - is standard output\n",
-    );
-    say::text(
-        to,
-        b"MIX: 0 is the sound alone, 1 the plate alone; SECONDS: how long OUT goes on after IN, up to 600\n",
-    );
-    say::text(to, b"docs/RENDER.md has more\n");
+const USAGE: &str = "render IN.wav OUT.wav plate MIX [SECONDS] [mono|left|right] [progress]
+render IN.wav OUT.wav board FILE [SECONDS] [mono|left|right] [progress]
+render IN.wav OUT.wav card FILE [SECONDS] [mono|left|right] [progress]
+render list FILE, render check FILE
+IN: WAV, 44100 Hz, mono or stereo, 8, 16, 24 or 32 bit whole numbers or 32 bit floats
+OUT: WAV, 32 bit floats in stereo; - is standard output
+MIX: 0 is the sound alone, 1 the plate alone; SECONDS: how long OUT goes on after IN, up to 600
+docs/RENDER.md has more
+";
+
+fn usage(mut to: To) {
+    let _ = to.write_all(USAGE.as_bytes());
+}
+
+// One more word; one that is refused is told.
+fn with_word(to: To, asked: Asked, word: &[u8]) -> Result<Asked, WordError> {
+    let more = asked.with(word);
+    if let Err(why) = more {
+        say::problem(to, word, why);
+    }
+    more
 }
 
 // What the words of a line from the fifth on ask for.
-fn line_asks(to: To, line: &[u8]) -> Understood {
-    let count = word_count(line);
-    let mut asked = nothing();
-    let mut k = 4;
-    while k < count {
-        match with_word(to, asked, word_at(line, k)) {
-            Understood::Is(next) => asked = next,
-            Understood::Bad => return Understood::Bad,
-        }
-        k += 1;
+fn line_asks(to: To, line: &[u8]) -> Result<Asked, WordError> {
+    let mut asked = Asked::nothing();
+    for k in 4..word_count(line) {
+        asked = with_word(to, asked, word_at(line, k))?;
     }
-    Understood::Is(asked)
+    Ok(asked)
 }
 
 // Puts an argument at the start of a buffer: so many bytes, and none where it is missing or too long.
 fn arg<R: Env>(rt: &R, i: usize, word: &mut [u8]) -> usize
     ensures { IsPrefixLen result word.new }
 {
-    match rt.arg(i, word) {
-        Ok(n) => n,
-        Err(_) => 0,
-    }
+    rt.arg(i, word).unwrap_or(0)
 }
 
 // Whether there is such an argument.
 fn is_there<R: Env>(rt: &R, i: usize) -> bool {
-    match rt.arg(i, &mut []) {
-        Err(FillError::NotPresent) => false,
-        _ => true,
-    }
+    !matches!(rt.arg(i, &mut []), Err(FillError::NotPresent))
 }
 
 // How many arguments there are, the program's name among them.
@@ -105,65 +86,52 @@ fn arg_count<R: Env>(rt: &R) -> usize {
 }
 
 // One more word, which is an argument.
-fn with_arg<R: Env>(rt: &R, to: To, asked: Asked, i: usize) -> Understood {
+fn with_arg<R: Env>(rt: &R, to: To, asked: Asked, i: usize) -> Result<Asked, WordError> {
     let mut word = [0u8; 4096];
     let n = arg(rt, i, &mut word);
     with_word(to, asked, &word[..n])
 }
 
 // What the arguments from the fifth on ask for.
-fn args_ask<R: Env>(rt: &R, to: To) -> Understood {
-    let count = arg_count(rt);
-    let mut asked = nothing();
-    let mut i = 5;
-    while i < count {
-        match with_arg(rt, to, asked, i) {
-            Understood::Is(next) => asked = next,
-            Understood::Bad => return Understood::Bad,
-        }
-        i += 1;
+fn args_ask<R: Env>(rt: &R, to: To) -> Result<Asked, WordError> {
+    let mut asked = Asked::nothing();
+    for i in 5..arg_count(rt) {
+        asked = with_arg(rt, to, asked, i)?;
     }
-    Understood::Is(asked)
+    Ok(asked)
 }
 
 // The render that a line asks for; an empty line asks for none.
 fn line<R: Files<File = File> + Alloc>(rt: &R, to: To, list: &[u8], words: &[u8]) {
     let input = word_at(words, 0);
-    if input.len() == 0 {
+    if input.is_empty() {
         return;
     }
     let what = word_at(words, 3);
-    if what.len() == 0 {
+    if what.is_empty() {
         usage(to);
         return;
     }
-    let Understood::Is(asked) = line_asks(to, words) else {
+    let Ok(asked) = line_asks(to, words) else {
         return;
     };
-    render(
-        rt,
+    let job = Job {
         to,
         list,
-        word_at(words, 2),
+        input,
+        output: word_at(words, 1),
+        form: word_at(words, 2),
         what,
         asked,
-        input,
-        word_at(words, 1),
-    );
+    };
+    render(rt, job);
 }
 
 // Each line of a list, without its comment.
 fn lines<R: Files<File = File> + Alloc>(rt: &R, to: To, name: &[u8], list: &[u8]) {
-    let mut start = 0;
-    while start < list.len() {
-        let end = find(list, start, Stop::Byte(b'\n'));
-        let whole = &list[start..end];
-        let comment = find(whole, 0, Stop::Byte(b'#'));
+    for whole in Lines::new(list) {
+        let comment = find(whole, 0, |byte| byte == b'#');
         line(rt, to, name, &whole[..comment]);
-        if end == list.len() {
-            return;
-        }
-        start = end + 1;
     }
 }
 
@@ -172,7 +140,7 @@ fn list<R: Files<File = File> + Alloc>(rt: &R, to: To, file: &[u8]) {
     let mut opened = match open_read(rt, file) {
         Ok(opened) => opened,
         Err(why) => {
-            say::failed(to, file, why, b"cannot be opened");
+            say::failed(to, file, why, "cannot be opened");
             return;
         }
     };
@@ -180,7 +148,7 @@ fn list<R: Files<File = File> + Alloc>(rt: &R, to: To, file: &[u8]) {
     let n = read_full(&mut opened, &mut text);
     drop(opened);
     if n == text.len() {
-        say::problem(to, file, b"list too long");
+        say::problem(to, file, "list too long");
         return;
     }
     lines(rt, to, file, &text[..n]);
@@ -188,18 +156,27 @@ fn list<R: Files<File = File> + Alloc>(rt: &R, to: To, file: &[u8]) {
 
 // The render that the arguments ask for.
 fn from_args<R: Files<File = File> + Env + Alloc>(rt: &R, to: To) {
-    let mut a = [0u8; 4096];
-    let mut b = [0u8; 4096];
-    let mut c = [0u8; 4096];
-    let mut d = [0u8; 4096];
-    let i = arg(rt, 1, &mut a);
-    let j = arg(rt, 2, &mut b);
-    let k = arg(rt, 3, &mut c);
-    let l = arg(rt, 4, &mut d);
-    let Understood::Is(asked) = args_ask(rt, to) else {
+    let mut input = [0u8; 4096];
+    let mut output = [0u8; 4096];
+    let mut form = [0u8; 4096];
+    let mut what = [0u8; 4096];
+    let i = arg(rt, 1, &mut input);
+    let j = arg(rt, 2, &mut output);
+    let k = arg(rt, 3, &mut form);
+    let l = arg(rt, 4, &mut what);
+    let Ok(asked) = args_ask(rt, to) else {
         return;
     };
-    render(rt, to, b"", &c[..k], &d[..l], asked, &a[..i], &b[..j]);
+    let job = Job {
+        to,
+        list: b"",
+        input: &input[..i],
+        output: &output[..j],
+        form: &form[..k],
+        what: &what[..l],
+        asked,
+    };
+    render(rt, job);
 }
 
 fn main(rt: HostRuntime) {
@@ -208,23 +185,18 @@ fn main(rt: HostRuntime) {
         output: rt.stdout(),
         checked: false,
     };
-    let mut a = [0u8; 4096];
-    let mut b = [0u8; 4096];
-    let i = arg(&rt, 1, &mut a);
-    let j = arg(&rt, 2, &mut b);
+    let mut word = [0u8; 4096];
+    let mut file = [0u8; 4096];
+    let i = arg(&rt, 1, &mut word);
+    let j = arg(&rt, 2, &mut file);
     let count = arg_count(&rt);
-    if count == 3 && same(&a[..i], b"list") {
-        list(&rt, to, &b[..j]);
-        return;
+    match &word[..i] {
+        b"list" if count == 3 => list(&rt, to, &file[..j]),
+        b"check" if count == 3 => {
+            let checked = true;
+            list(&rt, To { checked, ..to }, &file[..j]);
+        }
+        _ if count < 5 => usage(to),
+        _ => from_args(&rt, to),
     }
-    if count == 3 && same(&a[..i], b"check") {
-        let checked = true;
-        list(&rt, To { checked, ..to }, &b[..j]);
-        return;
-    }
-    if count < 5 {
-        usage(to);
-        return;
-    }
-    from_args(&rt, to);
 }

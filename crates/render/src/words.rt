@@ -1,110 +1,100 @@
 // The words after the fourth, in any order: how many seconds the output goes on, which channel of a
 // stereo sound is taken, and whether progress is shown. A word that is not understood, or that says
 // again what was said, is refused.
-use check::same;
 use decimals::number::whole_of;
-use sounds::say;
-use sounds::say::To;
+use std::fmt;
 use wav::format::Taken;
 
-// What is asked for; `timed` and `picked` tell whether a word said it.
+// What is asked for; no seconds are the board's tail, and no channel is the mean of both.
 #[derive(Clone, Copy)]
 pub struct Asked {
-    pub timed: bool,
-    pub seconds: u16,
-    pub picked: bool,
-    pub taken: Taken,
+    pub seconds: Option<u16>,
+    pub channel: Option<Taken>,
     pub progress: bool,
 }
 
-// What is asked for after one more word; or the word was refused, and that was told.
+// Why a word is refused.
 #[derive(Clone, Copy)]
-pub enum Understood {
-    Is(Asked),
-    Bad,
+pub enum WordError {
+    SecondChannel,
+    SecondProgress,
+    SecondSeconds,
+    NoSeconds,
+    Unknown,
 }
 
-// What no word asks for: the board's tail, both channels, no progress.
-pub fn nothing() -> Asked {
-    Asked {
-        timed: false,
-        seconds: 0,
-        picked: false,
-        taken: Taken::Mean,
-        progress: false,
+impl fmt::Display for WordError {
+    fn fmt<W: fmt::Write>(&self, f: &mut fmt::Formatter<W>) -> fmt::Result {
+        match self {
+            WordError::SecondChannel => write!(f, "a channel is named already"),
+            WordError::SecondProgress => write!(f, "is said already"),
+            WordError::SecondSeconds => write!(f, "seconds are given already"),
+            WordError::NoSeconds => write!(f, "seconds are a whole number up to 600"),
+            WordError::Unknown => write!(f, "neither seconds nor mono, left, right or progress"),
+        }
     }
-}
-
-fn refused(to: To, word: &[u8], why: &[u8]) -> Understood {
-    say::problem(to, word, why);
-    Understood::Bad
-}
-
-fn with_channel(to: To, asked: Asked, word: &[u8], taken: Taken) -> Understood {
-    if asked.picked {
-        return refused(to, word, b"a channel is named already");
-    }
-    Understood::Is(Asked {
-        timed: asked.timed,
-        seconds: asked.seconds,
-        picked: true,
-        taken,
-        progress: asked.progress,
-    })
-}
-
-fn with_progress(to: To, asked: Asked, word: &[u8]) -> Understood {
-    if asked.progress {
-        return refused(to, word, b"is said already");
-    }
-    let mut next = asked;
-    next.progress = true;
-    Understood::Is(next)
 }
 
 // Whether a word begins as a number does.
 fn numeric(word: &[u8]) -> bool {
-    if word.len() == 0 {
-        return false;
-    }
-    let first = word[0];
-    ((48 <= first) & (first <= 57)) | ((first == b'-') | ((first == b'+') | (first == b'.')))
+    matches!(word, [b'0'..=b'9' | b'-' | b'+' | b'.', ..])
 }
 
-fn with_seconds(to: To, asked: Asked, word: &[u8]) -> Understood {
-    let whole = whole_of(word, 600);
-    if !whole.good {
-        if numeric(word) {
-            return refused(to, word, b"seconds are a whole number up to 600");
+impl Asked {
+    // What no word asks for: the board's tail, both channels, no progress.
+    pub fn nothing() -> Asked {
+        Asked {
+            seconds: None,
+            channel: None,
+            progress: false,
         }
-        return refused(
-            to,
-            word,
-            b"neither seconds nor mono, left, right or progress",
-        );
     }
-    if asked.timed {
-        return refused(to, word, b"seconds are given already");
-    }
-    let mut next = asked;
-    next.timed = true;
-    next.seconds = whole.value as u16;
-    Understood::Is(next)
-}
 
-// One more word.
-pub fn with_word(to: To, asked: Asked, word: &[u8]) -> Understood {
-    if same(word, b"mono") {
-        return with_channel(to, asked, word, Taken::Mean);
+    fn with_channel(self, taken: Taken) -> Result<Asked, WordError> {
+        if self.channel.is_some() {
+            return Err(WordError::SecondChannel);
+        }
+        Ok(Asked {
+            channel: Some(taken),
+            ..self
+        })
     }
-    if same(word, b"left") {
-        return with_channel(to, asked, word, Taken::Left);
+
+    fn with_progress(self) -> Result<Asked, WordError> {
+        if self.progress {
+            return Err(WordError::SecondProgress);
+        }
+        Ok(Asked {
+            progress: true,
+            ..self
+        })
     }
-    if same(word, b"right") {
-        return with_channel(to, asked, word, Taken::Right);
+
+    fn with_seconds(self, word: &[u8]) -> Result<Asked, WordError> {
+        let Some(seconds) = whole_of(word, 600) else {
+            return Err(if numeric(word) {
+                WordError::NoSeconds
+            } else {
+                WordError::Unknown
+            });
+        };
+        if self.seconds.is_some() {
+            return Err(WordError::SecondSeconds);
+        }
+        Ok(Asked {
+            seconds: Some(seconds as u16),
+            ..self
+        })
     }
-    if same(word, b"progress") {
-        return with_progress(to, asked, word);
+
+    // One more word.
+    pub fn with(self, word: &[u8]) -> Result<Asked, WordError> {
+        match word {
+            b"mono" => self.with_channel(Taken::Mean),
+            b"left" => self.with_channel(Taken::Left),
+            b"right" => self.with_channel(Taken::Right),
+            b"progress" => self.with_progress(),
+            _ => self.with_seconds(word),
+        }
     }
-    with_seconds(to, asked, word)
 }

@@ -2,28 +2,35 @@
 // its records and those that the library answers otherwise.
 #![tactic(auto)]
 
-ghost use Rattle.std.specs.Prelude.{◌+◌, ◌≤◌, ◌≡◌, length, IfOk};
+ghost use Rattle.std.specs.Prelude.{◌≤◌, ◌≡◌, length, IfOk};
 
 mod hash;
 mod record;
 
 use input::read_full;
-use record::{Found, answered};
+use record::{Current, Found, answered};
 use std::io;
 use values::bytes::u32_at;
 
-fn found_at(s: &[u8], at: usize) -> Found
-    requires { at + 12 ≤ length s.now }
-{
-    Found {
-        number: u32_at(s, at),
-        place: u32_at(s, at + 4),
-        check: u32_at(s, at + 8),
-    }
-}
+// The number of the end record, which no call has.
+const END: u32 = 0;
 
-fn same(a: Found, b: Found) -> bool {
-    (a.number == b.number) & (a.place == b.place) & (a.check == b.check)
+// The answer that a record's head of 20 bytes expects; none where all bits are set, as for a record
+// that cannot be replayed.
+fn expected_of(head: &[u8]) -> Option<Found>
+    requires { length head.now ≡ 20 }
+{
+    let expected = Found {
+        number: u32_at(head, 8),
+        place: u32_at(head, 12),
+        check: u32_at(head, 16),
+    };
+    let none = Found {
+        number: u32::MAX,
+        place: u32::MAX,
+        check: u32::MAX,
+    };
+    (expected != none).then_some(expected)
 }
 
 fn show(rt: &impl Print, records: usize, differences: usize) -> io::Result<()> {
@@ -31,75 +38,53 @@ fn show(rt: &impl Print, records: usize, differences: usize) -> io::Result<()> {
 }
 
 // 1 for a record that is answered otherwise, which is named, and else 0.
-fn judged(rt: &impl Print, record: usize, found: Found, expected: Found) -> io::Result<usize>
+fn judged(
+    rt: &impl Print,
+    record: usize,
+    found: Option<Found>,
+    expected: Option<Found>,
+) -> io::Result<usize>
     ensures { IfOk result (λ n. n ≤ 1) }
 {
-    if same(found, expected) {
+    if found == expected {
         return Ok(0);
     }
     println!(rt; "record {record} differs")?;
     Ok(1)
 }
 
-// The last accepted board, from `start` to `end` in the list, and the bytes of its memory.
-#[derive(Clone, Copy)]
-struct Current {
-    start: usize,
-    end: usize,
-    room: usize,
-}
-
-// The current board after a record whose body lies from `from` to `to`.
-fn after(kind: u32, found: Found, from: usize, to: usize, before: Current) -> Current
-    requires { (from ≤ to) × (before.start ≤ before.end) × (before.end ≤ from) }
-    ensures { (result.start ≤ result.end) × (result.end ≤ to) }
-{
-    if kind == 1 && found.number == 0 {
-        Current {
-            start: from,
-            end: to,
-            room: found.place as usize,
-        }
-    } else {
-        before
-    }
-}
-
 // The records in order, until the end record.
 fn replay(rt: &impl Print, s: &[u8], memory: &mut [u8]) -> io::Result<()> {
     let mut current = Current {
-        start: 0,
-        end: 0,
+        board: &[],
         room: 0,
     };
     let mut records = 0;
     let mut differences = 0;
-    let mut at = 0;
-    while 20 <= s.len() - at {
-        let kind = u32_at(s, at);
-        let size = u32_at(s, at + 4) as usize;
-        let expected = found_at(s, at + 8);
-        let from = at + 20;
-        if kind == 0 && expected.number as usize == records && from == s.len() {
+    let mut rest = s;
+    // A `while`: a turn passes as many bytes as the record has.
+    while 20 <= rest.len() {
+        let (head, behind) = rest.split_at(20);
+        let number = u32_at(head, 0);
+        let expected = expected_of(head);
+        if number == END && u32_at(head, 8) as usize == records && behind.is_empty() {
             return show(rt, records, differences);
         }
-        if s.len() - from < size {
+        let size = u32_at(head, 4) as usize;
+        if behind.len() < size {
             break;
         }
-        let to = from + size;
-        let start = current.start;
-        let end = current.end;
-        let board = &s[start..end];
-        let found = answered(kind, &s[from..to], board, memory, current.room);
+        let (body, next) = behind.split_at(size);
+        let found = answered(number, body, &mut current, memory);
         differences += judged(rt, records, found, expected)?;
-        current = after(kind, found, from, to, current);
         records += 1;
-        at = to;
+        rest = next;
     }
     println!(rt; "no end record")
 }
 
-// Room for the list.
+// Room for the list. It comes from a function whose contract says its length: in `main` the prover would
+// unfold so long an array.
 fn list() -> [u8; 1048576]
     ensures { 1048576 ≡ length result }
 {

@@ -1,16 +1,56 @@
 // What the library answers to a record. No record is trusted: what it says is tested before use.
-ghost use Rattle.std.specs.Prelude.{◌≤◌, ◌≡◌, length};
+ghost use Rattle.std.specs.Prelude.{◌≤◌};
 
 use crate::hash::{START, carried};
+use boards::board::Board;
 use boards::judge::{judge, read_board};
+use context::block::block;
 use graph::tail::tail_of;
-use kinds::kind::NodeRecord;
+use memory::fresh::fresh;
+use memory::message::message;
+use mixing::mix::set_mix;
+use plate::{plate_allpass_length, plate_delay_length};
 use records::answer::Answer;
-use values::bytes::{u16_at, u32_at, wide};
+use values::bytes::{u16_at, u32_at};
 use values::float::of_bits;
 
-// An answer and its check.
+// What a record asks of the library.
+#[derive(Clone, Copy, PartialEq)]
+pub enum Call {
+    Accept,
+    Block,
+    Message,
+    Mix,
+    Cells,
+    DelayLength,
+    AllPassLength,
+    Write,
+}
+
+// A number that no call has.
 #[derive(Clone, Copy)]
+pub struct NoCall(pub u32);
+
+impl TryFrom<u32> for Call {
+    type Error = NoCall;
+
+    fn try_from(number: u32) -> Result<Self, NoCall> {
+        match number {
+            1 => Ok(Call::Accept),
+            2 => Ok(Call::Block),
+            3 => Ok(Call::Message),
+            4 => Ok(Call::Mix),
+            5 => Ok(Call::Cells),
+            6 => Ok(Call::DelayLength),
+            7 => Ok(Call::AllPassLength),
+            8 => Ok(Call::Write),
+            _ => Err(NoCall(number)),
+        }
+    }
+}
+
+// An answer and its check.
+#[derive(Clone, Copy, PartialEq)]
 pub struct Found {
     pub number: u32,
     pub place: u32,
@@ -18,125 +58,85 @@ pub struct Found {
 }
 
 impl Found {
-    fn new(a: Answer, check: u32) -> Self {
+    // A refusal has no check.
+    fn new(answer: Answer, check: u32) -> Self {
+        let Answer { number, place } = answer;
         Found {
-            number: a.number,
-            place: a.place,
-            check,
+            number,
+            place,
+            check: if number == 0 { check } else { 0 },
         }
     }
 }
 
-// What no record expects: a record that cannot be replayed differs.
-const NONE: Found = Found {
-    number: 0xffff_ffff,
-    place: 0xffff_ffff,
-    check: 0xffff_ffff,
-};
-
-// Fresh memory in the first `room` bytes.
-fn fresh(board: &[u8], memory: &mut [u8], room: usize) -> bool {
-    if memory.len() < room {
-        return false;
-    }
-    let a = memory::fresh::fresh(board, &mut memory[..room]);
-    a.number == 0
+// The last accepted board, which the other calls work on, in the first `room` bytes of the memory.
+#[derive(Clone, Copy)]
+pub struct Current<'a> {
+    pub board: &'a [u8],
+    pub room: usize,
 }
 
-// Kind 1: the board judged, its tail and fresh memory.
-fn accept(board: &[u8], memory: &mut [u8]) -> Found {
+// Accept: the board judged, its tail and fresh memory. An accepted board is the current one.
+fn accept<'a>(board: &'a [u8], current: &mut Current<'a>, memory: &mut [u8]) -> Option<Found> {
     let judged = judge(board);
     if judged.number != 0 {
-        return Found::new(judged, 0);
+        return Some(Found::new(judged, 0));
     }
-    if fresh(board, memory, judged.place as usize) {
-        let tail = tail_of(board);
-        Found::new(judged, tail.place)
-    } else {
-        NONE
-    }
+    let room = judged.place as usize;
+    let lent = memory.get_mut(..room)?;
+    fresh(board, lent).checked().ok()?;
+    *current = Current { board, room };
+    Some(Found::new(judged, tail_of(board).place))
 }
 
-// A block run into these outputs.
-fn run_into(
-    board: &[u8],
-    memory: &mut [u8],
-    input: &[u8],
-    out0: &mut [u8],
-    out1: &mut [u8],
-) -> Found {
-    let a = context::block::block(board, memory, input, out0, out1);
-    if a.number == 0 {
-        Found::new(a, carried(carried(START, out0), out1))
-    } else {
-        Found::new(a, 0)
-    }
-}
-
-// Kind 2: a block run with outputs of the board's block size.
-fn run(board: &[u8], memory: &mut [u8], input: &[u8]) -> Found {
+// Block: a block run with outputs of the board's block size.
+fn run(board: &[u8], memory: &mut [u8], input: &[u8]) -> Option<Found> {
     if board.len() < 6 {
-        return NONE;
+        return None;
     }
-    let n = 4 * u16_at(board, 4) as usize;
-    if 512 < n {
-        return NONE;
-    }
+    let n = 4 * usize::from(u16_at(board, 4));
     let mut out0 = [0u8; 512];
     let mut out1 = [0u8; 512];
-    run_into(board, memory, input, &mut out0[..n], &mut out1[..n])
+    let out0 = out0.get_mut(..n)?;
+    let out1 = out1.get_mut(..n)?;
+    let answer = block(board, memory, input, out0, out1);
+    Some(Found::new(answer, carried(carried(START, out0), out1)))
 }
 
-// The bytes of a node's samples.
-fn samples(channels: usize, size: usize) -> usize
-    requires { size ≤ 128 }
-    ensures { result ≤ 1024 }
-{
-    if channels == 2 { 8 * size } else { 4 * size }
-}
-
-// The samples of the first `count` nodes, in order.
-fn cells_hash(nodes: [NodeRecord; 64], count: usize, size: usize, memory: &[u8]) -> u32
-    requires { (length nodes ≡ 64) × (count ≤ 64) × (size ≤ 128) }
+// The samples of the board's nodes, in order.
+fn cells_hash(board: &Board, memory: &[u8]) -> u32
+    requires { board.now.size ≤ 128 }
 {
     let mut h = START;
-    let mut i = 0;
-    while i < count {
-        let node = nodes[i];
-        if 278720 < node.cell {
-            return h;
-        }
+    for node in board.nodes.iter().take(board.count) {
         let from = 4 * (node.cell as usize + 3);
-        let to = from + samples(wide(node.channels), size);
-        if memory.len() < to {
+        let size = if node.channels == 2 {
+            8 * board.size
+        } else {
+            4 * board.size
+        };
+        let Some(samples) = memory.get(from..from + size) else {
             return h;
-        }
-        h = carried(h, &memory[from..to]);
-        i += 1;
+        };
+        h = carried(h, samples);
     }
     h
 }
 
-// Kind 5: every node's samples in the memory.
+// Cells: every node's samples in the memory, none where the board is refused.
 fn cells(board: &[u8], memory: &[u8]) -> Found {
-    let b = read_board(board);
-    let nodes = b.nodes;
-    Found {
-        number: 0,
-        place: 0,
-        check: cells_hash(nodes, b.count, b.size, memory),
-    }
+    let check = match read_board(board) {
+        Ok(b) => cells_hash(&b, memory),
+        Err(_) => START,
+    };
+    Found::new(Answer::new(0, 0), check)
 }
 
-// Kind 8: the plate writer.
+// Write: the plate writer.
 fn write(n: u32, mix: f32) -> Found {
     let mut board = [0u8; 1270];
-    let a = plate_board::writer::write(n, mix, &mut board);
-    if a.number == 0 {
-        Found::new(a, carried(START, &board))
-    } else {
-        Found::new(a, 0)
-    }
+    let answer = plate_board::writer::write(n, mix, &mut board);
+    Found::new(answer, carried(START, &board))
 }
 
 // The word of a body at `at`, 0 where there is none.
@@ -150,32 +150,27 @@ fn word(body: &[u8], at: usize) -> u32
     }
 }
 
-// The kinds but 1, on the current board and its memory.
-fn on_board(kind: u32, body: &[u8], board: &[u8], memory: &mut [u8]) -> Found {
+// The answer to a record, if it can be replayed.
+pub fn answered<'a>(
+    number: u32,
+    body: &'a [u8],
+    current: &mut Current<'a>,
+    memory: &mut [u8],
+) -> Option<Found> {
+    let call = Call::try_from(number).ok()?;
+    let board = current.board;
+    let lent = memory.get_mut(..current.room)?;
     let first = word(body, 0);
     let second = word(body, 4);
-    match kind {
-        2 => run(board, memory, body),
-        3 => Found::new(
-            memory::message::message(board, memory, first, of_bits(second)),
-            0,
-        ),
-        4 => Found::new(mixing::mix::set_mix(board, memory, of_bits(first)), 0),
-        5 => cells(board, memory),
-        6 => Found::new(plate::plate_delay_length(of_bits(first)), 0),
-        7 => Found::new(plate::plate_allpass_length(of_bits(first)), 0),
-        8 => write(first, of_bits(second)),
-        _ => NONE,
-    }
-}
-
-// The answer to a record; the current board works on the first `room` bytes of the memory.
-pub fn answered(kind: u32, body: &[u8], board: &[u8], memory: &mut [u8], room: usize) -> Found {
-    if kind == 1 {
-        return accept(body, memory);
-    }
-    if memory.len() < room {
-        return NONE;
-    }
-    on_board(kind, body, board, &mut memory[..room])
+    let answer = match call {
+        Call::Accept => return accept(body, current, memory),
+        Call::Block => return run(board, lent, body),
+        Call::Cells => return Some(cells(board, lent)),
+        Call::Write => return Some(write(first, of_bits(second))),
+        Call::Message => message(board, lent, first, of_bits(second)),
+        Call::Mix => set_mix(board, lent, of_bits(first)),
+        Call::DelayLength => plate_delay_length(of_bits(first)),
+        Call::AllPassLength => plate_allpass_length(of_bits(first)),
+    };
+    Some(Found::new(answer, 0))
 }

@@ -2,6 +2,7 @@
 // of it and of other files: lines for a person.
 #![tactic(auto)]
 
+pub mod error;
 pub mod file;
 pub mod say;
 pub mod source;

@@ -1,9 +1,10 @@
 // What the program says: lines on standard error, or on standard output where a list is checked, each
 // with the name of what it speaks of. `to` is where they go. One that cannot be written is lost.
-use std::fmt::InlineText;
-use std::io;
-use std::io::{Stderr, Stdout};
-use wav::format::FormatRead;
+use crate::error::SoundError;
+use std::fmt::{Display, InlineText};
+use std::io::{Stderr, Stdout, Write};
+use std::{fmt, io};
+use wav::format::FormatError;
 use wav::level::Count;
 
 // Both streams, and whether the lines go to standard output.
@@ -14,6 +15,20 @@ pub struct To {
     pub checked: bool,
 }
 
+impl Write for To {
+    fn write(&mut self, bytes: &[u8]) -> io::Result<usize> {
+        if self.checked {
+            self.output.write(bytes)
+        } else {
+            self.error.write(bytes)
+        }
+    }
+
+    fn flush(&mut self) -> io::Result<()> {
+        Ok(())
+    }
+}
+
 // Standard error, wherever lines go.
 fn error(to: To) -> To {
     To {
@@ -22,39 +37,17 @@ fn error(to: To) -> To {
     }
 }
 
-pub fn text(to: To, words: &[u8]) {
-    let _ = if to.checked {
-        to.output.write_all(words)
-    } else {
-        to.error.write_all(words)
-    };
-}
-
-pub fn number(to: To, n: u64) {
-    let _ = if to.checked {
-        to.output.print(n)
-    } else {
-        to.error.print(n)
-    };
-}
-
-// `NAME: `
-fn name(to: To, name: &[u8]) {
-    text(to, name);
-    text(to, b": ");
+// `NAME: line`, of a line that has its end.
+pub fn answer(mut to: To, of: &[u8], line: &[u8]) {
+    let _ = to.write_all(of);
+    let _ = to.write_all(b": ");
+    let _ = to.write_all(line);
 }
 
 // `NAME: what is wrong`
-pub fn problem(to: To, of: &[u8], words: &[u8]) {
-    name(to, of);
-    text(to, words);
-    text(to, b"\n");
-}
-
-// `NAME: line`, of a line that has its end.
-pub fn answer(to: To, of: &[u8], line: &[u8]) {
-    name(to, of);
-    text(to, line);
+pub fn problem(mut to: To, of: &[u8], what: impl Display + Drop) {
+    let _ = to.write_all(of);
+    let _ = writeln!(to, ": {what}");
 }
 
 // The system's reason without its number: `No such file or directory`.
@@ -66,164 +59,82 @@ fn reason(told: &str) -> &str {
 }
 
 // A call on a file failed: why, on standard error, and what is wrong.
-pub fn failed(to: To, file: &[u8], why: io::Error, words: &[u8]) {
+pub fn failed(to: To, file: &[u8], why: io::Error, what: impl Display + Drop) {
     let told = InlineText::<128>::of(why);
-    problem(error(to), file, reason(told.as_str()).as_bytes());
-    problem(to, file, words);
-}
-
-// `NAME: number and words`
-pub fn counted(to: To, of: &[u8], n: u64, words: &[u8]) {
-    name(to, of);
-    number(to, n);
-    text(to, words);
-    text(to, b"\n");
-}
-
-// `NAME: refused number place`, as document 01 numbers them.
-pub fn refused(to: To, of: &[u8], kind: u32, place: u32) {
-    name(to, of);
-    text(to, b"refused ");
-    number(to, kind as u64);
-    text(to, b" ");
-    number(to, place as u64);
-    text(to, b"\n");
-}
-
-// `NAME: 100 of 200 bytes of data are there`
-pub fn cut(to: To, of: &[u8], there: u64, all: u64) {
-    name(to, of);
-    text(to, b"cut short: ");
-    number(to, there);
-    text(to, b" of ");
-    number(to, all);
-    text(to, b" bytes of data are there\n");
-}
-
-// `NAME: sample 17 is infinite or NaN`
-pub fn not_finite(to: To, of: &[u8], sample: u64) {
-    name(to, of);
-    text(to, b"sample ");
-    number(to, sample);
-    text(to, b" is infinite or NaN\n");
-}
-
-// `NAME: 44100 samples in, 220500 out`
-pub fn done(to: To, of: &[u8], samples: u64, out: u64) {
-    name(to, of);
-    number(to, samples);
-    text(to, b" samples in, ");
-    number(to, out);
-    text(to, b" out\n");
-}
-
-// Three digits of a number below a thousand.
-fn three(to: To, n: u64) {
-    if n < 100 {
-        text(to, b"0");
-    }
-    if n < 10 {
-        text(to, b"0");
-    }
-    number(to, n);
+    problem(error(to), file, reason(told.as_str()));
+    problem(to, file, what);
 }
 
 // `0.512 s (frame 22579)`; the time is rounded to the nearest millisecond.
-fn time(to: To, frame: u32) {
-    let ms = (frame as u64 * 1000 + 22050) / 44100;
-    number(to, ms / 1000);
-    text(to, b".");
-    three(to, ms % 1000);
-    text(to, b" s (frame ");
-    number(to, frame as u64);
-    text(to, b")\n");
+#[derive(Clone, Copy)]
+struct Time {
+    frame: u32,
+}
+
+impl Display for Time {
+    fn fmt<W: fmt::Write>(&self, f: &mut fmt::Formatter<W>) -> fmt::Result {
+        let frame = self.frame;
+        let ms = (u64::from(frame) * 1000 + 22050) / 44100;
+        write!(f, "{}.{:03} s (frame {frame})", ms / 1000, ms % 1000)
+    }
 }
 
 // `NAME: 12 samples above full scale, the first at 0.512 s (frame 22579)`; nothing where none was
 // found. Two samples are a frame.
-pub fn level(to: To, of: &[u8], found: Count, words: &[u8]) {
-    if found.count == 0 {
+pub fn level(to: To, of: &[u8], found: Count, what: &str) {
+    let Some(first) = found.first else {
         return;
+    };
+    let count = found.count;
+    let samples = if count == 1 { "sample" } else { "samples" };
+    let time = Time {
+        frame: (first / 2 % 4294967296) as u32,
+    };
+    problem(
+        to,
+        of,
+        format_args!("{count} {samples} {what}, the first at {time}"),
+    );
+}
+
+// How sox, a program that many have, turns a file into one that is read; none where it may not help.
+fn sox_options(why: FormatError) -> Option<&'static str> {
+    match why {
+        FormatError::Short => None,
+        FormatError::Frame(_) => None,
+        FormatError::Channels(_) => Some("-r 44100 -c 2 -e signed -b 24"),
+        _ => Some("-r 44100 -e signed -b 24"),
     }
-    name(to, of);
-    number(to, found.count as u64);
-    if found.count == 1 {
-        text(to, b" sample ");
-    } else {
-        text(to, b" samples ");
-    }
-    text(to, words);
-    text(to, b", the first at ");
-    time(to, ((found.first / 2) % 4294967296) as u32);
 }
 
-// The line that turns a file into one that is read, as a program that many have takes it.
-fn advice(to: To, of: &[u8], options: &[u8]) {
-    text(to, b"; try: sox ");
-    text(to, of);
-    text(to, options);
-    text(to, b"\n");
+// Why a format is not read; with the line that turns the file into one that is.
+fn format(mut to: To, of: &[u8], why: FormatError) {
+    let Some(options) = sox_options(why) else {
+        problem(to, of, why);
+        return;
+    };
+    let _ = to.write_all(of);
+    let _ = write!(to, ": {why}; try: sox ");
+    let _ = to.write_all(of);
+    let _ = writeln!(to, " {options} new.wav");
 }
 
-// `NAME: number and words; try: sox NAME ..`
-fn advised(to: To, of: &[u8], n: u64, words: &[u8], options: &[u8]) {
-    name(to, of);
-    number(to, n);
-    text(to, words);
-    advice(to, of, options);
-}
-
-// Why a format is not read.
-pub fn format(to: To, of: &[u8], read: FormatRead) {
-    match read {
-        FormatRead::Is(_) => (),
-        FormatRead::Short => problem(to, of, b"fmt chunk cut short"),
-        FormatRead::Tag(t) => advised(
-            to,
-            of,
-            t as u64,
-            b" as format: only 1 (whole numbers) and 3 (floats) are read",
-            b" -r 44100 -e signed -b 24 new.wav",
-        ),
-        FormatRead::Channels(n) => advised(
-            to,
-            of,
-            n as u64,
-            b" channels: only 1 and 2 are read",
-            b" -r 44100 -c 2 -e signed -b 24 new.wav",
-        ),
-        FormatRead::Rate(n) => advised(
-            to,
-            of,
-            n as u64,
-            b" Hz: only 44100 is read",
-            b" -r 44100 -e signed -b 24 new.wav",
-        ),
-        FormatRead::Bits(n) => advised(
-            to,
-            of,
-            n as u64,
-            b" bits: only 8, 16, 24 and 32 bit whole numbers and 32 bit floats are read",
-            b" -r 44100 -e signed -b 24 new.wav",
-        ),
-        FormatRead::Frame(n) => counted(
-            to,
-            of,
-            n as u64,
-            b" bytes a frame do not fit channels and bits",
-        ),
+// Why a file gives no sound.
+pub fn no_sound(to: To, of: &[u8], why: SoundError) {
+    match why {
+        SoundError::Format(why) => format(to, of, why),
+        SoundError::Unplaced(error) => failed(to, of, error, why),
+        SoundError::Endless => (),
+        _ => problem(to, of, why),
     }
 }
 
 // The per cent that are written, on standard error, over the line that was there.
-pub fn percent(to: To, n: u64) {
-    let to = error(to);
-    text(to, b"\r");
-    number(to, n);
-    text(to, b" %");
+pub fn percent(to: To, n: usize) {
+    let _ = write!(error(to), "\r{n} %");
 }
 
 // The end of that line.
 pub fn percent_end(to: To) {
-    text(error(to), b"\n");
+    let _ = writeln!(error(to));
 }

@@ -1,56 +1,34 @@
 // The sound that is read: a first pass over the file finds its format and its length, and sees that
-// every sample is there and finite. Whatever is wrong is told here.
-ghost use Rattle.std.specs.Prelude.{◌≤◌};
-ghost use Rattle.sounds.specs.Source.{PartOf, Short};
+// every sample is there and finite.
+ghost use Rattle.std.specs.Prelude.{◌≤◌, ◌<◌, IfOk};
 
-use crate::file::{least, read_full, read_some};
-use crate::say;
-use crate::say::To;
-use std::io;
+use crate::error::SoundError;
+use crate::file::{read_full, read_some};
 use std::io::{Read, Seek, SeekFrom};
 use wav::block::first_bad;
-use wav::chunk::{Chunk, chunk_of, is_wave, passed};
-use wav::format::{Format, FormatRead, Taken, format_of, frame_size};
+use wav::chunk::{Chunk, Kind, chunk_of, is_wave, passed};
+use wav::format::{Channels, Format, Taken, format_of, frame_size};
 
-// The format, if a fmt chunk was met.
+// The data chunk: what its samples are, and its bytes.
 #[derive(Clone, Copy)]
-pub enum Known {
-    As(Format),
-    Nothing,
+struct Data {
+    format: Format,
+    length: u32,
 }
 
-// After a chunk: go on, with the format as it is known now; or the data starts, so many bytes long; or
-// something is wrong.
+// A sound: its format, its frames, no more than its data has bytes, and where in the file they start.
 #[derive(Clone, Copy)]
-pub enum Step {
-    On(Known),
-    Data(Format, u32),
-    Bad,
-}
-
-// A sound: its format, its frames, and where in the file they start; or something is wrong.
-#[derive(Clone, Copy)]
-pub enum Surveyed {
-    Frames(Format, usize, u64),
-    Bad,
-}
-
-// Some of the data: so many bytes were fine; or there were only so many; or a sample is not finite.
-#[derive(Clone, Copy)]
-pub enum Part {
-    Fine(usize),
-    Cut(usize),
-    Bad(usize),
+pub struct Sound {
+    pub format: Format,
+    pub frames: usize,
+    pub start: u64,
+    ghost short: { frames ≤ 4294967295 },
 }
 
 // Whether the file begins as a WAV file does.
 fn begins<R: Read>(input: &mut R) -> bool {
     let mut head = [0u8; 12];
-    let n = read_full(input, &mut head);
-    if n < 12 {
-        return false;
-    }
-    is_wave(&head)
+    read_full(input, &mut head) == 12 && is_wave(&head)
 }
 
 // Passes over bytes of the file.
@@ -64,217 +42,131 @@ fn pass_over<R: Seek>(input: &mut R, bytes: u64)
 const LONGEST: usize = 40;
 
 // The format of a fmt chunk of so many bytes.
-fn read_format<R: Read + Seek>(to: To, input: &mut R, file: &[u8], length: u32) -> Step {
-    let mut body = [0u8; 4096];
-    let want = least(length as usize, LONGEST);
+fn read_format<R: Read + Seek>(input: &mut R, length: u32) -> Result<Format, SoundError> {
+    let mut body = [0u8; LONGEST];
+    let want = LONGEST.min(length as usize);
     let n = read_some(input, &mut body, want);
-    let read = format_of(&body[..n]);
-    let FormatRead::Is(format) = read else {
-        say::format(to, file, read);
-        return Step::Bad;
-    };
+    let format = format_of(&body[..n])?;
     pass_over(input, passed(length) - want as u64);
-    Step::On(Known::As(format))
-}
-
-// A place in the file, or zero where it has none.
-fn size_of(place: io::Result<u64>) -> u64 {
-    place.unwrap_or(0)
+    Ok(format)
 }
 
 // The bytes from here to the file's end; none in a pipe.
 fn bytes_left<R: Seek>(input: &mut R) -> u64 {
-    let here = size_of(input.stream_position());
-    let end = size_of(input.seek(SeekFrom::End(0)));
+    let here = input.stream_position().unwrap_or(0);
+    let end = input.seek(SeekFrom::End(0)).unwrap_or(0);
     let _ = input.seek(SeekFrom::Start(here));
-    if end < here {
-        return 0;
-    }
-    end - here
+    end.saturating_sub(here)
 }
 
 // The bytes of the data: as many as its chunk says; or up to the file's end, which is what the lengths 0
 // and FFFFFFFF mean, that programs write which did not know the length.
 fn data_length<R: Seek>(input: &mut R, length: u32) -> u64 {
-    if length != 0 && length != u32::MAX {
-        return length as u64;
+    match length {
+        0 | u32::MAX => bytes_left(input),
+        _ => u64::from(length),
     }
-    bytes_left(input)
 }
 
 // The data of a format that must be known by now.
-fn data_of<R: Read + Seek>(to: To, input: &mut R, file: &[u8], known: Known, length: u32) -> Step {
-    let Known::As(format) = known else {
-        say::problem(to, file, b"no fmt chunk before the data");
-        return Step::Bad;
-    };
+fn data_of<R: Seek>(input: &mut R, known: Option<Format>, length: u32) -> Result<Data, SoundError> {
+    let format = known.ok_or(SoundError::NoFormat)?;
     let bytes = data_length(input, length);
-    if 4294967295 < bytes {
-        say::problem(to, file, b"too long: more than 4 GiB are read");
-        return Step::Bad;
+    let Ok(length) = u32::try_from(bytes) else {
+        return Err(SoundError::TooLong);
+    };
+    if length as usize % frame_size(format) != 0 {
+        return Err(SoundError::PartFrame(bytes));
     }
-    if bytes as usize % frame_size(format) != 0 {
-        say::counted(to, file, bytes, b" bytes of data are no whole frames");
-        return Step::Bad;
-    }
-    Step::Data(format, bytes as u32)
+    Ok(Data { format, length })
 }
 
 // The next chunk.
-fn next_chunk<R: Read + Seek>(to: To, input: &mut R, file: &[u8], known: Known) -> Step {
+fn next_chunk<R: Read>(input: &mut R) -> Result<Chunk, SoundError> {
     let mut head = [0u8; 8];
-    let n = read_full(input, &mut head);
-    if n < 8 {
-        say::problem(to, file, b"no data chunk");
-        return Step::Bad;
+    if read_full(input, &mut head) < 8 {
+        return Err(SoundError::NoData);
     }
-    match chunk_of(&head) {
-        Chunk::Format(length) => read_format(to, input, file, length),
-        Chunk::Data(length) => data_of(to, input, file, known, length),
-        Chunk::Other(length) => {
-            pass_over(input, passed(length));
-            Step::On(known)
-        }
-    }
+    Ok(chunk_of(&head))
 }
 
-// The data chunk. A proved loop has to end, and nothing says that a file does: so it counts the chunks
-// down, from a number that no file reaches.
-fn find_data<R: Read + Seek>(to: To, input: &mut R, file: &[u8]) -> Step {
-    let mut known = Known::Nothing;
-    let mut chunks = u32::MAX;
-    while 0 < chunks {
-        match next_chunk(to, input, file, known) {
-            Step::On(next) => known = next,
-            Step::Data(format, length) => return Step::Data(format, length),
-            Step::Bad => return Step::Bad,
+// The data chunk. A proved loop has to end, and nothing says that a file does: so it counts the chunks,
+// up to a number that no file reaches.
+fn find_data<R: Read + Seek>(input: &mut R) -> Result<Data, SoundError> {
+    let mut known = None;
+    for _ in 0..u32::MAX {
+        let chunk = next_chunk(input)?;
+        match chunk.kind {
+            Kind::Format => known = Some(read_format(input, chunk.length)?),
+            Kind::Data => return data_of(input, known, chunk.length),
+            Kind::Other => pass_over(input, passed(chunk.length)),
         }
-        chunks -= 1;
     }
-    Step::Bad
+    Err(SoundError::Endless)
 }
 
-// The next 512 frames, or the `left` bytes that are left.
-fn read_part<R: Read>(input: &mut R, format: Format, left: usize) -> Part
-    requires { 1 ≤ left }
-    ensures { PartOf left result }
+// The frames that are looked over at once.
+const PART: usize = 512;
+
+// The part of the data, of `all` bytes, that begins at `start`.
+fn part_fine<R: Read>(
+    input: &mut R,
+    format: Format,
+    start: usize,
+    all: usize,
+) -> Result<(), SoundError>
+    requires { (start < all) × (all ≤ 4294967295) }
 {
     let mut bytes = [0u8; 4096];
     let size = frame_size(format);
-    let want = least(left, 512 * size);
+    let want = (PART * size).min(all - start);
     let n = read_some(input, &mut bytes, want);
     if n < want {
-        return Part::Cut(n);
+        return Err(SoundError::Cut {
+            there: start + n,
+            all,
+        });
     }
     let bad = first_bad(&bytes[..n], format);
     if bad < n / size {
-        return Part::Bad(bad);
+        return Err(SoundError::NotFinite(start / size + bad));
     }
-    Part::Fine(n)
+    Ok(())
 }
 
 // Whether all data is there and finite.
-fn data_fine<R: Read + Seek>(
-    to: To,
-    input: &mut R,
-    file: &[u8],
-    format: Format,
-    length: u32,
-) -> bool {
-    let all = length as usize;
-    let mut left = all;
-    while 0 < left {
-        match read_part(input, format, left) {
-            Part::Fine(n) => left -= n,
-            Part::Cut(n) => {
-                say::cut(to, file, (all - left + n) as u64, all as u64);
-                return false;
-            }
-            Part::Bad(i) => {
-                let before = (all - left) / frame_size(format);
-                say::not_finite(to, file, (before + i) as u64);
-                return false;
-            }
-        }
+fn data_fine<R: Read>(input: &mut R, data: Data) -> Result<(), SoundError> {
+    let all = data.length as usize;
+    for start in (0..all).step_by(PART * frame_size(data.format)) {
+        part_fine(input, data.format, start, all)?;
     }
-    true
+    Ok(())
 }
 
-// The data of a file that is open at its data chunk's body.
-fn sound_at<R: Read + Seek>(
-    to: To,
-    input: &mut R,
-    file: &[u8],
-    format: Format,
-    length: u32,
-) -> Surveyed
-    ensures { Short result }
-{
-    let start = match input.stream_position() {
-        Ok(start) => start,
-        Err(why) => {
-            say::failed(to, file, why, b"cannot be read twice");
-            return Surveyed::Bad;
-        }
-    };
-    if data_fine(to, input, file, format, length) {
-        let frames = length as usize / frame_size(format);
-        Surveyed::Frames(format, frames, start)
-    } else {
-        Surveyed::Bad
+// The format with the one channel that is asked for, or the mean of both.
+fn with_channel(format: Format, taken: Taken) -> Result<Format, SoundError> {
+    match format.channels {
+        Channels::Stereo(_) => Ok(Format {
+            channels: Channels::Stereo(taken),
+            ..format
+        }),
+        Channels::Mono if taken == Taken::Mean => Ok(format),
+        Channels::Mono => Err(SoundError::Mono),
     }
 }
 
-// Whether one channel of two is taken alone.
-fn alone(taken: Taken) -> bool {
-    match taken {
-        Taken::Mean => false,
-        Taken::Left => true,
-        Taken::Right => true,
-    }
-}
-
-// The data of a format, of which a channel or the mean of both is taken.
-fn sound_of<R: Read + Seek>(
-    to: To,
-    input: &mut R,
-    file: &[u8],
-    format: Format,
-    length: u32,
-    taken: Taken,
-) -> Surveyed
-    ensures { Short result }
-{
-    if alone(taken) && !format.stereo {
-        say::problem(to, file, b"mono: it has neither left nor right");
-        return Surveyed::Bad;
-    }
-    let coding = format.coding;
-    let stereo = format.stereo;
-    sound_at(
-        to,
-        input,
-        file,
-        Format {
-            coding,
-            stereo,
-            taken,
-        },
-        length,
-    )
-}
-
-// The sound of an open file.
-pub fn survey<R: Read + Seek>(to: To, input: &mut R, file: &[u8], taken: Taken) -> Surveyed
-    ensures { Short result }
-{
+// The sound of an open file, of which a channel or the mean of both is taken.
+pub fn survey<R: Read + Seek>(input: &mut R, taken: Taken) -> Result<Sound, SoundError> {
     if !begins(input) {
-        say::problem(to, file, b"not a WAV file");
-        return Surveyed::Bad;
+        return Err(SoundError::NotWave);
     }
-    match find_data(to, input, file) {
-        Step::Data(format, length) => sound_of(to, input, file, format, length, taken),
-        Step::On(_) => Surveyed::Bad,
-        Step::Bad => Surveyed::Bad,
-    }
+    let found = find_data(input)?;
+    let format = with_channel(found.format, taken)?;
+    let start = input.stream_position().map_err(SoundError::Unplaced)?;
+    data_fine(input, Data { format, ..found })?;
+    Ok(Sound {
+        format,
+        frames: found.length as usize / frame_size(format),
+        start,
+    })
 }

@@ -2,6 +2,7 @@
 -- Assumes nothing.
 use mathlib.Core.Path.{◌≡◌, refl}
 use mathlib.Core.Bool.{true, false}
+use Rattle.std.proofs.Common.{Ok}
 use mathlib.Core.List.{[], ◌∷◌}
 use lib.IntN.{pos, negsuc}
 use lib.Ieee.{fin, add, mul, neg, round}
@@ -11,7 +12,7 @@ use Rattle.wav.specs.Frames.{whole_of, byte_of, long_of, sample_of, halved, fram
 use Rattle.wav.specs.Header.{format_body}
 use Rattle.wav.specs.declared.format.Coding.TheVariants.{Whole8, Whole16, Whole24, Whole32, Float32}
 use Rattle.wav.specs.declared.format.Taken.TheVariants.{Mean, Right}
-use Rattle.wav.specs.declared.format.FormatRead.TheVariants.{Is}
+use Rattle.wav.specs.declared.format.Channels.TheVariants.{Stereo}
 
 pub record Worked : Type 0 where
   -- 8000 is -1, FFFFFF is -1 / 2^23, 400000 is 1/2
@@ -25,9 +26,9 @@ pub record Worked : Type 0 where
   pub lowest_long : sample_of Whole32 (0 ∷ 0 ∷ 0 ∷ 128 ∷ []) 0 ≡ fin true 1 (pos 0)
   pub highest_long : sample_of Whole32 (255 ∷ 255 ∷ 255 ∷ 127 ∷ []) 0 ≡ fin false 1 (pos 0)
   -- 1/2 and -1 become -1/4, and -1 if the right is taken alone
-  pub mean : frame_at (record { coding = Whole16; stereo = true; taken = Mean }) (0 ∷ 64 ∷ 0 ∷ 128 ∷ []) 0 ≡ fin true 1 (negsuc 1)
-  pub right_alone : frame_at (record { coding = Whole16; stereo = true; taken = Right }) (0 ∷ 64 ∷ 0 ∷ 128 ∷ []) 0 ≡ fin true 1 (pos 0)
-  pub written_is_read : format_of format_body ≡ Is (record { coding = Float32; stereo = true; taken = Mean })
+  pub mean : frame_at (record { coding = Whole16; channels = Stereo Mean }) (0 ∷ 64 ∷ 0 ∷ 128 ∷ []) 0 ≡ fin true 1 (negsuc 1)
+  pub right_alone : frame_at (record { coding = Whole16; channels = Stereo Right }) (0 ∷ 64 ∷ 0 ∷ 128 ∷ []) 0 ≡ fin true 1 (pos 0)
+  pub written_is_read : format_of format_body ≡ Ok (record { coding = Float32; channels = Stereo Mean })
 
 pub worked : Worked
 unfolding whole_of byte_of long_of over23 neg round frame_at halved add mul format_of judged_as judged_coding

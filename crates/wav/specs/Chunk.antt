@@ -3,7 +3,8 @@ use Rattle.std.specs.Prelude.{ℕ, ◌+◌, ◌%◌, Bool, cond, ◌&&◌, List,
 use Rattle.values.specs.Words.{word}
 use Rattle.values.specs.Bytes.{u32_at}
 use Rattle.wav.specs.declared.chunk.Chunk.{Chunk}
-use Rattle.wav.specs.declared.chunk.Chunk.TheVariants.{Format, Data, Other}
+use Rattle.wav.specs.declared.chunk.Kind.{Kind}
+use Rattle.wav.specs.declared.chunk.Kind.TheVariants.{Format, Data, Other}
 
 -- the names, letter by letter
 abbrev pub RIFF : ℕ
@@ -26,8 +27,11 @@ abbrev pub is_wave : List ℕ → Bool
 is_wave s = eqb (u32_at s 0) RIFF && eqb (u32_at s 8) WAVE
 
 -- a chunk by its name, with its length
+abbrev pub kind_of : ℕ → Kind
+kind_of name = cond (eqb name fmt) Format (cond (eqb name data') Data Other)
+
 abbrev pub chunk_of : List ℕ → Chunk
-chunk_of s = cond (eqb (u32_at s 0) fmt) (Format (u32_at s 4)) (cond (eqb (u32_at s 0) data') (Data (u32_at s 4)) (Other (u32_at s 4)))
+chunk_of s = record { kind = kind_of (u32_at s 0); length = u32_at s 4 }
 
 -- a body of odd length is followed by one byte
 abbrev pub passed : ℕ → ℕ

@@ -3,18 +3,17 @@
 use Rattle.std.specs.Prelude.{ℕ, zero, suc, ◌+◌, ◌-◌, ◌*◌, ◌/◌, ◌^◌, false, cond, List, [], ◌∷◌, ◌++◌, length, get_or, ltb, pos, negsuc, Float}
 use Rattle.std.specs.Float.{fin, binary32}
 use Rattle.std.specs.Float.Ieee.{of_bits, to_bits, round, add, mul, neg}
-use Rattle.values.specs.Bytes.{u16_at, u32_at}
+use Rattle.values.specs.Bytes.{u16_at, u24_at, u32_at}
 use Rattle.values.specs.Floors.{zero_f, finite_f}
 use Rattle.leaves.specs.Sine.{over23}
 use Rattle.wav.specs.Format.{width_of, frame_of}
 use Rattle.wav.specs.declared.format.Format.{Format}
 use Rattle.wav.specs.declared.format.Coding.{Coding}
 use Rattle.wav.specs.declared.format.Coding.TheVariants.{Whole8, Whole16, Whole24, Whole32, Float32}
+use Rattle.wav.specs.declared.format.Channels.{Channels}
+use Rattle.wav.specs.declared.format.Channels.TheVariants.{Mono, Stereo}
 use Rattle.wav.specs.declared.format.Taken.{Taken}
 use Rattle.wav.specs.declared.format.Taken.TheVariants.{Mean, Left, Right}
-
-abbrev pub u24_at : List ℕ → ℕ → ℕ
-u24_at s at = u16_at s at + get_or s (at + 2) 0 * 65536
 
 -- a whole number of 24 bits, negative from 2^23 on, over 2^23
 unfoldable pub whole_of : ℕ → Float
@@ -50,9 +49,12 @@ taken_of Left left right = left
 taken_of Right left right = right
 
 -- the one sample that the frame at a byte becomes
+abbrev pub sample_as : Channels → Coding → List ℕ → ℕ → Float
+sample_as Mono c s at = sample_of c s at
+sample_as (Stereo taken) c s at = taken_of taken (sample_of c s at) (sample_of c s (at + width_of c))
+
 unfoldable pub frame_at : Format → List ℕ → ℕ → Float
-frame_at f s at =
-    cond f.stereo (taken_of f.taken (sample_of f.coding s at) (sample_of f.coding s (at + width_of f.coding))) (sample_of f.coding s at)
+frame_at f s at = sample_as f.channels f.coding s at
 
 -- ---- the block that a board takes
 

@@ -10,6 +10,7 @@ use values::bytes::{put_word, word_at};
 use values::float::{finite, store};
 
 // Sample i of some frames; zero after the last.
+#[tactic(auto, using(crate::proofs::Widths::frame_fits))]
 fn sample_in(frames: &[u8], i: usize, format: Format) -> f32
     ensures { result ≡ sample_in format frames.now i }
 {
@@ -26,38 +27,31 @@ pub fn first_bad(frames: &[u8], format: Format) -> usize
     ensures { result ≡ first_bad format frames.now 0 (length frames.now / frame_of format) }
 {
     let count = frames.len() / frame_size(format);
-    let mut i = 0;
-    while i < count {
-        if finite(sample_in(frames, i, format)) {
-            i += 1;
-        } else {
+    for i in 0..count {
+        if !finite(sample_in(frames, i, format)) {
             return i;
         }
     }
     count
 }
 
-// A block of `size` samples of some frames, zeros after the last.
-pub fn fill(frames: &[u8], format: Format, size: usize, block: &mut [u8])
-    requires { length block.old ≡ 4 * size }
-    ensures { words block.new ≡ block_of format frames.now size }
+// A block of samples, 4 bytes each, of some frames; zeros after the last.
+pub fn fill(frames: &[u8], format: Format, block: &mut [u8])
+    ensures { words block.new ≡ block_of format frames.now (length block.old / 4) }
 {
-    let mut i = 0;
-    while i < size {
+    for i in 0..block.len() / 4 {
         store(block, i, sample_in(frames, i, format));
-        i += 1;
     }
 }
 
-// The frames of two blocks of `size` samples.
-pub fn interleave(left: &[u8], right: &[u8], size: usize, frames: &mut [u8])
-    requires { (length left.now ≡ 4 * size) × (length right.now ≡ 4 * size) × (length frames.old ≡ 8 * size) }
+// The frames of two blocks of as many samples, 4 bytes each.
+pub fn interleave(left: &[u8], right: &[u8], frames: &mut [u8])
+    requires both { length left.now / 4 ≡ length right.now / 4 }
+    requires room { length frames.old / 4 ≡ 2 * (length left.now / 4) }
     ensures { words frames.new ≡ interleaved (words left.now) (words right.now) }
 {
-    let mut i = 0;
-    while i < size {
+    for i in 0..left.len() / 4 {
         put_word(frames, 2 * i, word_at(left, i));
         put_word(frames, 2 * i + 1, word_at(right, i));
-        i += 1;
     }
 }

@@ -5,30 +5,49 @@ ghost use Rattle.wav.specs.Chunk.{is_wave, chunk_of, passed};
 
 use values::bytes::u32_at;
 
-// A chunk by its name, with its length.
-#[derive(Clone, Copy)]
-pub enum Chunk {
-    Format(u32),
-    Data(u32),
-    Other(u32),
+// Names of 4 letters, as the numbers of their bytes.
+const RIFF: u32 = 0x4646_4952;
+
+const WAVE: u32 = 0x4556_4157;
+
+const FMT: u32 = 0x2074_6d66;
+
+const DATA: u32 = 0x6174_6164;
+
+// What a chunk's body is, by its name.
+#[derive(Clone, Copy, Debug, PartialEq, Eq)]
+pub enum Kind {
+    Format,
+    Data,
+    Other,
+}
+
+// A chunk, and the length of its body.
+#[derive(Clone, Copy, Debug, PartialEq, Eq)]
+pub struct Chunk {
+    pub kind: Kind,
+    pub length: u32,
 }
 
 // Whether a file begins as a WAV file does: RIFF, a length, WAVE.
 pub fn is_wave(head: &[u8; 12]) -> bool
     ensures { result ≡ is_wave head.now }
 {
-    (u32_at(head, 0) == 0x4646_4952) & (u32_at(head, 8) == 0x4556_4157)
+    u32_at(head, 0) == RIFF && u32_at(head, 8) == WAVE
 }
 
 // The chunk that begins with these bytes.
 pub fn chunk_of(head: &[u8; 8]) -> Chunk
     ensures { result ≡ chunk_of head.now }
 {
-    let length = u32_at(head, 4);
-    match u32_at(head, 0) {
-        0x2074_6d66 => Chunk::Format(length),
-        0x6174_6164 => Chunk::Data(length),
-        _ => Chunk::Other(length),
+    let kind = match u32_at(head, 0) {
+        FMT => Kind::Format,
+        DATA => Kind::Data,
+        _ => Kind::Other,
+    };
+    Chunk {
+        kind,
+        length: u32_at(head, 4),
     }
 }
 
@@ -36,6 +55,6 @@ pub fn chunk_of(head: &[u8; 8]) -> Chunk
 pub fn passed(length: u32) -> u64
     ensures { result ≡ passed length }
 {
-    let l = length as u64;
+    let l = u64::from(length);
     l + l % 2
 }

@@ -12,6 +12,7 @@ const EMPTY: [u8; 58] =
     *b"RIFF\0\0\0\0WAVEfmt \x12\0\0\0\x03\0\x02\0\x44\xac\0\0\x20\x62\x05\0\x08\0\x20\0\0\0fact\x04\0\0\0\0\0\0\0data\0\0\0\0";
 
 // The 58 bytes before so many frames.
+#[tactic(auto, unfolding(crate::specs::Header::header_of))]
 pub fn header(frames: u32) -> [u8; 58]
     requires { frames ≤ 536870905 }
     ensures { result ≡ header_of frames }

@@ -3,25 +3,11 @@ ghost use Rattle.std.specs.Prelude.{◌≡◌, ◌+◌, ◌<◌, ◌≤◌, ◌^
 ghost use Rattle.std.specs.Float.{binary32};
 ghost use Rattle.std.specs.Float.Ieee.{round};
 ghost use Rattle.wav.specs.Format.{width_of, frame_of};
-ghost use Rattle.wav.specs.Frames.{u24_at, whole_of, byte_of, long_of, sample_of, halved, taken_of, frame_at};
+ghost use Rattle.wav.specs.Frames.{whole_of, byte_of, long_of, sample_of, halved, taken_of, frame_at};
 
-use crate::format::{Coding, Format, Taken, width};
-use values::bytes::{u16_at, u32_at};
+use crate::format::{Channels, Coding, Format, Taken, width};
+use values::bytes::{u16_at, u24_at, u32_at};
 use values::float::of_bits;
-
-fn wide(byte: u8) -> u32
-    ensures { (result ≡ byte) × (result < 256) }
-{
-    byte as u32
-}
-
-// The 24-bit number at byte `at`.
-fn u24_at(s: &[u8], at: usize) -> u32
-    requires { at + 3 ≤ length s.now }
-    ensures { (result ≡ u24_at s.now at) × (result < 2 ^ 24) }
-{
-    u16_at(s, at) as u32 + wide(s[at + 2]) * 65536
-}
 
 // A whole number of 24 bits, negative from 2^23 on, over 2^23: nothing is lost.
 fn whole(w: u32) -> f32
@@ -40,9 +26,9 @@ fn eight(byte: u8) -> f32
     ensures { result ≡ byte_of byte }
 {
     if byte < 128 {
-        -((128 - byte) as f32 / 128.0)
+        -(f32::from(128 - byte) / 128.0)
     } else {
-        (byte - 128) as f32 / 128.0
+        f32::from(byte - 128) / 128.0
     }
 }
 
@@ -56,6 +42,7 @@ fn long_size(n: u32) -> f32
 }
 
 // A whole number of 32 bits, negative from 2^31 on, over 2^31: the nearest float.
+#[tactic(auto, unfolding(crate::specs::Frames::long_of))]
 fn long(w: u32) -> f32
     ensures { result ≡ long_of w }
 {
@@ -74,7 +61,7 @@ pub fn sample_at(s: &[u8], at: usize, coding: Coding) -> f32
 {
     match coding {
         Coding::Whole8 => eight(s[at]),
-        Coding::Whole16 => whole(u16_at(s, at) as u32 * 256),
+        Coding::Whole16 => whole(u32::from(u16_at(s, at)) * 256),
         Coding::Whole24 => whole(u24_at(s, at)),
         Coding::Whole32 => long(u32_at(s, at)),
         Coding::Float32 => of_bits(u32_at(s, at)),
@@ -101,16 +88,15 @@ fn taken_as(taken: Taken, left: f32, right: f32) -> f32
 
 // The one sample that the frame at byte `at` becomes. Ruled out: the left channel where the right is asked
 // for; a mean that is rounded otherwise.
+#[tactic(auto, unfolding(crate::specs::Frames::frame_at))]
 pub fn frame_at(s: &[u8], at: usize, format: Format) -> f32
     requires { at + frame_of format ≤ length s.now }
     ensures { result ≡ frame_at format s.now at }
 {
     let coding = format.coding;
-    let taken = format.taken;
-    let left = sample_at(s, at, coding);
-    if format.stereo {
-        taken_as(taken, left, sample_at(s, at + width(coding), coding))
-    } else {
-        left
+    let first = sample_at(s, at, coding);
+    match format.channels {
+        Channels::Mono => first,
+        Channels::Stereo(taken) => taken_as(taken, first, sample_at(s, at + width(coding), coding)),
     }
 }

@@ -1,9 +1,6 @@
-use Prim.Native.Nat.{◌≤◌, ◌-◌}
-use lib.ListN.{length}
+-- `judge_run::judge_all`: each turn passes a board.
+use Rattle.std.proofs.Common.{length}
 use Rattle.judge_run.proofs.judge_all.Given as goal
 
-abbrev pub invariant-loop-at : goal.invariant-loop-at
-invariant-loop-at g l = l.at ≤ length l.s
-
-abbrev pub decreases-loop-at : goal.decreases-loop-at
-decreases-loop-at g l = length l.s - l.at
+abbrev pub decreases-loop-board : goal.decreases-loop-board
+decreases-loop-board g l = length l.rest

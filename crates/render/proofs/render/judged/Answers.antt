@@ -5,8 +5,7 @@ use Rattle.memory.specs.Fine.{Fine}
 use Rattle.memory.proofs.FineBoard.{accepted_fine}
 use Rattle.render.proofs.render.judged.Goals as goal
 
-pub through-requires : goal.through-requires
-through-requires g c =
-    let read = c.read_board-read in
-    let fine : Fine (parsed_of read.result) = accepted_fine c.args.board.now (λ i. omega (arith, c.type_inv.board i)) read.result read.ensures c.if-refused-ne0.false in
-    (fine.least_size, fine.most_size, omega (arith, read.ensures.sound.few_values))
+pub invariant_of-result : goal.invariant_of-result
+invariant_of-result c =
+    let fine : Fine (parsed_of c.in-Ok.read) = accepted_fine c.args.board.now (λ i. omega (arith, c.type_inv.board i)) c.in-Ok.read c.in-Ok.ensures in
+    record { least_size = fine.least_size; most_size = fine.most_size; room_fits = omega (arith, c.in-Ok.ensures.1.few_values) }

@@ -1,39 +1,40 @@
--- `wav::level::count_faults` meets its contract: after i turns the first i values are counted. Assumes nothing.
-use mathlib.Core.Path.{◌≡◌, refl, ap, ◌∙◌}
-use mathlib.Core.Bool.{Bool}
-use Prim.Native.Nat.{◌+◌, ◌/◌}
-use lib.ListN.{length}
-use native.Mathlib.Numerals.{add-one}
-use native.Mathlib.Omega.{arith}
+-- `wav::level::count_faults` meets its contract: one value more is counted as the test says. Assumes nothing.
+use Rattle.std.proofs.Common.{◌≡◌, ℕ, ◌+◌, Bool, true, false, List, refl, sym, ap, subst, ◌∙◌, arith, add-one, length, ◌/◌}
+use Rattle.std.specs.Prelude.{Float}
 use Rattle.values.specs.Words.{words}
 use Rattle.values.specs.Floats.{float_at}
-use Rattle.wav.specs.Level.{faulty_f, more, counted}
+use Rattle.wav.specs.declared.level.Count.{Count}
+use Rattle.wav.specs.Level.{more, counted, Tells}
 use Rattle.wav.proofs.level.count_faults.Goals as goal
+use Rattle.wav.proofs.level.count_faults.Goals.{then-is_fault, else-is_fault}
+
+next : (faulty : Float → Bool) (ws : List ℕ) (from i : ℕ) (before c c' : Count) (b : Bool) → b ≡ faulty (float_at ws i) → c ≡ counted faulty ws from before i
+    → c' ≡ more b (from + i) c → c' ≡ counted faulty ws from before (i + 1)
+unfolding counted
+next faulty ws from i before c c' b told so_far one =
+    rw (add-one i) (one ∙ ap (λ (t : Bool). more t (from + i) c) told ∙ ap (more (faulty (float_at ws i)) (from + i)) so_far)
 
 pub loop-i-init : goal.loop-i-init
 unfolding counted
-loop-i-init c = (omega arith, omega arith, refl)
-
-pub faulty-requires : goal.faulty-requires
-faulty-requires c = tt
+loop-i-init g c = (omega arith, λ faulty tells. refl)
 
 pub loop-i-preserved : goal.loop-i-preserved
-unfolding counted
-loop-i-preserved c =
+loop-i-preserved g c =
     let l = c.loop-i in
-    let args = c.args in (
-      omega arith,
-      omega (arith, c.more-c.ensures.1),
-      rw (add-one l.i) (
-          c.more-c.ensures.0
-          ∙ ap (λ (b : Bool). more b (args.from + l.i) l.c) (c.faulty.ensures ∙ ap (faulty_f args.fault) c.load.ensures)
-          ∙ ap (more (faulty_f args.fault (float_at (words args.values.now) l.i)) (args.from + l.i)) l.invariant.2
-          ),
-    )
+    let answered = subst (λ (x : Float). goal.F-post g c.args.is_fault x c.is_fault.result) c.load.ensures c.is_fault.ensures in
+    elim c.if-is_fault.branch [
+      | then-is_fault w ↦ (
+        omega (arith, ap (λ (x : Count). x.count) w.with-c.ensures, ap (λ (x : Count). x.count) w.c-is),
+        λ faulty tells. next faulty _ _ _ _ l.c _ true (sym w.if-is_fault.true ∙ tells l.i _ (omega arith) answered) (l.invariant.1 faulty (λ k r h p. tells k r (omega arith) p)) (w.c-is ∙ w.with-c.ensures),
+      )
+      | else-is_fault w ↦ (
+        omega (arith, ap (λ (x : Count). x.count) w.c-is),
+        λ faulty tells. next faulty _ _ _ _ l.c _ false (sym w.if-is_fault.false ∙ tells l.i _ (omega arith) answered) (l.invariant.1 faulty (λ k r h p. tells k r (omega arith) p)) w.c-is,
+      )
+    ]
 
-pub returns : goal.returns
-returns c =
-    let args = c.args in
-    let l = c.loop-i in
-    let all : l.i ≡ length args.values.now / 4 = omega arith in
-    (l.invariant.2 ∙ ap (counted args.fault (words args.values.now) args.from args.before) all, omega (arith, l.invariant.1))
+pub returns-clause-counted : goal.returns-clause-counted
+returns-clause-counted g c =
+    let all : c.loop-i.i ≡ length c.args.values.now / 4 = omega arith in
+    subst (λ (n : ℕ). (faulty : Float → Bool) → Tells (goal.F-post g c.args.is_fault) faulty (words c.args.values.now) n
+    → c.loop-i.c ≡ counted faulty (words c.args.values.now) c.args.from c.args.before n) all c.loop-i.invariant.1

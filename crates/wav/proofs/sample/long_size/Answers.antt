@@ -1,15 +1,8 @@
 -- `wav::sample::long_size` meets its contract: the sum of two exact parts is rounded once. Assumes nothing.
 use native.Mathlib.Omega.{arith}
 use lib.Ieee.{of_bits}
-use Rattle.wav.proofs.Exact.{small}
 use Rattle.wav.proofs.Nearest.{long_is}
 use Rattle.wav.proofs.sample.long_size.Goals as goal
-
-pub int_to_float-result : goal.int_to_float-result
-int_to_float-result c = small _ (omega arith)
-
-pub int_to_float-result-2 : goal.int_to_float-result-2
-int_to_float-result-2 c = small _ (omega arith)
 
 pub returns : goal.returns
 unfolding of_bits

@@ -8,12 +8,6 @@ use Rattle.wav.specs.Frames.{whole_of}
 use Rattle.wav.proofs.Exact.{small}
 use Rattle.wav.proofs.sample.whole.Goals as goal
 
-pub int_to_float-result : goal.int_to_float-result
-int_to_float-result c = small _ (omega arith)
-
-pub int_to_float-result-else-w-lt8388608 : goal.int_to_float-result-else-w-lt8388608
-int_to_float-result-else-w-lt8388608 c = small _ (omega arith)
-
 pub returns-then-w-lt8388608 : goal.returns-then-w-lt8388608
 unfolding of_bits whole_of
 returns-then-w-lt8388608 c = over-is _ (small _ (omega arith)) ∙ simp (lt-ltb _ _ c.if-w-lt8388608.true)

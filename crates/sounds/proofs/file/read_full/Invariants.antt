@@ -1,9 +1,0 @@
--- `sounds::file::read_full`: what is read only grows, up to the buffer's end.
-use Rattle.std.proofs.Common.{length, ◌-◌, ◌≤◌}
-use Rattle.sounds.proofs.file.read_full.Given as goal
-
-abbrev pub invariant-loop-done : goal.invariant-loop-done
-invariant-loop-done g l = l.done ≤ length l.buffer
-
-abbrev pub decreases-loop-done : goal.decreases-loop-done
-decreases-loop-done g l = length l.buffer - l.done

@@ -1,2 +1,0 @@
--- What the contracts of `sounds` cite.
-pub mod Source
