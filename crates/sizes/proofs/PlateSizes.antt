@@ -3,6 +3,7 @@
 use Prim.Native.Nat.{ℕ, ◌+◌, ◌-◌, ◌*◌, ◌≤◌, ◌<◌}
 use mathlib.Core.Path.{◌≡◌, refl, sym, ap, subst, ◌∙◌}
 use mathlib.Core.Bool.{true}
+use Rattle.std.proofs.Common.{Ok}
 use native.Mathlib.Omega.{arith}
 use borrow.Author.Tests.{le-leb, lt-leb, ne_eqb}
 use lib.Dec.{T, leb}
@@ -49,7 +50,7 @@ module _ (N M mix dry : ℕ) where
   unfolding plate_nodes kind_of
   lines = omega arith
 
-  two_stores : bytes_after (write_board (plate_card N mix dry)) M (Line 15 2800 line) ≡ write_board (plate_with M line mix dry)
+  two_stores : bytes_after (write_board (plate_card N mix dry)) M (Ok (Line 15 2800 line)) ≡ write_board (plate_with M line mix dry)
   unfolding bytes_after write_board plate_nodes plate_wires
   two_stores = refl
 
@@ -65,13 +66,13 @@ module _ (N M mix dry : ℕ) where
     reads : read_board (write_board (plate_card N mix dry)) ≡ whole p
     reads = write_read (plate_card N mix dry) facts.obeys
 
-    plan : plan_of p M ≡ Line 15 2800 line
+    plan : plan_of p M ≡ Ok (Line 15 2800 line)
     unfolding plan_of
     plan =
         let few : leb (lines_of p.nodes + N) (262144 + M) ≡ true = le-leb (lines_of p.nodes + N) (262144 + M) (omega (arith, lines)) in
         rw (le-leb 1 M least, le-leb M 128 (omega arith), ne_eqb M N (λ e. omega arith), facts.late, ab, lt-leb (2800 + N) M (omega arith), le-leb (2800 + N) (132300 + M) (omega arith), few)
 
-    resized : resized_of (write_board (plate_card N mix dry)) M ≡ Line 15 2800 line
+    resized : resized_of (write_board (plate_card N mix dry)) M ≡ Ok (Line 15 2800 line)
     unfolding resized_of
     resized = ap (plan_by M) reads ∙ plan
 

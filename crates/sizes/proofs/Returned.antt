@@ -2,6 +2,7 @@
 use Prim.Native.Nat.{ℕ}
 use mathlib.Core.Path.{◌≡◌, refl, sym, ap, subst, ◌∙◌}
 use mathlib.Core.List.{List, []}
+use Rattle.std.proofs.Common.{Result, Ok}
 use native.Mathlib.Omega.{arith}
 use lib.ListN.{set}
 use Rattle.values.specs.Words.{Bytes}
@@ -11,6 +12,7 @@ use Rattle.boards.specs.Judge.{read_board}
 use Rattle.boards.proofs.Round.{Accepted, read_write}
 use Rattle.memory.specs.Fine.{Fine}
 use Rattle.memory.proofs.FineBoard.{fine_board}
+use Rattle.resizing.specs.declared.resize.Reason.{Reason}
 use Rattle.resizing.specs.declared.resize.Resized.{Resized}
 use Rattle.resizing.specs.declared.resize.Resized.TheVariants.{Same, Size, Line}
 use Rattle.memory.specs.Memory.{kinds}
@@ -31,18 +33,18 @@ module _ (s : List ℕ) (bytes : Bytes s) (p : Parsed) (reads : read_board s ≡
   fits : SizeIn p.size
   fits = (fine.least_size, fine.most_size)
 
-  abbrev Back : Resized → Type 0
+  abbrev Back : Result Resized Reason → Type 0
   Back r = bytes_after (bytes_after s M r) p.size (resized_of (bytes_after s M r) p.size) ≡ s
 
   -- of bytes that are read as q, by what is to be done to q
-  by_plan : (s' : List ℕ) (q : Parsed) (r : Resized) → read_board s' ≡ whole q → r ≡ plan_of q p.size → bytes_after s' p.size r ≡ s
+  by_plan : (s' : List ℕ) (q : Parsed) (r : Result Resized Reason) → read_board s' ≡ whole q → r ≡ plan_of q p.size → bytes_after s' p.size r ≡ s
       → bytes_after s' p.size (resized_of s' p.size) ≡ s
   unfolding resized_of
   by_plan s' q r e plan back = ap (bytes_after s' p.size) (ap (plan_by p.size) e ∙ sym plan) ∙ back
 
   unchanged : bytes_after s p.size (resized_of s p.size) ≡ s
   unfolding bytes_after
-  unchanged = by_plan s p Same reads (plan_same p p.size fits refl) refl
+  unchanged = by_plan s p (Ok Same) reads (plan_same p p.size fits refl) refl
 
   module _ (k n m : ℕ) (h : Corrects p M k n m) where
     abbrev q : Parsed
@@ -65,19 +67,19 @@ module _ (s : List ℕ) (bytes : Bytes s) (p : Parsed) (reads : read_board s ≡
           as_long = sym h.as_long;
         }
 
-    line_returns : Back (Line k n m)
+    line_returns : Back (Ok (Line k n m))
     unfolding bytes_after
     line_returns =
-        by_plan (bytes_after s M (Line k n m)) q (Line k m n) (new_read s bytes p reads M k n m h) (corrects_plan q p.size k m n back)
+        by_plan (bytes_after s M (Ok (Line k n m))) q (Ok (Line k m n)) (new_read s bytes p reads M k n m h) (corrects_plan q p.size k m n back)
         (line_back s p accepted M k n m h.is_delay h.some)
 
-  by_view : {r : Resized} → Planned p M r → Back r
+  by_view : {r : Result Resized Reason} → Planned p M r → Back r
   unfolding bytes_after
   by_view kept = unchanged
   by_view (already _) = unchanged
   by_view (size_stored h none) =
       let q : Parsed = board_of p M (kinds p) in
-      by_plan (bytes_after s M Size) q Size (size_read s p accepted M h.size_fits_lem.0 h.size_fits_lem.1)
+      by_plan (bytes_after s M (Ok Size)) q (Ok Size) (size_read s p accepted M h.size_fits_lem.0 h.size_fits_lem.1)
       (plan_late q p.size [] (record { size_fits_lem = fits; other = λ e. h.other (sym e) }) none) (size_back s p accepted M)
   by_view (line_stored k n m h) = line_returns k n m h
 

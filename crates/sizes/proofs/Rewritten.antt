@@ -7,6 +7,7 @@ use Prim.Native.Nat.{ℕ, ◌+◌, ◌<◌}
 use mathlib.Core.Path.{◌≡◌, refl, sym, ap, ◌∙◌}
 use mathlib.Core.Bool.{Bool, true, false}
 use mathlib.Core.List.{List, [], ◌∷◌}
+use Rattle.std.proofs.Common.{Result, Ok}
 use native.Mathlib.Omega.{arith}
 use lib.Dec.{eqb, ltb}
 use lib.ListN.{set}
@@ -25,6 +26,7 @@ use Rattle.memory.specs.Fine.{Fine}
 use Rattle.memory.proofs.FineBoard.{fine_board}
 use Rattle.resizing.specs.Resize.{plan_of, plan_by, resized_of, bytes_after}
 use Rattle.sizes.specs.Settled.{Apart, line_longer, line_shorter, size_alone, Complete}
+use Rattle.resizing.specs.declared.resize.Reason.{Reason}
 use Rattle.resizing.specs.declared.resize.Resized.{Resized}
 use Rattle.resizing.specs.declared.resize.Resized.TheVariants.{Same, Size, Line}
 use Rattle.resizing.proofs.Boards.{line_fits, new_kind, old_kinds, one_in}
@@ -40,7 +42,7 @@ pub record Rewrites (p : Parsed) (s' : List ℕ) (M : ℕ) : Type 0 where
   pub apart : Apart p after
 
 module _ (s : List ℕ) (b : Bytes s) (p : Parsed) (e : read_board s ≡ whole p) where
-  pub size_rewrites : (M : ℕ) → Another p M → late_wires (listed p) p.wires ≡ [] → Rewrites p (bytes_after s M Size) M
+  pub size_rewrites : (M : ℕ) → Another p M → late_wires (listed p) p.wires ≡ [] → Rewrites p (bytes_after s M (Ok Size)) M
   unfolding bytes_after
   size_rewrites M h none = record {
     after = board_of p M (kinds p);
@@ -53,7 +55,7 @@ module _ (s : List ℕ) (b : Bytes s) (p : Parsed) (e : read_board s ≡ whole p
     abbrev pub new : Parsed
     new = board_of p M (set (kinds p) k (Delay m))
 
-    pub new_read : read_board (bytes_after s M (Line k n m)) ≡ whole new
+    pub new_read : read_board (bytes_after s M (Ok (Line k n m))) ≡ whole new
     unfolding bytes_after
     new_read = line_read s p (read_write s b p e) M h.another.size_fits_lem.0 h.another.size_fits_lem.1 k n m h.is_delay h.some h.least h.most h.few
 
@@ -99,7 +101,7 @@ module _ (s : List ℕ) (b : Bytes s) (p : Parsed) (e : read_board s ≡ whole p
               same_kinds = old_kinds p new k n m h.is_delay new_kinds;
             })
 
-    pub line_rewrites : Rewrites p (bytes_after s M (Line k n m)) M
+    pub line_rewrites : Rewrites p (bytes_after s M (Ok (Line k n m))) M
     line_rewrites = record { after = new; reads_after = new_read; at_size = refl; apart = new_apart }
 
 -- ---- what is apart is reached
@@ -118,11 +120,11 @@ module _ (s : List ℕ) (b : Bytes s) (p : Parsed) (e : read_board s ≡ whole p
       sym (laid_out Q q (read_write Q c q d)
       ∙ (λ i. record { size = q.size; input = same_input i; nodes = laid q.size 0 (same_kinds i); wires = same_wires i }))
 
-  by_plan : (r : Resized) (ks : List NodeKind) → r ≡ plan_of p q.size → kinds q ≡ ks → read_board (bytes_after s q.size r) ≡ whole (board_of p q.size ks)
+  by_plan : (r : Result Resized Reason) (ks : List NodeKind) → r ≡ plan_of p q.size → kinds q ≡ ks → read_board (bytes_after s q.size r) ≡ whole (board_of p q.size ks)
       → Reached
   unfolding resized_of
   by_plan r ks plan same_kinds read =
-      ap (λ (x : Resized). read_board (bytes_after s q.size x)) (ap (plan_by q.size) e ∙ sym plan) ∙ read ∙ ap whole (is_board ks same_kinds)
+      ap (λ (x : Result Resized Reason). read_board (bytes_after s q.size x)) (ap (plan_by q.size) e ∙ sym plan) ∙ read ∙ ap whole (is_board ks same_kinds)
 
   size_reached : late_wires (listed p) p.wires ≡ [] → kinds q ≡ kinds p → Reached
   unfolding bytes_after
@@ -134,10 +136,10 @@ module _ (s : List ℕ) (b : Bytes s) (p : Parsed) (e : read_board s ≡ whole p
       go : (t : Bool) → eqb q.size p.size ≡ t → Reached
       go true t =
           let at_size = eqb-true q.size p.size t in
-          by_plan Same (kinds p) (plan_same p q.size fits at_size) same_kinds
+          by_plan (Ok Same) (kinds p) (plan_same p q.size fits at_size) same_kinds
           (e ∙ ap whole (laid_out s p (read_write s b p e) ∙ ap (λ (N : ℕ). board_of p N (kinds p)) (sym at_size)))
       go false t =
-          by_plan Size (kinds p) (plan_late p q.size [] (record { size_fits_lem = fits; other = eqb-false q.size p.size t }) none) same_kinds
+          by_plan (Ok Size) (kinds p) (plan_late p q.size [] (record { size_fits_lem = fits; other = eqb-false q.size p.size t }) none) same_kinds
           (size_read s p (read_write s b p e) q.size fits.0 fits.1)
 
   line_reached : (source k n m : ℕ) → late_wires (listed p) p.wires ≡ wire source k ∷ [] → kind_at p k ≡ Delay n → kinds q ≡ set (kinds p) k (Delay m)
@@ -157,7 +159,7 @@ module _ (s : List ℕ) (b : Bytes s) (p : Parsed) (e : read_board s ≡ whole p
         few = omega (arith, fine.formed.few_lines);
         as_long = as_long;
       } in
-      by_plan (Line k n m) (set (kinds p) k (Delay m)) (corrects_plan p q.size k n m h) same_kinds (new_read s b p e q.size k n m h)
+      by_plan (Ok (Line k n m)) (set (kinds p) k (Delay m)) (corrects_plan p q.size k n m h) same_kinds (new_read s b p e q.size k n m h)
 
 pub complete : (s : List ℕ) → Bytes s → Complete s
 complete s b p e Q q c d (line_longer o) =

@@ -2,6 +2,7 @@
 use Prim.Native.Nat.{ℕ, zero, suc, ◌+◌, ◌*◌, ◌<◌}
 use mathlib.Core.Path.{◌≡◌, refl, sym, ap, ◌∙◌}
 use mathlib.Core.List.{List, [], ◌∷◌}
+use Rattle.std.proofs.Common.{Result, Ok, Err}
 use native.Mathlib.Omega.{arith}
 use lib.ListN.{set}
 use lib.Seq.{sets}
@@ -10,8 +11,9 @@ use Rattle.values.specs.Bytes.{u16_bytes, u32_bytes}
 use Rattle.values.specs.Words.{Bytes}
 use Rattle.boards.specs.Board.{Parsed, Progress, going, refused, whole}
 use Rattle.boards.specs.Judge.{read_board}
+use Rattle.resizing.specs.declared.resize.Reason.{Reason}
 use Rattle.resizing.specs.declared.resize.Resized.{Resized}
-use Rattle.resizing.specs.declared.resize.Resized.TheVariants.{Same, Size, Line, Kept}
+use Rattle.resizing.specs.declared.resize.Resized.TheVariants.{Same, Size, Line}
 use Rattle.sizes.specs.Sizes.{SoundsAs}
 use Rattle.resizing.specs.Resize.{plan_by, resized_of, bytes_after}
 use Rattle.sizes.specs.Settled.{Apart, line_longer, line_shorter, size_alone, Carried, Settled}
@@ -32,14 +34,14 @@ sets_bytes : (s : List ℕ) (i : ℕ) (vs : List ℕ) → All (λ v. v < 256) vs
 sets_bytes s i [] h b = b
 sets_bytes s i (v ∷ vs) h b = sets_bytes (set s i v) (suc i) vs h.1 (set-bytes s i v h.0 b)
 
-after-bytes : (s : List ℕ) (M : ℕ) (r : Resized) → Bytes s → Bytes (bytes_after s M r)
+after-bytes : (s : List ℕ) (M : ℕ) (r : Result Resized Reason) → Bytes s → Bytes (bytes_after s M r)
 unfolding bytes_after
-after-bytes s M Same b = b
-after-bytes s M Size b = sets_bytes s 4 (u16_bytes M) (omega arith, (omega arith, tt)) b
-after-bytes s M (Line k n m) b =
+after-bytes s M (Ok Same) b = b
+after-bytes s M (Ok Size) b = sets_bytes s 4 (u16_bytes M) (omega arith, (omega arith, tt)) b
+after-bytes s M (Ok (Line k n m)) b =
     sets_bytes (sets s 4 (u16_bytes M)) (14 * k + 14) (u32_bytes m) (omega arith, (omega arith, (omega arith, (omega arith, tt))))
     (sets_bytes s 4 (u16_bytes M) (omega arith, (omega arith, tt)) b)
-after-bytes s M (Kept r) b = b
+after-bytes s M (Err r) b = b
 
 -- ---- boards that are apart as the request says sound the same
 
@@ -51,7 +53,7 @@ apart_sounds s s' bytes bytes' p q reads reads' (size_alone o) = size_only_sound
 -- ---- every answer
 
 module _ (s : List ℕ) (bytes : Bytes s) (M : ℕ) (p : Parsed) (reads : read_board s ≡ whole p) where
-  rewritten : (r : Resized) → Rewrites p (bytes_after s M r) M → Carried s (bytes_after s M r) M
+  rewritten : (r : Result Resized Reason) → Rewrites p (bytes_after s M r) M → Carried s (bytes_after s M r) M
   rewritten r w = record {
     before = p;
     after = w.after;
@@ -62,11 +64,11 @@ module _ (s : List ℕ) (bytes : Bytes s) (M : ℕ) (p : Parsed) (reads : read_b
     sounds = apart_sounds s (bytes_after s M r) bytes (after-bytes s M r bytes) p w.after reads w.reads_after w.apart;
   }
 
-  by_plan : {r : Resized} → Planned p M r → Settled s M r
+  by_plan : {r : Result Resized Reason} → Planned p M r → Settled s M r
   by_plan kept = tt
   by_plan (already e) = λ x q. let board : x ≡ p = cc in ap (λ (y : Parsed). y.size) board ∙ sym e
-  by_plan (size_stored h none) = rewritten Size (size_rewrites s bytes p reads M h none)
-  by_plan (line_stored k n m h) = rewritten (Line k n m) (line_rewrites s bytes p reads M k n m h)
+  by_plan (size_stored h none) = rewritten (Ok Size) (size_rewrites s bytes p reads M h none)
+  by_plan (line_stored k n m h) = rewritten (Ok (Line k n m)) (line_rewrites s bytes p reads M k n m h)
 
 pub settled : (s : List ℕ) → Bytes s → (M : ℕ) → Settled s M (resized_of s M)
 unfolding resized_of

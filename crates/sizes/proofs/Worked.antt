@@ -1,6 +1,7 @@
 -- A small board at 2 and at 1: a sum of the input and of its own output, which comes back through a delay by a late wire; of 1 sample at block
 -- size 2 and of 2 at block size 1. An impulse comes back every 3 samples on both, by computation from the definitions of the calls.
 -- The line that is not corrected gives another stream. Assumes nothing.
+use Rattle.std.proofs.Common.{Ok}
 use Prim.Native.Nat.{ℕ}
 use mathlib.Core.Path.{◌≡◌, refl}
 use mathlib.Core.List.{List, [], ◌∷◌}
@@ -49,11 +50,11 @@ abbrev pub both : List ℕ → Stereo
 both ws = record { left = unwords ws; right = unwords ws }
 
 -- the board at 2, carried to 1
-pub loop_resized : resized_of (write_board (loop 2 1)) 1 ≡ Line 3 1 2
+pub loop_resized : resized_of (write_board (loop 2 1)) 1 ≡ Ok (Line 3 1 2)
 unfolding resized_of plan_of write_board kind_of read_board read_records run step_of take_found found_at found_of rule_of check_sources distinct visiting_list late_wires is_late of_bits
 loop_resized = refl
 
-pub loop_bytes : bytes_after (write_board (loop 2 1)) 1 (Line 3 1 2) ≡ write_board (loop 1 2)
+pub loop_bytes : bytes_after (write_board (loop 2 1)) 1 (Ok (Line 3 1 2)) ≡ write_board (loop 1 2)
 unfolding bytes_after write_board
 loop_bytes = refl
 

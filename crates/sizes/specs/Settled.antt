@@ -1,13 +1,14 @@
 -- What is promised of a board that was carried to another block size (docs/SIZES.md): the result is accepted and sounds the same, no board of the
 -- theorem is left out, and the way back leads to the same bytes. Definitions only; proved in proofs/Settled.antt (`settled`), Rewritten.antt
 -- (`complete`) and Returned.antt (`returns`).
-use Rattle.std.specs.Prelude.{ℕ, ◌≡◌, List}
+use Rattle.std.specs.Prelude.{ℕ, ◌≡◌, List, Result, Ok, Err}
 use Rattle.values.specs.Words.{Bytes}
 use Rattle.boards.specs.Board.{Parsed, whole}
 use Rattle.boards.specs.Judge.{read_board}
 use Rattle.resizing.specs.Resize.{resized_of, bytes_after}
+use Rattle.resizing.specs.declared.resize.Reason.{Reason}
 use Rattle.resizing.specs.declared.resize.Resized.{Resized}
-use Rattle.resizing.specs.declared.resize.Resized.TheVariants.{Same, Size, Line, Kept}
+use Rattle.resizing.specs.declared.resize.Resized.TheVariants.{Same, Size, Line}
 use Rattle.sizes.specs.Sizes.{OneLine, SizeOnly, SoundsAs}
 
 -- how two boards may differ so that they sound the same: the request's boards, the first of the larger or of the smaller blocks; or boards
@@ -28,11 +29,11 @@ pub record Carried (s s' : List ℕ) (M : ℕ) : Type 0 where
   pub sounds : SoundsAs s s' before after
 
 -- where bytes have changed, they are carried
-abbrev pub Settled : List ℕ → ℕ → Resized → Type 0
-Settled s M Same = (p : Parsed) → read_board s ≡ whole p → p.size ≡ M
-Settled s M Size = Carried s (bytes_after s M Size) M
-Settled s M (Line k n m) = Carried s (bytes_after s M (Line k n m)) M
-Settled s M (Kept r) = Unit {0}
+abbrev pub Settled : List ℕ → ℕ → Result Resized Reason → Type 0
+Settled s M (Ok Same) = (p : Parsed) → read_board s ≡ whole p → p.size ≡ M
+Settled s M (Ok Size) = Carried s (bytes_after s M (Ok Size)) M
+Settled s M (Ok (Line k n m)) = Carried s (bytes_after s M (Ok (Line k n m))) M
+Settled s M (Err r) = Unit {0}
 
 -- and no board of the theorem is left out: wherever accepted bytes Q are of a board q apart from the one of s as above, the board of s at q's
 -- block size is q
