@@ -5,10 +5,11 @@
 -- Assumes nothing.
 use mathlib.Core.Path.{◌≡◌, refl, sym, ap, ◌∙◌}
 use mathlib.Core.List.{List, [], ◌∷◌, ◌++◌}
-use Prim.Native.Nat.{ℕ, suc, ◌+◌, ◌*◌, ◌≤◌, ◌<◌}
+use Prim.Native.Nat.{ℕ, suc, ◌+◌, ◌-◌, ◌*◌, ◌≤◌, ◌<◌}
 use native.Mathlib.Omega.{arith}
 use lib.ListN.{length, get_or, set, take, drop, take-append-drop, length-append, length-drop, get_or-append}
 use lib.Seq.{set-append_left, get_or-append-add, length-take-le}
+use Rattle.std.proofs.lemmas.List.{set-append_right}
 use Rattle.kinds.specs.Kind.{channels_of, line_of, cell_size, samples_from, number_index, carry_index, place_index}
 use Rattle.kinds.specs.Rule.{with_number, with_carry, with_place, with_line}
 use Rattle.kinds.specs.Cell.{Cell, with_state, with_samples, values_of, cell_of}
@@ -73,11 +74,11 @@ module _ (c : Cell) where
 
 -- ---- stores
 
+-- std's lemma, with the place counted on from the first list's end
 pub set_append_right : {A : Type 0} (xs ys : List A) (j : ℕ) (v : A) → set (xs ++ ys) (length xs + j) v ≡ xs ++ set ys j v
-set_append_right [] ys j v = let e : 0 + j ≡ j = omega arith in rw e
-set_append_right (x ∷ xs) ys j v =
-    let e : suc (length xs) + j ≡ suc (length xs + j) = omega arith in
-    rw e (ap (λ l. x ∷ l) (set_append_right xs ys j v))
+set_append_right xs ys j v =
+    let at : length xs + j - length xs ≡ j = omega arith in
+    set-append_right xs ys (length xs) (length xs + j) v refl (omega arith) ∙ ap (λ k. xs ++ set ys k v) at
 
 module _ (c : Cell) (v : ℕ) where
   pub set_number : set (values_of c) number_index v ≡ values_of (with_state c (with_number c.state v))

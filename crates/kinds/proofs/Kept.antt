@@ -5,7 +5,7 @@
 --     fits_part                                          the judgement of a part and of what starts there
 --     message_fits                                       after a number message
 -- Assumes nothing.
-use mathlib.Core.Path.{◌≡◌, refl, sym, ap, ◌∙◌, subst}
+use mathlib.Core.Path.{◌≡◌, refl, ap, ◌∙◌}
 use mathlib.Core.Bool.{Bool, true, false, cond, ◌&&◌, false≢true}
 use mathlib.Core.List.{List, [], ◌∷◌}
 use Prim.Native.Nat.{ℕ, suc, ◌+◌, ◌≤◌}
@@ -17,6 +17,8 @@ use lib.Ieee.{Float, binary32, of_bits, to_bits, fits}
 use lib.Ieee.Bits.{of_bits-to_bits}
 use denote.Floats.{passes, is_true}
 use borrow.Author.Tests.{ltb-true, lt-ltb, eqb-false}
+use Rattle.std.specs.Cmp.Derive.{both_true}
+use Rattle.std.proofs.lemmas.Bool.{and_parts}
 use Rattle.values.specs.Floors.{f1, f44100, within}
 use Rattle.values.specs.Parts.{part, part_paste}
 use Rattle.leaves.specs.Phase.{phase_after}
@@ -48,11 +50,7 @@ pub record Judged (k : NodeKind) (s : State) : Type 0 where
   pub place : place_fits k s.place ≡ true
 
 pub both : (a b : Bool) → a && b ≡ true → (a ≡ true) × (b ≡ true)
-both true b e = (refl, e)
-both false b e = absurd (subst T (sym e) tt)
-
-all_true : (a b c : Bool) → a ≡ true → b ≡ true → c ≡ true → a && b && c ≡ true
-all_true a b c p q r = rw (p, q, r)
+both = and_parts
 
 module _ (k : NodeKind) where
   pub fits_judged : (N : ℕ) (ws : List ℕ) → cell_fits k ws ≡ true → Judged k (cell_of N k ws).state
@@ -64,7 +62,7 @@ module _ (k : NodeKind) where
 
   pub judged_fits : (c : Cell) → Judged k c.state → cell_fits k (values_of c) ≡ true
   unfolding values_of
-  judged_fits c j = all_true (number_fits k c.state.number) (carry_fits k c.state.carry) (place_fits k c.state.place) j.number j.carry j.place
+  judged_fits c j = both_true (both_true j.number j.carry) j.place
 
 -- the values of a cell, and all from there on, are judged alike
 pub fits_part : (k : NodeKind) (N at : ℕ) (ws : List ℕ) → cell_fits k (part ws at (cell_size N k)) ≡ cell_fits k (drop at ws)
@@ -179,4 +177,4 @@ message_fits k x [] f v e = e
 message_fits k x (w ∷ ws) f v e =
     let j = fits_judged k 0 (w ∷ ws) e in
     unfold cell_of in
-    all_true (number_fits k (to_bits binary32 x)) (carry_fits k (get_or ws 0 0)) (place_fits k (get_or ws 1 0)) (value_number k x f v) j.carry j.place
+    both_true (both_true (value_number k x f v) j.carry) j.place

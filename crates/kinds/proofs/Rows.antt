@@ -1,14 +1,14 @@
 -- What holds of every row of the table of types, one line a type. Assumes nothing.
 use mathlib.Core.Path.{◌≡◌, refl}
 use mathlib.Core.Bool.{true, false, false≢true}
-use Prim.Native.Nat.{ℕ, ◌+◌, ◌*◌, ◌/◌, ◌%◌, ◌≤◌, ◌<◌}
+use Prim.Native.Nat.{ℕ, ◌≤◌, ◌<◌}
 use native.Mathlib.Omega.{arith}
 use denote.Floats.{passes}
 use lib.Dec.{T, eqb}
 use lib.Ieee.{Float, binary32, of_bits}
 use Rattle.values.specs.Floors.{f44100, finite_f, within}
 use Rattle.kinds.specs.Row.{Carry, no_carry, last_output, running_phase, TypeRow, row_of}
-use Rattle.kinds.specs.Kind.{line_length, fewest, most}
+use Rattle.kinds.specs.Kind.{line_length}
 use Rattle.kinds.specs.Cell.{takes_in, value_in, number_in}
 use Rattle.kinds.specs.declared.kind.NodeKind.{NodeKind}
 use Rattle.kinds.specs.declared.kind.NodeKind.TheVariants.{Pass, Sum, Destination, Balance, Mul, Add, Delay, AllPass, OnePole, Sine}
@@ -40,7 +40,3 @@ row_laws (Delay n) = record { few = omega arith; wired = λ h. omega arith; stea
 row_laws (AllPass n f) = record { few = omega arith; wired = λ h. omega arith; steady = λ w e. tt; mul = no_mul }
 row_laws (OnePole f) = record { few = omega arith; wired = λ h. omega arith; steady = λ w e. tt; mul = no_mul }
 row_laws (Sine f) = record { few = omega arith; wired = λ h. h; steady = λ w e. passes _ e; mul = no_mul }
-
--- the bounds of a type's sources, off the two digits of one number
-pub digits : (k : NodeKind) → ((16 * fewest k + most k) / 16 ≡ fewest k) × ((16 * fewest k + most k) % 16 ≡ most k)
-digits k = let few = (row_laws k).few in (omega (arith, few), omega (arith, few))

@@ -3,7 +3,10 @@
 use Rattle.std.specs.Prelude.{ℕ, ◌+◌, ◌*◌, Bool, cond, ◌&&◌, leb, eqb, Float, Option, Some, None}
 use Rattle.std.specs.Float.Ieee.{of_bits}
 use Rattle.std.specs.Float.{binary32}
+use Rattle.values.specs.Floors.{zero_f}
 use Rattle.kinds.specs.Row.{Line, no_line, line_x, line_xy, Value, unused, coefficient, numbered, in_range, Writes, mono, keeping, stereo, row_of}
+use Rattle.kinds.specs.declared.types.Kind.{Kind}
+use Rattle.kinds.specs.declared.types.Kind.TheVariants as kind
 use Rattle.kinds.specs.declared.kind.NodeKind.{NodeKind}
 use Rattle.kinds.specs.declared.kind.NodeKind.TheVariants.{Pass, Sum, Destination, Balance, Mul, Add, Delay, AllPass, OnePole, Sine}
 
@@ -106,6 +109,19 @@ kind_by t n x =
     (cond (eqb t 8) (AllPass n x)
     (cond (eqb t 9) (OnePole x)
     (Sine x)))))))))
+
+-- and back: the type's name, its whole number and its float, zero where it has none
+abbrev pub fields_of : NodeKind → Kind × ℕ × Float
+fields_of Pass = (kind.Pass, 0, zero_f)
+fields_of Sum = (kind.Sum, 0, zero_f)
+fields_of Destination = (kind.Destination, 0, zero_f)
+fields_of Balance = (kind.Balance, 0, zero_f)
+fields_of (Mul x) = (kind.Mul, 0, x)
+fields_of (Add x) = (kind.Add, 0, x)
+fields_of (Delay n) = (kind.Delay, n, zero_f)
+fields_of (AllPass n x) = (kind.AllPass, n, x)
+fields_of (OnePole x) = (kind.OnePole, 0, x)
+fields_of (Sine x) = (kind.Sine, 0, x)
 
 abbrev pub type_known : ℕ → Bool
 type_known t = leb 1 t && leb t 10

@@ -18,6 +18,8 @@ pub const PLACE: usize = 2;
 
 pub const SAMPLES: usize = 3;
 
+// A match on a type gives a value or a test here: no step is picked that a closure could be.
+
 // The number with which a fresh cell starts.
 #[tactic(auto, unfolding(crate::specs::Cell::number_of))]
 pub fn number_of(kind: NodeKind) -> f32

@@ -1,5 +1,6 @@
 // The ten node types by name, and their numbers in a board's bytes.
-ghost use Rattle.std.specs.Prelude.{◌≡◌, ◌⊎◌, ◌<◌, MatchOption};
+ghost use Rattle.std.specs.Prelude.{◌≡◌, ◌⊎◌, ◌<◌, MatchResult};
+ghost use Rattle.std.specs.Result.{result_ok};
 ghost use Rattle.kinds.specs.Types.{type_number, type_at, has_whole, has_float};
 
 // A node's type, without what a node of it holds.
@@ -17,12 +18,12 @@ pub enum Kind {
     Sine,
 }
 
-impl Kind {
-    // The number that stands for it in a node record.
-    pub fn number(self) -> u16
-        ensures { result ≡ type_number self }
-    {
-        match self {
+// The number that stands for it in a node record.
+impl From<Kind> for u16 {
+    ghost from_gives = { λ k t. t ≡ type_number k };
+
+    fn from(kind: Kind) -> u16 {
+        match kind {
             Kind::Pass => 1,
             Kind::Sum => 2,
             Kind::Destination => 3,
@@ -35,27 +36,36 @@ impl Kind {
             Kind::Sine => 10,
         }
     }
+}
 
-    // The type that has the number t.
-    pub fn from_number(t: u16) -> Option<Kind>
-        ensures which { result ≡ type_at t }
-        ensures inverse { MatchOption result ((t ≡ 0) ⊎ (10 < t)) (λ k. type_number k ≡ t) }
-    {
+// A number that no type has.
+#[derive(Clone, Copy)]
+pub struct NoKind;
+
+// The type that a node record's number stands for.
+impl TryFrom<u16> for Kind {
+    type Error = NoKind;
+
+    ghost try_from_gives = { λ t r. (result_ok r ≡ type_at t) × MatchResult r (λ k. type_number k ≡ t) (λ _. (t ≡ 0) ⊎ (10 < t)) };
+
+    fn try_from(t: u16) -> Result<Self, NoKind> {
         match t {
-            1 => Some(Kind::Pass),
-            2 => Some(Kind::Sum),
-            3 => Some(Kind::Destination),
-            4 => Some(Kind::Balance),
-            5 => Some(Kind::Mul),
-            6 => Some(Kind::Add),
-            7 => Some(Kind::Delay),
-            8 => Some(Kind::AllPass),
-            9 => Some(Kind::OnePole),
-            10 => Some(Kind::Sine),
-            _ => None,
+            1 => Ok(Kind::Pass),
+            2 => Ok(Kind::Sum),
+            3 => Ok(Kind::Destination),
+            4 => Ok(Kind::Balance),
+            5 => Ok(Kind::Mul),
+            6 => Ok(Kind::Add),
+            7 => Ok(Kind::Delay),
+            8 => Ok(Kind::AllPass),
+            9 => Ok(Kind::OnePole),
+            10 => Ok(Kind::Sine),
+            _ => Err(NoKind),
         }
     }
+}
 
+impl Kind {
     // Whether a node of it has a whole number: a line's length.
     pub fn has_whole(self) -> bool
         ensures { result ≡ has_whole self }

@@ -15,6 +15,7 @@ use lib.Ieee.Nearest.{closest, closest_mono}
 use lib.Ieee.Scale.{round_same}
 use Rattle.values.specs.Floors.{zero_f, f1, Upto}
 use Rattle.values.proofs.Floors.{no_product, between, not-below, plain_not_below, zero_not_below}
+use Rattle.values.proofs.Patterns.{nan_test, no_nan_test}
 use Rattle.values.proofs.WholePart.{upto-number}
 use Rattle.leaves.specs.Converter.{as_number, as_pattern, nearest_size, clipped, absolute_of, word_size, to_word}
 use Rattle.leaves.proofs.Closest.{closest_whole}
@@ -129,15 +130,23 @@ plain_word (fin true m e) p =
     rw none
 plain_word (fin false m e) p = omega arith
 
-pub absolute_not_below : (x : Float) → ne x x ≡ false → T (le zero_f (absolute_of x))
+-- a NaN is what is unlike itself
+unlike : (x : Float) → ne x x ≡ is_nan x
+unlike x = go (ne x x) refl
+  where
+    go : (b : Bool) → ne x x ≡ b → ne x x ≡ is_nan x
+    go true q = q ∙ sym (nan_test x q)
+    go false q = q ∙ sym (no_nan_test x q)
+
+pub absolute_not_below : (x : Float) → is_nan x ≡ false → T (le zero_f (absolute_of x))
 absolute_not_below x r = go (lt x zero_f) refl
   where
     go : (b : Bool) → lt x zero_f ≡ b → T (le zero_f (cond b (neg x) x))
     go true q = minus_not_below x q
-    go false q = other_not_below x r q
+    go false q = other_not_below x (unlike x ∙ r) q
 
 -- what is no NaN, by its size and its sign
-pub signed_word : (x : Float) → ne x x ≡ false → as_pattern (clipped (lt x zero_f) (word_size (absolute_of x))) ≡ to_word x
+pub signed_word : (x : Float) → is_nan x ≡ false → as_pattern (clipped (lt x zero_f) (word_size (absolute_of x))) ≡ to_word x
 signed_word x r = go (lt x zero_f) refl
   where
     go : (b : Bool) → lt x zero_f ≡ b → as_pattern (clipped b (word_size (cond b (neg x) x))) ≡ to_word x
@@ -145,8 +154,8 @@ signed_word x r = go (lt x zero_f) refl
         minus_pattern (min (word_size (neg x)) (2 ^ 23))
         ∙ ap (λ (n : ℕ). (2 ^ 24 - n) % 2 ^ 24) (min-eq_left (size-le (neg x)))
         ∙ minus_word x q
-    go false q = plain_word x (other_not_below x r q)
+    go false q = plain_word x (other_not_below x (unlike x ∙ r) q)
 
-pub nan_word : (x : Float) → ne x x ≡ true → 0 ≡ to_word x
+pub nan_word : (x : Float) → is_nan x ≡ true → 0 ≡ to_word x
 unfolding to_word
-nan_word x e = sym (ap to_word (differs_from_itself x (subst T (sym e) tt)))
+nan_word x e = sym (ap to_word (differs_from_itself x (subst T (sym (unlike x ∙ e)) tt)))

@@ -5,7 +5,8 @@ ghost use Rattle.std.specs.Float.Ieee.{le};
 ghost use Rattle.values.specs.Floors.{zero_f};
 ghost use Rattle.leaves.specs.Converter.{as_pattern, of_word, clipped, absolute_of, word_size, to_word};
 
-// The sample of a word w: w / 2^23, with nothing lost.
+// The sample of a word w: w / 2^23, with nothing lost. A word is a u32 below 2^24: the language has no type
+// of 24 bits.
 // Ruled out, and tried by a must-fail edit: a word whose sign is lost (sign_lost).
 pub fn of_word(word: u32) -> f32
     requires { word < 2 ^ 24 }
@@ -52,7 +53,7 @@ fn pattern_of(size: u32, below: bool) -> u32
 pub fn to_word(x: f32) -> u32
     ensures { (result ≡ to_word x) × (result < 2 ^ 24) }
 {
-    if x != x {
+    if x.is_nan() {
         return 0;
     }
     pattern_of(size_of(absolute(x)), x < 0.0)

@@ -1,9 +1,13 @@
 // Little-endian numbers in lent bytes. A board is read at byte offsets; memory and sample blocks are
-// read and written as 4-byte words, and their contracts speak of the list of words, `words (now mem)`.
+// read and written as 4-byte words, and their contracts speak of the list of words, `words mem.now`.
 ghost use Rattle.std.specs.Prelude.{◌≡◌, ◌+◌, ◌*◌, ◌^◌, ◌≤◌, ◌<◌, length, get_or, set};
 ghost use Rattle.std.proofs.lemmas.List.Edits.{sets};
 ghost use Rattle.values.specs.Bytes.{u16_at, u24_at, u32_at, u16_bytes, u24_bytes, u32_bytes};
 ghost use Rattle.values.specs.Words.{words};
+
+// That a number lies within the bytes is asked of each function: what is lent is a slice, whose type has
+// no more than its length. No two stores share a slice and a place. One function for each of the language's
+// types, whose methods give the bytes; 24 bits have no type.
 
 // The 16-bit number at byte `at`.
 pub fn u16_at(s: &[u8], at: usize) -> u16

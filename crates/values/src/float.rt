@@ -36,7 +36,7 @@ pub fn finite_bits(w: u32) -> bool
     w % 0x8000_0000 < 0x7f80_0000
 }
 
-// Neither a NaN nor an infinity.
+// Neither a NaN nor an infinity: by the pattern, as memory's words are judged.
 pub fn finite(x: f32) -> bool
     ensures { result ≡ finite_f x }
 {

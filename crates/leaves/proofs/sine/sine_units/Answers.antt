@@ -7,11 +7,8 @@ use lib.IntN.{pos, neg_ℤ}
 use mir.Syntax.{w32}
 use mir.ValLaws.{to_z_pos}
 use Rattle.leaves.specs.Sine.{sine_of, quarter_of, folded}
-use Rattle.leaves.proofs.Signs.{minus_fits, minus_is}
+use Rattle.leaves.proofs.Signs.{minus_is}
 use Rattle.leaves.proofs.sine.sine_units.Goals as goal
-
-pub overflow_sub-result : goal.overflow_sub-result
-overflow_sub-result c = minus_fits c.quarter-v.result (omega arith)
 
 pub returns-then-u-gt1 : goal.returns-then-u-gt1
 unfolding sine_of
