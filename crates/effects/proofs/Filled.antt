@@ -4,13 +4,13 @@ use mathlib.Core.Path.{◌≡◌, refl, sym, ap, ◌∙◌}
 use mathlib.Core.Logic.{⊎_elim}
 use mathlib.Core.Bool.{Bool, true, false, cond}
 use mathlib.Core.List.{List}
-use Prim.Native.Nat.{ℕ, zero, suc, ◌+◌, ◌≤◌, ◌<◌}
+use Prim.Native.Nat.{ℕ, zero, suc, ◌+◌, ◌-◌, ◌≤◌, ◌<◌}
 use native.Mathlib.Nat.{le_of_suc-le-suc, eq-or-lt_of_le}
 use native.Mathlib.Omega.{arith}
 use lib.Dec.{ltb}
 use borrow.Author.Tests.{ltb-true, ltb-false}
-use lib.ListN.{length, set, replicate, length-set, length-replicate, get_or-replicate}
-use lib.Seq.{get_or-set_same, get_or-set_other, ext_get_or}
+use lib.ListN.{length, get_or, set, take, drop, replicate, length-set, length-replicate, get_or-replicate}
+use lib.Seq.{get_or-set_same, get_or-set_other, get_or-take, get_or-drop, ext_get_or}
 use lib.Ieee.{Float, nan, binary32, to_bits}
 use Rattle.values.specs.Words.{words}
 use Rattle.values.specs.Floats.{float_at}
@@ -98,6 +98,10 @@ fill-over f g n x long =
         fill_at g n (fill f n x) (omega (arith, length-fill f n x)) i (ltb-true i n e) ∙ sym (fill_at g n x long i (ltb-true i n e))
     at i false e =
         let h : n ≤ i = ltb-false i n e in fill-ahead g n (fill f n x) i h ∙ fill-ahead f n x i h ∙ sym (fill-ahead g n x i h)
+
+-- a sample of the part `done .. done + count` of a block
+pub sample_part : (x : List Float) (done count i : ℕ) → i < count → get_or (take (done + count - done) (drop done x)) i nan ≡ sample x (done + i)
+sample_part x done count i h = get_or-take (done + count - done) (drop done x) i nan (omega arith) ∙ get_or-drop done x i nan
 
 -- an array of zeros
 pub quiet_all : {y : List Float} (x : List Float) → y ≡ replicate (length x) zero_f → y ≡ fill quiet (length x) x

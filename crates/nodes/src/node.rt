@@ -23,21 +23,25 @@ use operators::sin_osc::sin_osc;
 use operators::sum::total;
 
 // Where each node's samples start in the memory: its channel 0, and what the destination's channel 1
-// reads of it.
+// reads of it. Two arrays and none of pairs: `total` adds up one channel and takes its starts as they are;
+// off pairs it would take a closure that picks the field, and its clauses a list mapped by it.
 #[derive(Clone, Copy)]
 pub struct Starts {
     pub lefts: [usize; 64],
     pub rights: [usize; 64],
 }
 
-// A node's distinct sources by first wire, and the second wire's source.
+// A node's distinct sources by first wire, and the second wire's source. The memory is not among them:
+// `step` reads it for them and then lends it to be written.
 #[derive(Clone, Copy)]
 pub struct Inputs<'a> {
     pub list: &'a [u8],
     pub second: usize,
 }
 
-// The first wire's source, and the second's where there are two sources.
+// The first wire's source, and the second's where there are two sources. The memory and the two blocks are
+// lent one by one, and `step` lends the memory again to be written: one struct would be taken apart at
+// each call.
 fn operands(memory: &[u8], sources: Inputs<'_>, starts: &Starts, x: &mut [f32], m: &mut [f32])
     requires alike { length m.old ≡ length x.old }
     requires in_memory { InMemory sources.list.now starts.now.lefts (length x.old) (length memory.now) }
@@ -85,7 +89,8 @@ fn bring(
 }
 
 // The block of a node over its cell: x and m are what its wires bring, `count` its distinct sources.
-// A modulated all-pass uses m up.
+// A modulated all-pass uses m up. A match: the types' loops take other arguments each, and the closure
+// that one could be would be picked by the same match.
 fn run_cell(cell: &mut [u8], kind: NodeKind, count: usize, x: &[f32], m: &mut [f32])
     requires { CellReady cell.old kind (length x.now) count × (length m.old ≡ length x.now) }
     ensures { (bs : ℕ → Brought) → Supplies kind count (length x.now) x.now m.old bs
@@ -118,7 +123,8 @@ fn run_cell(cell: &mut [u8], kind: NodeKind, count: usize, x: &[f32], m: &mut [f
 }
 
 // The node's block over the whole memory. x and m, each as long as a block, are room to work in.
-// Lent one by one: a struct of the two would be taken apart in each function.
+// Lent one by one: a struct of the two would be taken apart in each function, so that they are as long
+// is asked of each.
 pub fn step(
     memory: &mut [u8],
     node: NodeRecord,

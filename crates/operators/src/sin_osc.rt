@@ -15,34 +15,33 @@ use leaves::phase::{advance, increment};
 use leaves::sine::{phase_units, sine};
 use values::float::{load, store};
 
-// The place of the next sample, and its phase.
+// How many samples were passed, and the next one's phase.
 #[derive(Clone, Copy)]
 struct Climbed {
-    next: usize,
+    count: usize,
     phase: f32,
 }
 
-// The phases from place `from` on, up to the first after which the phase turns back. To return there
-// makes the turn a branch, which is seldom taken: each phase waits for one sum only.
-fn climb(units: &mut [u32], from: usize, start: f32, by: f32) -> Climbed
-    requires { (from < length units.old) × T (within f1 start) × Stays by }
-    ensures from_lt_next { (from < result.next) × (result.next ≤ length units.old) × T (within f1 result.phase) }
-    ensures by_index { (p : ℕ → Float) → Moves by p → start ≡ p from → Units p from units.old
-        → (result.phase ≡ p result.next) × Units p result.next units.new }
+// The phases up to the first after which the phase turns back. To return there makes the turn a branch,
+// which is seldom taken: each phase waits for one sum only.
+fn climb(units: &mut [u32], start: f32, by: f32) -> Climbed
+    requires { (0 < length units.old) × T (within f1 start) × Stays by }
+    ensures passed { (0 < result.count) × (result.count ≤ length units.old) × T (within f1 result.phase) }
+    ensures by_index { (p : ℕ → Float) → Moves by p → start ≡ p 0 → (result.phase ≡ p result.count) × Units p result.count units.new }
 {
     let mut phase = start;
-    for i in from..units.len() {
-        units[i] = phase_units(phase);
+    for (i, unit) in units.iter_mut().enumerate() {
+        *unit = phase_units(phase);
         if phase + by > 1.0 {
             return Climbed {
-                next: i + 1,
+                count: i + 1,
                 phase: advance(phase, by),
             };
         }
         phase = advance(phase, by);
     }
     Climbed {
-        next: units.len(),
+        count: units.len(),
         phase,
     }
 }
@@ -52,12 +51,12 @@ fn phases(units: &mut [u32], start: f32, by: f32) -> f32
     requires { T (within f1 start) × Stays by }
     ensures { (p : ℕ → Float) → Moves by p → start ≡ p 0 → (result ≡ p (length units.old)) × Units p (length units.old) units.new }
 {
-    let mut i = 0;
+    let mut done = 0;
     let mut phase = start;
     // A turn is a climb, of as many samples as go before the phase turns back.
-    while i < units.len() {
-        let climbed = climb(units, i, phase, by);
-        i = climbed.next;
+    while done < units.len() {
+        let climbed = climb(&mut units[done..], phase, by);
+        done += climbed.count;
         phase = climbed.phase;
     }
     phase
@@ -72,6 +71,8 @@ fn sines(cell: &mut [u8], units: &[u32])
     }
 }
 
+// A block over a cell of so many samples. `size` stands beside the cell, though its length has it: each
+// clause would say `length cell.old / 4 - samples_from` where it says `size`.
 pub fn sin_osc(cell: &mut [u8], size: usize)
     requires size_nonzero { (0 < size) × (size ≤ 128) × (length cell.old ≡ 4 * (samples_from + size)) }
     requires in_band { (T (within f44100 (float_at (words cell.old) number_index))) × (T (within f1 (float_at (words cell.old) carry_index))) }

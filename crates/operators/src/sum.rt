@@ -4,16 +4,14 @@ ghost use Rattle.values.specs.Words.{words};
 ghost use Rattle.effects.specs.Block.{fill, begun, added};
 ghost use Rattle.operators.specs.Sums.{total_at, InMemory};
 
-use values::float::load;
+use crate::block::join;
 
 // The samples that stand from value `at` on, each added to 0: the first source needs no clearing.
 fn begin(memory: &[u8], at: usize, x: &mut [f32])
     requires { 4 * (at + length x.old) ≤ length memory.now }
     ensures { x.new ≡ fill (begun (words memory.now) at) (length x.old) x.old }
 {
-    for (i, sample) in x.iter_mut().enumerate() {
-        *sample = 0.0 + load(memory, at + i);
-    }
+    join(memory, at, x, |_, y| 0.0 + y);
 }
 
 // Adds the samples that stand from value `at` on.
@@ -21,9 +19,7 @@ fn accumulate(memory: &[u8], at: usize, x: &mut [f32])
     requires { 4 * (at + length x.old) ≤ length memory.now }
     ensures { x.new ≡ fill (added (words memory.now) at x.old) (length x.old) x.old }
 {
-    for (i, sample) in x.iter_mut().enumerate() {
-        *sample += load(memory, at + i);
-    }
+    join(memory, at, x, |sum, y| sum + y);
 }
 
 // The sum of the blocks of the listed nodes; `starts` says where each node's block stands.

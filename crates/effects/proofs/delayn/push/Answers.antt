@@ -6,10 +6,12 @@ use native.Mathlib.Omega.{arith}
 use lib.ListN.{length, get_or, set}
 use lib.Ieee.{Float, binary32, of_bits, to_bits}
 use Rattle.values.specs.Words.{words, length-words}
+use Rattle.values.specs.Floats.{set_float}
 use Rattle.kinds.specs.Kind.{cell_size, samples_from}
 use Rattle.effects.specs.Block.{sample, alone}
 use Rattle.effects.specs.Ring.{stretch_values}
 use Rattle.kinds.specs.declared.kind.NodeKind.TheVariants.{Delay}
+use Rattle.effects.proofs.Filled.{sample_part}
 use Rattle.effects.proofs.Rings.{delay_ring, stretch_none, stretch_then, delay_reads, line_at, delay_turn}
 use Rattle.effects.proofs.delayn.push.Goals as goal
 
@@ -43,7 +45,7 @@ loop-i-preserved c =
       omega arith,
       λ n e.
           turn n (length a.x.now) a.place a.done c.loop-i.i a.x.now (words a.cell.now) _ _ _ _ _ (c.loop-i.invariant.2 n e) c.word_at-old.ensures
-          c.store.ensures c.canonical.ensures c.put_word.ensures
+          (c.store.ensures ∙ ap (set_float (words c.loop-i.cell) _) (sample_part a.x.now a.done a.count c.loop-i.i (omega arith))) c.canonical.ensures c.put_word.ensures
           (omega (arith, length-words a.cell.now, e)) (omega arith) (omega arith),
     )
 

@@ -1,16 +1,9 @@
--- `operators::sum::begin` meets its contract: after i turns the first i samples are filled in. Assumes nothing.
-use mathlib.Core.Path.{ap}
+-- `operators::sum::begin` meets its contract: each sample is added to 0. Assumes nothing.
 use lib.Ieee.{binary32, add, of_bits}
 use Rattle.values.specs.Floors.{zero_f}
-use Rattle.effects.proofs.Filled.{filling_none, filling_then, filling_end}
+use Rattle.std.proofs.Common.{rules}
 use Rattle.operators.proofs.sum.begin.Goals as goal
 
-pub loop-i-init : goal.loop-i-init
-loop-i-init c = filling_none
-
-pub loop-i-preserved : goal.loop-i-preserved
-unfolding of_bits
-loop-i-preserved c = filling_then c.loop-i.invariant c.loop-i-test.true (ap (add binary32 zero_f) c.load.ensures)
-
 pub returns : goal.returns
-returns c = filling_end c.loop-i.invariant c.loop-i-test.false
+unfolding of_bits
+returns c = c.join.ensures (λ a b. add binary32 zero_f b) (λ a b r p. search rules)

@@ -6,12 +6,13 @@ use native.Mathlib.Omega.{arith}
 use lib.ListN.{length, set}
 use lib.Ieee.{Float, binary32, of_bits, to_bits}
 use Rattle.values.specs.Words.{words, length-words}
-use Rattle.values.specs.Floats.{float_at}
+use Rattle.values.specs.Floats.{float_at, set_float}
 use Rattle.kinds.specs.Kind.{cell_size, samples_from, number_index}
 use Rattle.kinds.specs.Rule.{all_pass}
 use Rattle.effects.specs.Block.{sample, alone}
 use Rattle.effects.specs.Ring.{stretch_values}
 use Rattle.kinds.specs.declared.kind.NodeKind.TheVariants.{AllPass}
+use Rattle.effects.proofs.Filled.{sample_part}
 use Rattle.effects.proofs.Rings.{all_pass-ring, stretch_none, float_at_lem, tap_one, all_pass_reads, all_pass_then}
 use Rattle.allpass.proofs.apfmsgain.Filter.filter.Goals as goal
 
@@ -43,13 +44,14 @@ loop-i-init c =
 
 pub loop-i-preserved : goal.loop-i-preserved
 loop-i-preserved c =
-    let a = c.args in (
+    let a = c.args in
+    let read = sample_part a.x.now a.done a.count c.loop-i.i (omega (arith, c)) in (
       omega (arith, c),
       omega (arith, c),
       λ f.
           turn a.self.n (length a.x.now) a.place a.done c.loop-i.i f a.x.now (words a.cell.now) _ _ _ _ _ _ _ _ _ (c.loop-i.invariant.2 f)
-          c.load-old_x.ensures c.load-old_y.ensures c.output.ensures c.to_bits-y.ensures
-          c.store.ensures c.put_word.ensures c.put_word-in-loop-i.ensures
+          c.load-old_x.ensures c.load-old_y.ensures (c.output.ensures ∙ ap (λ (v : Float). all_pass a.self.g v c.load-old_x.result c.load-old_y.result) read) c.to_bits-y.ensures
+          (c.store.ensures ∙ ap (set_float (words c.loop-i.cell) _) read) c.put_word.ensures c.put_word-in-loop-i.ensures
           c.requires.0.gain (omega (arith, length-words a.cell.now, c)) (omega (arith, c)) (omega (arith, c)),
     )
 
