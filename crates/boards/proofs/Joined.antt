@@ -13,9 +13,9 @@ use Rattle.sources.specs.Sources.{Tabled}
 use Rattle.sources.specs.declared.sources.Sources.{Sources}
 use Rattle.boards.specs.Wires.{wires_of}
 use Rattle.reading.specs.Order.{Wire}
-use Rattle.boards.specs.Board.{Parsed, Progress, going, refused, blank, headed, end_by, take_found, step_of, run, read_records}
+use Rattle.boards.specs.Board.{Parsed, Progress, going, refused, whole, blank, headed, end_by, take_found, step_of, run, read_records}
 use Rattle.boards.specs.BoardParts.{noded, made_of, Refuses, Headed, Noded, NodesRefused, Wired, Counts}
-use Rattle.boards.specs.Read.{Sound}
+use Rattle.boards.specs.Read.{Together}
 use Rattle.records.specs.declared.answer.Answer.{Answer}
 use Rattle.records.specs.declared.record.Found.{Found}
 use Rattle.records.specs.declared.record.Found.TheVariants as found
@@ -88,27 +88,16 @@ module _ (s : List ℕ) (h : Head) (head : Headed (step_of s start) h) where
       pub wires_refuse : (a : Answer) → (0 < a.number) × Wired s n.next n.count w next (λ _. refused a.number a.place) → Refuses (read_records s) a
       wires_refuse a wires = (wires.0, ends (λ _. refused a.number a.place) wires.1 tt)
 
--- the board that the parts make
-pub made_sound : (s : List ℕ) (h : Head) (n : Nodes) (w : Wires) (t : Sources) (next : ℕ) (v : Parsed → Progress)
-    → (h.size ≤ 128) × (h.input < 65536) → Noded s h.size n → Wired s n.next n.count w next v → Tabled (wires_of w.list w.count) t.counts t.lists t.seconds
-    → Sound (record {
-      size = h.size;
-      input = h.input;
-      count = n.count;
-      nodes = n.nodes;
-      values = n.values;
-      wires = w;
-      sources = t;
-    })
-made_sound s h n w t next v small nodes wires table = record {
-  nodes_long = nodes.long;
-  wires_long = wires.long;
-  few_nodes = nodes.few;
-  few_wires = wires.few;
-  small_size = small.0;
-  small_input = small.1;
-  values_sum = nodes.sum;
-  few_values = nodes.small;
+-- what the parts hold
+pub made_together : (s : List ℕ) (h : Head) (n : Nodes) (w : Wires) (t : Sources) (next : ℕ) (v : Parsed → Progress) (r : Progress)
+    → r ≡ whole (made_of h n (wires_of w.list w.count)) → (h.size ≤ 128) × (h.input < 65536) → Noded s h.size n → Wired s n.next n.count w next v
+    → Tabled (wires_of w.list w.count) t.counts t.lists t.seconds → Together r h n w t
+made_together s h n w t next v r reads small nodes wires table = record {
+  reads = reads;
+  small = small.0;
+  near = small.1;
+  sum = nodes.sum;
+  held = nodes.small;
   joined = wires.joined;
   table = table;
 }

@@ -10,17 +10,17 @@ use lib.ListN.{length, get_or, take, set, length-set}
 use lib.Seq.{length-take-le, get_or-set_same, get_or-set_other}
 use Rattle.std.proofs.lemmas.List.{take_more_set}
 use Rattle.values.specs.Bytes.{u16_at}
-use Rattle.kinds.specs.Kind.{line_of, channels_of, fewest, most}
+use Rattle.kinds.specs.Kind.{line_of, channels_of}
+use Rattle.kinds.specs.declared.kind.Bounds.{Bounds as NodeBounds}
 use Rattle.kinds.specs.declared.kind.NodeKind.{NodeKind}
 use Rattle.kinds.specs.declared.kind.NodeRecord.{NodeRecord}
 use Rattle.reading.specs.Order.{Wire}
 use Rattle.records.specs.Record.{found_at}
 use Rattle.boards.specs.Board.{Parsed, going, refused, blank, headed, lines_of, cells_of, end_by, step_of, run}
 use Rattle.boards.specs.Wires.{Joined, wires_of}
-use Rattle.boards.specs.BoardParts.{noded, wired, node_read, Bounds, Noded, NodesRefused, Wired}
+use Rattle.boards.specs.BoardParts.{noded, wired, node_read, no_bounds, Bounds, Noded, NodesRefused, Wired}
 use Rattle.records.specs.declared.answer.Answer.{Answer}
 use Rattle.boards.specs.declared.board.Wires.{Wires}
-use Rattle.kinds.proofs.Rows.{digits}
 use Rattle.boards.proofs.Sums.{lines_snoc, cells_snoc, samples_few}
 use Rattle.boards.proofs.Run.{run_next}
 use Rattle.boards.proofs.Wiring.{wires_length, wires_stored, joined_more}
@@ -28,12 +28,12 @@ use Rattle.boards.proofs.Parts.{NodeStep, node_step, WireHere, WireEnds}
 
 -- ---- the nodes
 
-pub record NodesSoFar (s : List ℕ) (N : ℕ) (nodes : List NodeRecord) (bounds : List ℕ) (count lines values next : ℕ) : Type 0 where
+pub record NodesSoFar (s : List ℕ) (N : ℕ) (nodes : List NodeRecord) (bounds : List NodeBounds) (count lines values next : ℕ) : Type 0 where
   pub reads : (i : ℕ) → run count s (going 8 2 (headed N i)) ≡ going next 2 (noded N i (take count nodes))
   pub long : length nodes ≡ 64
   pub bounds_long : length bounds ≡ 64
   pub few : count ≤ 64
-  pub bound : (i : ℕ) → i < count → Bounds (get_or nodes i blank) (get_or bounds i 0)
+  pub bound : (i : ℕ) → i < count → Bounds (get_or nodes i blank) (get_or bounds i no_bounds)
   pub lines_sum : lines ≡ lines_of (take count nodes)
   pub few_lines : lines ≤ 262144
   pub values_sum : values ≡ cells_of N (take count nodes)
@@ -41,7 +41,7 @@ pub record NodesSoFar (s : List ℕ) (N : ℕ) (nodes : List NodeRecord) (bounds
   pub next_is : next ≡ 8 + 14 * count
   pub inside : next ≤ length s
 
-pub nodes_start : (s : List ℕ) (N : ℕ) (nodes : List NodeRecord) (bounds : List ℕ) → length nodes ≡ 64 → length bounds ≡ 64 → 8 ≤ length s
+pub nodes_start : (s : List ℕ) (N : ℕ) (nodes : List NodeRecord) (bounds : List NodeBounds) → length nodes ≡ 64 → length bounds ≡ 64 → 8 ≤ length s
     → NodesSoFar s N nodes bounds 0 0 0 8
 unfolding run
 nodes_start s N nodes bounds l bl h = record {
@@ -58,7 +58,7 @@ nodes_start s N nodes bounds l bl h = record {
   inside = h;
 }
 
-module _ (s : List ℕ) (N : ℕ) (nodes : List NodeRecord) (bounds : List ℕ) (count lines values next : ℕ) (h : NodesSoFar s N nodes bounds count lines values next) where
+module _ (s : List ℕ) (N : ℕ) (nodes : List NodeRecord) (bounds : List NodeBounds) (count lines values next : ℕ) (h : NodesSoFar s N nodes bounds count lines values next) where
   counted : length (take count nodes) ≡ count
   counted = length-take-le count nodes (omega (arith, h.long, h.few))
 
@@ -89,31 +89,29 @@ module _ (s : List ℕ) (N : ℕ) (nodes : List NodeRecord) (bounds : List ℕ) 
         ∙ ap (λ (ns : List NodeRecord). going (next + 14) 2 (noded N i ns)) (sym nodes_filled)
 
     -- the new node's bounds, and those of the nodes before it
-    own : ℕ
-    own = 16 * fewest k + most k
-
-    more_bounds : (i : ℕ) → i < count + 1 → Bounds (get_or more i blank) (get_or (set bounds count own) i 0)
-    unfolding last more own
-    more_bounds i b = go (ℕ_discrete i count)
+    more_bounds : (own : NodeBounds) → Bounds (last values) own → (i : ℕ) → i < count + 1 → Bounds (get_or more i blank) (get_or (set bounds count own) i no_bounds)
+    unfolding last more
+    more_bounds own its i b = go (ℕ_discrete i count)
       where
-        go : Dec (i ≡ count) → Bounds (get_or (set nodes count (last values)) i blank) (get_or (set bounds count own) i 0)
+        go : Dec (i ≡ count) → Bounds (get_or (set nodes count (last values)) i blank) (get_or (set bounds count own) i no_bounds)
         go (yes e) =
             rw (
               e,
               get_or-set_same nodes count (last values) blank (omega (arith, h.long, here.1.room)),
-              get_or-set_same bounds count own 0 (omega (arith, h.bounds_long, here.1.room)),
+              get_or-set_same bounds count own no_bounds (omega (arith, h.bounds_long, here.1.room)),
             )
-            (digits k)
-        go (no other) = rw (get_or-set_other nodes count i (last values) blank other, get_or-set_other bounds count i own 0 other) (h.bound i (omega arith))
+            its
+        go (no other) = rw (get_or-set_other nodes count i (last values) blank other, get_or-set_other bounds count i own no_bounds other) (h.bound i (omega arith))
 
-    pub nodes_more : N ≤ 128 → NodesSoFar s N (set nodes count (record { kind = k; channels = channels_of k; cell = values })) (set bounds count (16 * fewest k + most k)) (count + 1) (lines + line_of k) (values + (3 + N * channels_of k + line_of k)) (next + 14)
-    unfolding last more own
-    nodes_more small = record {
+    pub nodes_more : N ≤ 128 → (own : NodeBounds) → Bounds (record { kind = k; channels = channels_of k; cell = values }) own
+        → NodesSoFar s N (set nodes count (record { kind = k; channels = channels_of k; cell = values })) (set bounds count own) (count + 1) (lines + line_of k) (values + (3 + N * channels_of k + line_of k)) (next + 14)
+    unfolding last more
+    nodes_more small own its = record {
       reads = more_reads;
       long = simp length-set h.long;
       bounds_long = simp length-set h.bounds_long;
       few = omega (arith, here.1.room);
-      bound = more_bounds;
+      bound = more_bounds own its;
       lines_sum = rw nodes_filled (omega (arith, h.lines_sum, lines_snoc (take count nodes) (last values)));
       few_lines = here.1.few_lines;
       values_sum = rw nodes_filled (omega (arith, h.values_sum, cells_snoc N (take count nodes) (last values)));
@@ -123,9 +121,9 @@ module _ (s : List ℕ) (N : ℕ) (nodes : List NodeRecord) (bounds : List ℕ) 
     }
 
   -- the next part follows
-  pub nodes_ended : (few : count ≤ 64) (long : length nodes ≡ 64) → NodeStep s next count lines (Ok None)
-      → Noded s N (record { count = count; nodes = nodes; bounds = bounds; values = values; next = next; few = few; long = long })
-  nodes_ended few long here = record {
+  pub nodes_ended : (few : count ≤ 64) (long : length nodes ≡ 64) (wide : length bounds ≡ 64) → NodeStep s next count lines (Ok None)
+      → Noded s N (record { count = count; nodes = nodes; bounds = bounds; values = values; next = next; few = few; long = long; wide = wide })
+  nodes_ended few long wide here = record {
     reads = λ i. stepped i ∙ here (noded N i (take count nodes)) counted (sym h.lines_sum);
     long = h.long;
     few = h.few;
@@ -155,10 +153,10 @@ pub record WiresSoFar (s : List ℕ) (start i : ℕ) (w : Wires) (next : ℕ) : 
   pub next_is : next ≡ start + 8 * w.count
   pub inside : next ≤ length s
 
-pub wires_start : (s : List ℕ) (start i : ℕ) (l : List (ℕ × ℕ)) → length l ≡ 128 → start ≤ length s
-    → WiresSoFar s start i (record { list = l; count = 0 }) start
+pub wires_start : (s : List ℕ) (start i : ℕ) (l : List (ℕ × ℕ)) (few : 0 ≤ 128) (long : length l ≡ 128) (joined : Joined 64 l 0)
+    → start ≤ length s → WiresSoFar s start i (record { list = l; count = 0; few = few; long = long; joined = joined }) start
 unfolding run
-wires_start s start i l long h = record {
+wires_start s start i l few long joined h = record {
   reads = λ p _ e. ap (λ (ws : List Wire). going start 3 (wired p ws)) e;
   long = long;
   few = omega arith;
@@ -175,8 +173,10 @@ module _ (s : List ℕ) (start i : ℕ) (w : Wires) (next : ℕ) (h : WiresSoFar
   reached p n e = run_next s w.count (going start 3 p) ∙ ap (step_of s) (h.reads p n e)
 
   pub wires_more : (a t : ℕ) → a ≡ u16_at s (next + 4) → t ≡ u16_at s (next + 6) → WireHere s next i w.count
-      → WiresSoFar s start i (record { list = set w.list w.count (a, t); count = w.count + 1 }) (next + 8)
-  wires_more a t ea et here =
+      → (few : w.count + 1 ≤ 128) (long : length (set w.list w.count (a, t)) ≡ 128)
+      (joined : Joined 64 (set w.list w.count (a, t)) (w.count + 1))
+      → WiresSoFar s start i (record { list = set w.list w.count (a, t); count = w.count + 1; few = few; long = long; joined = joined }) (next + 8)
+  wires_more a t ea et here few long joined =
       let room : w.count < length w.list = omega (arith, h.long, here.1.room) in
       record {
         reads = λ b n e.

@@ -1,7 +1,9 @@
 -- The reading in three parts, as the code takes them one after the other: head, nodes, wires. Definitions only.
-use Rattle.std.specs.Prelude.{ℕ, suc, ◌+◌, ◌*◌, ◌/◌, ◌%◌, min, ◌≤◌, ◌<◌, ◌≡◌, List, [], Bool, false, cond, ◌&&◌, length, get_or, take, leb, eqb, Option, Some, None, Result, Ok, Err}
+use Rattle.std.specs.Prelude.{ℕ, suc, ◌+◌, ◌*◌, min, ◌≤◌, ◌<◌, ◌≡◌, List, [], Bool, false, cond, ◌&&◌, length, get_or, take, leb, eqb, Option, Some, None, Result, Ok, Err}
+use Rattle.std.specs.List.{zip}
 use Rattle.values.specs.Bytes.{u16_at, u32_at}
 use Rattle.kinds.specs.Kind.{rule_of, fewest, most}
+use Rattle.kinds.specs.declared.kind.Bounds.{Bounds as NodeBounds}
 use Rattle.kinds.specs.declared.kind.NodeKind.{NodeKind}
 use Rattle.kinds.specs.declared.kind.NodeRecord.{NodeRecord}
 use Rattle.reading.specs.Order.{Wire}
@@ -83,9 +85,13 @@ wires_end at (Err n) = Err (answer n at)
 
 -- ---- what each part gives
 
--- the two digits of a number are the fewest and the most sources that a node takes
-abbrev pub Bounds : NodeRecord → ℕ → Type 0
-Bounds r b = (b / 16 ≡ fewest r.kind) × (b % 16 ≡ most r.kind)
+-- the bounds of a place of no node
+abbrev pub no_bounds : NodeBounds
+no_bounds = record { few = 0; many = 0 }
+
+-- b has the fewest and the most sources that a node takes
+abbrev pub Bounds : NodeRecord → NodeBounds → Type 0
+Bounds r b = (b.few ≡ fewest r.kind) × (b.many ≡ most r.kind)
 
 -- the head that the reading v comes to
 pub record Headed (v : Progress) (h : Head) : Type 0 where
@@ -102,7 +108,7 @@ pub record Noded (s : List ℕ) (N : ℕ) (r : Nodes) : Type 0 where
   pub reads : (i : ℕ) → run (suc r.count) s (going 8 2 (headed N i)) ≡ step_of s (going r.next 3 (noded N i (take r.count r.nodes)))
   pub long : length r.nodes ≡ 64
   pub few : r.count ≤ 64
-  pub bound : (i : ℕ) → i < r.count → Bounds (get_or r.nodes i blank) (get_or r.bounds i 0)
+  pub bound : (i : ℕ) → i < r.count → Bounds (get_or r.nodes i blank) (get_or r.bounds i no_bounds)
   pub sum : r.values ≡ cells_of N (take r.count r.nodes)
   pub small : r.values ≤ 278720
   pub next_is : r.next ≡ 8 + 14 * r.count
@@ -115,9 +121,9 @@ pub record NodesRefused (s : List ℕ) (N : ℕ) (a : Answer) : Type 0 where
   pub some : 0 < a.number
   pub reads : (i : ℕ) → run (suc count) s (going 8 2 (headed N i)) ≡ refused a.number a.place
 
-abbrev pub NodesRead : List ℕ → ℕ → Result Nodes Answer → Type 0
-NodesRead s N (Ok r) = Noded s N r
-NodesRead s N (Err a) = NodesRefused s N a
+abbrev pub NodesRead : List ℕ → ℕ → Nodes → Result (Unit {0}) Answer → Type 0
+NodesRead s N r (Ok _) = Noded s N r
+NodesRead s N r (Err a) = NodesRefused s N a
 
 -- from a board of n nodes: so many wires, whether the end record follows or a refusal
 pub record Wired (s : List ℕ) (start n : ℕ) (w : Wires) (next : ℕ) (v : Parsed → Progress) : Type 0 where
@@ -135,10 +141,14 @@ WiresRead s start n w (Err a) = (0 < a.number) × Wired s start n w a.place (λ 
 -- ---- check 6 on arrays
 
 -- node i's number of sources, nine standing for more than eight, and its bounds, of each node of p
-pub record Counts (p : Parsed) (bounds counts : List ℕ) : Type 0 where
-  pub bound : (i : ℕ) → i < length p.nodes → Bounds (get_or p.nodes i blank) (get_or bounds i 0)
+pub record Counts (p : Parsed) (bounds : List NodeBounds) (counts : List ℕ) : Type 0 where
+  pub bound : (i : ℕ) → i < length p.nodes → Bounds (get_or p.nodes i blank) (get_or bounds i no_bounds)
   pub counted : (i : ℕ) → i < length p.nodes → get_or counts i 0 ≡ min 9 (length (distinct_sources p.wires i))
 
--- the first n counts lie within their bounds
-abbrev pub AllFit : List ℕ → List ℕ → ℕ → Type 0
-AllFit bounds counts n = (i : ℕ) → i < n → (get_or bounds i 0 / 16 ≤ get_or counts i 0) × (get_or counts i 0 ≤ get_or bounds i 0 % 16)
+-- a count lies within the bounds that it stands beside
+abbrev pub fits : NodeBounds × ℕ → Bool
+fits p = leb p.0.few p.1 && leb p.1 p.0.many
+
+-- the first n bounds, each beside its count
+abbrev pub beside : List NodeBounds → List ℕ → ℕ → List (NodeBounds × ℕ)
+beside bounds counts n = zip (take n bounds) counts

@@ -1,45 +1,45 @@
 // The board judge: check 6, with the table of sources, and the board that all calls work on.
-ghost use Rattle.std.specs.Prelude.{◌≡◌, true, ◌&&◌, ◌/◌, ◌%◌, ◌≤◌, ◌<◌, leb, length, take};
+ghost use Rattle.std.specs.Prelude.{◌≡◌, [], true, ◌&&◌, ◌<◌, not, length, take, fold, position};
 ghost use Rattle.boards.specs.Board.{Parsed};
 ghost use Rattle.boards.specs.Judge.{pass_at, check_sources, check_six, read_board, judge_of};
-ghost use Rattle.boards.specs.BoardParts.{Decides, Counts, AllFit};
-ghost use Rattle.boards.specs.Read.{Read};
+ghost use Rattle.boards.specs.BoardParts.{Decides, Counts, fits, beside};
+ghost use Rattle.boards.specs.Read.{Read, PartsRead};
+ghost use Rattle.sources.specs.Sources.{Tabled};
 
-use crate::board::{Board, Wires, read_end, read_head, read_nodes, read_wires};
+use crate::board::{Board, Head, Wires};
 use crate::nodes::Nodes;
+use crate::read::{read_end, read_head, read_nodes, read_wires};
 use kinds::kind::is_pass;
 use records::answer::Answer;
 use sources::sources::Sources;
 
-// Whether a node with n distinct sources has as many as its bounds allow.
-fn fits(bounds: u8, n: u8) -> bool
-    ensures { result ≡ leb (bounds / 16) n && leb n (bounds % 16) }
-{
-    (bounds / 16 <= n) & (n <= bounds % 16)
-}
-
 // Whether each of the nodes has as many sources as its type takes. All are looked at, so that several
-// go at once. An index: the bounds and the counts are read at the same place.
+// go at once.
 fn all_fit(nodes: &Nodes, counts: &[u8; 64]) -> bool
-    ensures { result ≡ true → AllFit nodes.now.bounds counts.now nodes.now.count }
+    ensures { result ≡ fold (λ all p. all && fits p) true (beside nodes.now.bounds counts.now nodes.now.count) }
 {
-    let mut all = true;
-    for i in 0..nodes.count {
-        all &= fits(nodes.bounds[i], counts[i]);
-    }
-    all
+    let bounds = nodes.bounds[..nodes.count].iter();
+    bounds
+        .zip(counts)
+        .fold(true, |all, (b, n)| all & b.allow(*n))
 }
 
-// The lowest node with a wrong number of sources is refused. An index, as above.
+// The lowest node with a wrong number of sources.
+fn first_unfit(nodes: &Nodes, counts: &[u8; 64]) -> Option<usize>
+    ensures { result ≡ position (λ p. not (fits p)) (beside nodes.now.bounds counts.now nodes.now.count) }
+{
+    let bounds = nodes.bounds[..nodes.count].iter();
+    bounds.zip(counts).position(|(b, n)| !b.allow(*n))
+}
+
+// The lowest node with a wrong number of sources is refused.
 fn sources_judged(nodes: &Nodes, counts: &[u8; 64]) -> Result<(), Answer>
     ensures { (p : Parsed) → length p.nodes ≡ nodes.now.count → Counts p nodes.now.bounds counts.now → Decides (check_sources p 0 p.nodes) p result }
 {
-    for i in 0..nodes.count {
-        if !fits(nodes.bounds[i], counts[i]) {
-            return Err(Answer::new(6, i));
-        }
+    match first_unfit(nodes, counts) {
+        Some(i) => Err(Answer::new(6, i)),
+        None => Ok(()),
     }
-    Ok(())
 }
 
 // Whether node i is one of the nodes and a pass.
@@ -51,7 +51,7 @@ fn pass_at(nodes: &Nodes, i: usize) -> bool
 
 // Check 6: there is a node 0, then the input node, which is a pass without wires in, then the sources
 // of each node.
-fn judged(nodes: &Nodes, input: usize, counts: &[u8; 64]) -> Result<(), Answer>
+fn check_six(nodes: &Nodes, input: usize, counts: &[u8; 64]) -> Result<(), Answer>
     requires { input < 65536 }
     ensures { (p : Parsed) → p.nodes ≡ take nodes.now.count nodes.now.nodes → p.input ≡ input
         → Counts p nodes.now.bounds counts.now → Decides (check_six p) p result }
@@ -72,6 +72,25 @@ fn judged(nodes: &Nodes, input: usize, counts: &[u8; 64]) -> Result<(), Answer>
     }
 }
 
+// The parts of the board that the bytes hold, or the first refusal: checks 1 to 6. The parts are read
+// into room that is lent for them, since each function that hands them on copies them.
+fn read_parts(
+    s: &[u8],
+    nodes: &mut Nodes,
+    wires: &mut Wires,
+    sources: &mut Sources,
+) -> Result<Head, Answer>
+    requires { Tabled [] sources.old.counts sources.old.lists sources.old.seconds }
+    ensures { PartsRead (read_board s.now) nodes.new wires.new sources.new result }
+{
+    let head = read_head(s)?;
+    read_nodes(s, head.size, nodes)?;
+    let end = read_wires(s, nodes.next, nodes.count, wires, sources)?;
+    read_end(s, end)?;
+    check_six(nodes, head.input, &sources.counts)?;
+    Ok(head)
+}
+
 // The board that the bytes hold, or the first refusal: checks 1 to 6. One function puts the parts
 // together, since each that hands a board on copies it.
 // Ruled out, and tried by must-fail edits: one that refuses every board (refuses_all), one that takes
@@ -79,16 +98,10 @@ fn judged(nodes: &Nodes, input: usize, counts: &[u8; 64]) -> Result<(), Answer>
 pub fn read_board(s: &[u8]) -> Result<Board, Answer>
     ensures { Read (read_board s.now) result }
 {
-    let head = read_head(s)?;
-    let nodes = read_nodes(s, head.size)?;
-    let mut wires = Wires {
-        list: [(0, 0); 128],
-        count: 0,
-    };
+    let mut nodes = Nodes::none();
+    let mut wires = Wires::none();
     let mut sources = Sources::none();
-    let end = read_wires(s, nodes.next, nodes.count, &mut wires, &mut sources)?;
-    read_end(s, end)?;
-    judged(&nodes, head.input, &sources.counts)?;
+    let head = read_parts(s, &mut nodes, &mut wires, &mut sources)?;
     Ok(Board {
         size: head.size,
         input: head.input,
@@ -100,14 +113,17 @@ pub fn read_board(s: &[u8]) -> Result<Board, Answer>
     })
 }
 
-// The board judge: a refusal, or 0 and the memory's length.
+// The board judge: a refusal, or 0 and the memory's length. Not by `read_board`, which copies the board.
 // Ruled out: a memory length that is not the sum of the cells (memory_invented), a count of
 // wires and not of distinct sources (sources, repeat_counts).
 pub fn judge(s: &[u8]) -> Answer
     ensures { result ≡ judge_of s.now }
 {
-    match read_board(s) {
-        Ok(board) => Answer::new(0, 4 * board.values),
+    let mut nodes = Nodes::none();
+    let mut wires = Wires::none();
+    let mut sources = Sources::none();
+    match read_parts(s, &mut nodes, &mut wires, &mut sources) {
+        Ok(_) => Answer::new(0, 4 * nodes.values),
         Err(refusal) => refusal,
     }
 }

@@ -4,3 +4,4 @@
 pub mod board;
 pub mod judge;
 pub mod nodes;
+pub mod read;

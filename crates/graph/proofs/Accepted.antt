@@ -72,18 +72,18 @@ few_sources p f v = split (ltb v (length p.nodes)) refl
 
 module _ (s : List ℕ) (b : Board) (read : Read (read_board s) (Ok b)) where
   pub accepted_board : read_board s ≡ whole (parsed_of b)
-  accepted_board = read.0
+  accepted_board = read
 
   pub accepted_formed : Formed (parsed_of b)
-  accepted_formed = whole_formed s (parsed_of b) read.0
+  accepted_formed = whole_formed s (parsed_of b) read
 
   pub count_is : length (take b.count b.nodes) ≡ b.count
-  count_is = length-take-le b.count b.nodes (omega (arith, read.1.nodes_long, read.1.few_nodes))
+  count_is = length-take-le b.count b.nodes (omega (arith, b.long, b.few))
 
   pub table_at : (v : ℕ) → v < 64 → TableAt b v
   table_at v l =
       let ws = wires_of b.wires.list b.wires.count in
-      let table = read.1.table in
+      let table = b.table in
       let few : length (distinct_sources ws v) ≤ 8 = few_sources (parsed_of b) accepted_formed v in
       let all : get_or b.sources.counts v 0 ≡ length (distinct_sources ws v) = omega (arith, table.counted v l) in
       record {

@@ -2,25 +2,27 @@
 use mathlib.Core.Path.{◌≡◌, refl, sym, ap, ap₂, subst, ◌∙◌}
 use Prim.Native.Nat.{ℕ, zero, suc, ◌+◌, ◌<◌, ◌≤◌}
 use native.Mathlib.Nat.{add-zero, zero-add, add_assoc, le_trans}
-use native.Mathlib.Numerals.{add-one}
 use native.Mathlib.Omega.{arith}
 use mathlib.Core.Bool.{Bool, true, false, cond, ◌&&◌, and_assoc}
 use mathlib.Core.List.{List, [], ◌∷◌, ◌++◌}
 use lib.Dec.{eqb}
 use lib.ListN.{length, get_or, take, drop}
-use lib.Seq.{take-suc, split_at, get_or-take}
+use Rattle.std.proofs.lemmas.List.{take_more}
+use lib.Seq.{split_at, get_or-take}
 use Rattle.kinds.specs.Kind.{line_of}
 use Rattle.kinds.specs.declared.kind.NodeRecord.{NodeRecord}
 use Rattle.reading.specs.Table.{mem}
 use Rattle.reading.specs.Order.{Wire}
 use Rattle.reading.proofs.Table.{mem-head, or_right}
-use Rattle.boards.specs.Board.{Parsed, blank, lines_of}
+use Rattle.boards.specs.Board.{Parsed, Progress, going, refused, whole, blank, lines_of}
 use Rattle.graph.specs.Visit.{visiting_list}
 use Rattle.graph.specs.Listed.{SourcesBelow}
 use Rattle.graph.specs.Late.{late_wires}
-use Rattle.graph.specs.Tail.{delays, kind_in, only_delays, listed_lines, endless, tail_by, tail_of, LinesFit}
-use Rattle.graph.specs.Walking.{tail_if}
-use Rattle.std.specs.Prelude.{Some, None, unwrap_or}
+use Rattle.graph.specs.Tail.{delays, kind_in, only_delays, listed_lines, endless, tail_by, tail_of, tail_answer, tail_if, tail_read, LinesFit}
+use Rattle.std.specs.Prelude.{Option, Some, None, unwrap_or, Result, Ok, Err}
+use Rattle.records.specs.Answer.{answer}
+use Rattle.records.specs.declared.answer.Answer.{Answer}
+use Rattle.boards.specs.Judge.{read_board, answer_by}
 use Rattle.graph.proofs.Listed.{lists_reached}
 
 -- ---- one listed node more
@@ -42,7 +44,7 @@ pub record Summed (ns : List NodeRecord) (l : List ℕ) (n i : ℕ) : Type 0 whe
 
 module _ (ns : List NodeRecord) (l : List ℕ) (n i v : ℕ) (inside : i < length l) (is : v ≡ get_or l i 0) (s : Summed ns l n i) where
   next : take (i + 1) l ≡ take i l ++ (v ∷ [])
-  next = rw add-one (take-suc l i 0 inside ∙ ap (λ (x : ℕ). take i l ++ (x ∷ [])) (sym is))
+  next = take_more l i 0 inside ∙ ap (λ (x : ℕ). take i l ++ (x ∷ [])) (sym is)
 
   pub summed_more : delays (kind_in ns v) ≡ true → Summed ns l (n + line_of (kind_in ns v)) (i + 1)
   summed_more e = record {
@@ -76,6 +78,20 @@ tail_or ns ws l = split (eqb (length (late_wires l ws)) 0) (only_delays ns l)
     split true false = refl
     split false c = refl
 
+-- the tail call's answer
+abbrev pub tail_told : Result (Option ℕ) Answer → Answer
+tail_told (Ok t) = answer 0 (unwrap_or t endless)
+tail_told (Err a) = a
+
+pub tail_told_is : (s : List ℕ) → tail_told (tail_read (read_board s)) ≡ tail_answer s
+unfolding tail_answer tail_of
+tail_told_is s = by_reading (read_board s)
+  where
+    by_reading : (v : Progress) → tail_told (tail_read v) ≡ answer_by tail_of v
+    by_reading (going at last p) = refl
+    by_reading (refused n w) = refl
+    by_reading (whole p) = ap (answer 0) (tail_or p.nodes p.wires (visiting_list p.wires))
+
 -- ---- a board's nodes, the first n of an array
 
 only_front : (ns : List NodeRecord) (n : ℕ) (l : List ℕ) → ((k : ℕ) → mem k l ≡ true → k < n) → only_delays (take n ns) l ≡ only_delays ns l
@@ -99,12 +115,12 @@ module _ (p : Parsed) (ns : List NodeRecord) (n : ℕ) (front : take n ns ≡ p.
   listed_below k e = (lists_reached p.wires (λ j s m. le_trans (below j s m) few)).below n pos below k e
 
   -- the tail over the array is the board's
-  pub tail_of_lem : tail_by ns p.wires (visiting_list p.wires) ≡ tail_of p
-  unfolding tail_by tail_of
-  tail_of_lem =
+  pub tail_front : tail_if ns p.wires (visiting_list p.wires) ≡ tail_if p.nodes p.wires (visiting_list p.wires)
+  tail_front =
       let l = visiting_list p.wires in
-      ap₂ (λ (b : Bool) (m : ℕ). cond (eqb (length (late_wires l p.wires)) 0 && b) m endless) (sym (only_front ns n l listed_below)) (sym (lines_front ns n l listed_below))
-      ∙ ap (λ (ms : List NodeRecord). cond (eqb (length (late_wires l p.wires)) 0 && only_delays ms l) (listed_lines ms l) endless) front
+      ap₂ (λ (b : Bool) (m : ℕ). cond (eqb (length (late_wires l p.wires)) 0) (cond b (Some m) None) None)
+      (sym (only_front ns n l listed_below)) (sym (lines_front ns n l listed_below))
+      ∙ ap (λ (ms : List NodeRecord). tail_if ms p.wires l) front
 
   -- and its lines are as the code asks, where the board's are within their limit
   pub lines_fit : lines_of p.nodes ≤ 262144 → (l : List ℕ) (count : ℕ) → ((i : ℕ) → i < count → get_or l i 0 < n) → LinesFit ns l count

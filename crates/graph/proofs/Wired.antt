@@ -13,11 +13,11 @@ use Rattle.boards.specs.Read.{parsed_of, Read}
 use Rattle.graph.specs.Visit.{visiting_list, Lists}
 use Rattle.graph.specs.Walking.{Table, Gathered}
 use Rattle.graph.specs.Listed.{SourcesBelow}
-use Rattle.graph.specs.Tail.{tail_by, tail_of, LinesFit}
+use Rattle.graph.specs.Tail.{tail_if, LinesFit}
 use Rattle.boards.specs.declared.board.Board.{Board}
 use Rattle.graph.proofs.Accepted.{joins_below, accepted_formed, count_is, table_at}
 use Rattle.graph.proofs.Listed.{listed-within}
-use Rattle.graph.proofs.Lines.{tail_of_lem, lines_fit}
+use Rattle.graph.proofs.Lines.{tail_front, lines_fit}
 
 -- wires in an array, with every source below m
 each_below : (l : List (ℕ × ℕ)) (m n : ℕ) → Joined m l n → Each (λ w. w.source < m) (wires_of l n)
@@ -44,13 +44,13 @@ module _ (s : List ℕ) (b : Board) (read : Read (read_board s) (Ok b)) where
 
   -- the two ends of the wires, in their array
   pub wires_within : Joined 64 b.wires.list b.wires.count
-  wires_within j h = (le_trans (read.1.joined j h).0 read.1.few_nodes, le_trans (read.1.joined j h).1 read.1.few_nodes)
+  wires_within = b.wires.joined
 
   -- the table of sources is whole
   pub table : Table b.sources.counts b.sources.lists
   table = record {
     few = λ v h. (table_at s b read v h).few;
-    nodes = λ v j h l. le_trans ((table_at s b read v h).source_in j l) read.1.few_nodes;
+    nodes = λ v j h l. le_trans ((table_at s b read v h).source_in j l) b.few;
   }
 
   pub gathered : Gathered (wires_in b) b.sources.counts b.sources.lists
@@ -59,10 +59,10 @@ module _ (s : List ℕ) (b : Board) (read : Read (read_board s) (Ok b)) where
   module _ (nodes : List ℕ) (count : ℕ) (l : Lists (visiting_list (wires_in b)) nodes count) where
     -- listed nodes are the board's
     pub listed_in : Within b.count nodes count
-    listed_in = listed-within (wires_in b) nodes count l b.count some_nodes read.1.few_nodes sources_below
+    listed_in = listed-within (wires_in b) nodes count l b.count some_nodes b.few sources_below
 
     pub lines_listed : LinesFit b.nodes nodes count
-    lines_listed = lines_fit (parsed_of b) b.nodes b.count refl some_nodes read.1.few_nodes sources_below (accepted_formed s b read).few_lines nodes count listed_in
+    lines_listed = lines_fit (parsed_of b) b.nodes b.count refl some_nodes b.few sources_below (accepted_formed s b read).few_lines nodes count listed_in
 
-  pub board_tail : tail_by b.nodes (wires_in b) (visiting_list (wires_in b)) ≡ tail_of (parsed_of b)
-  board_tail = tail_of_lem (parsed_of b) b.nodes b.count refl some_nodes read.1.few_nodes sources_below
+  pub board_tail : tail_if b.nodes (wires_in b) (visiting_list (wires_in b)) ≡ tail_if (parsed_of b).nodes (wires_in b) (visiting_list (wires_in b))
+  board_tail = tail_front (parsed_of b) b.nodes b.count refl some_nodes b.few sources_below

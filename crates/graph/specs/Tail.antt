@@ -1,14 +1,15 @@
 -- The tail of a board (document 01, "Leaves"): with no late wire and listed types 1 to 5 and 7 only, the sum of listed lines; else endless.
 -- Definitions only.
-use Rattle.std.specs.Prelude.{ℕ, ◌+◌, ◌<◌, ◌≤◌, Bool, true, cond, ◌&&◌, ◌||◌, List, [], ◌∷◌, length, get_or, eqb, leb}
+use Rattle.std.specs.Prelude.{ℕ, ◌+◌, ◌<◌, ◌≤◌, Bool, true, cond, ◌&&◌, ◌||◌, List, [], ◌∷◌, length, get_or, eqb, leb, Option, Some, None, Result, Ok, Err}
 use Rattle.kinds.specs.Kind.{type_of, line_of}
 use Rattle.kinds.specs.declared.kind.NodeKind.{NodeKind}
 use Rattle.kinds.specs.declared.kind.NodeRecord.{NodeRecord}
 use Rattle.reading.specs.Order.{Wire}
-use Rattle.boards.specs.Board.{Parsed, blank}
+use Rattle.boards.specs.Board.{Parsed, Progress, going, refused, whole, blank}
 use Rattle.boards.specs.Judge.{read_board, answer_by}
 use Rattle.graph.specs.Visit.{visiting_list}
 use Rattle.graph.specs.Late.{late_wires}
+use Rattle.records.specs.Answer.{answer}
 use Rattle.records.specs.declared.answer.Answer.{Answer}
 
 -- types 1 to 5 and 7: silence in is silence out, at the latest after the line's length. An add writes its number, an all-pass and a one-pole
@@ -46,3 +47,17 @@ tail_answer s = answer_by tail_of (read_board s)
 
 abbrev pub LinesFit : List NodeRecord → List ℕ → ℕ → Type 0
 LinesFit ns l n = (i : ℕ) → i < n → line_of (kind_in ns (get_or l i 0)) ≤ 262144
+
+-- ---- the tail without a number where it is endless
+
+abbrev pub lines_by : List NodeRecord → List ℕ → Option ℕ
+lines_by ns l = cond (only_delays ns l) (Some (listed_lines ns l)) None
+
+abbrev pub tail_if : List NodeRecord → List Wire → List ℕ → Option ℕ
+tail_if ns ws l = cond (eqb (length (late_wires l ws)) 0) (lines_by ns l) None
+
+-- the tail of a reading, or its refusal; `tail_told_is` of proofs/Lines: with endless for none it is the tail call's answer
+abbrev pub tail_read : Progress → Result (Option ℕ) Answer
+tail_read (going at last p) = Err (answer 1 at)
+tail_read (refused n w) = Err (answer n w)
+tail_read (whole p) = Ok (tail_if p.nodes p.wires (visiting_list p.wires))

@@ -1,12 +1,9 @@
--- The walk as the code takes it, in arrays: what `visit` asks and gives; and the tail as the code finds it. Definitions only.
-use Rattle.std.specs.Prelude.{◌≡◌, ℕ, zero, suc, ◌+◌, ◌*◌, ◌<◌, ◌≤◌, Bool, true, false, cond, Option, Some, None, List, [], ◌∷◌, length, get_or, take, eqb}
+-- The walk as the code takes it, in arrays: what `visit` asks and gives. Definitions only.
+use Rattle.std.specs.Prelude.{◌≡◌, ℕ, zero, suc, ◌+◌, ◌*◌, ◌<◌, ◌≤◌, Bool, true, false, List, [], ◌∷◌, length, get_or, take}
 use Rattle.reading.specs.Table.{mem}
 use Rattle.reading.specs.Order.{Wire}
 use Rattle.reading.specs.Visit.{Walk, go}
-use Rattle.kinds.specs.declared.kind.NodeRecord.{NodeRecord}
 use Rattle.sources.specs.Sources.{distinct_sources}
-use Rattle.graph.specs.Late.{late_wires}
-use Rattle.graph.specs.Tail.{only_delays, listed_lines}
 
 -- ---- the sources gathered in two arrays: node v's stand in `lists` from 8 v on, as many as `counts` says
 
@@ -48,11 +45,3 @@ pub record Visited (counts lists : List ℕ) (v : ℕ) (m : List Bool) (l : List
   pub total : count' + unmarked m' ≡ count + unmarked m
   -- the walk goes on as `go` says, at every depth that suffices
   pub walk : (ws : List Wire) → Gathered ws counts lists → (k : ℕ) → unmarked m ≤ k → (w : Walk) → Stands m l count w → Stands m' l' count' (go ws k v w)
-
--- ---- the tail as the code finds it, without a number where it is endless
-
-abbrev pub lines_by : List NodeRecord → List ℕ → Option ℕ
-lines_by ns l = cond (only_delays ns l) (Some (listed_lines ns l)) None
-
-abbrev pub tail_if : List NodeRecord → List Wire → List ℕ → Option ℕ
-tail_if ns ws l = cond (eqb (length (late_wires l ws)) 0) (lines_by ns l) None

@@ -1,7 +1,7 @@
 // The visiting list of a board, and its late wires.
-ghost use Rattle.std.specs.Prelude.{◌≡◌, List, ℕ, ◌+◌, ◌<◌, ◌≤◌, length, take, set};
+ghost use Rattle.std.specs.Prelude.{◌≡◌, List, ℕ, ◌+◌, ◌<◌, ◌≤◌, Some, None, cond, ltb, length, get_or, take, set};
 ghost use Rattle.reading.specs.Order.{Wire, wire};
-ghost use Rattle.boards.specs.Wires.{Within, Joined, wires_of};
+ghost use Rattle.boards.specs.Wires.{Within, wires_of};
 ghost use Rattle.graph.specs.Visit.{visiting_list, Lists};
 ghost use Rattle.graph.specs.Walking.{Table, Gathered, Ready, Visited};
 ghost use Rattle.graph.specs.Late.{is_late, late_wires, Placed};
@@ -9,7 +9,8 @@ ghost use Rattle.graph.specs.Late.{is_late, late_wires, Placed};
 use boards::board::Wires;
 use sources::sources::Sources;
 
-// A visiting list: the first `count` entries of `nodes`.
+// A visiting list: the first `count` entries of `nodes`. An array, since libraries have no heap, in a Copy
+// value, which the kit's `ArrayVec` is not.
 #[derive(Clone, Copy)]
 pub struct Order {
     pub nodes: [u8; 64],
@@ -39,7 +40,9 @@ impl Order {
         self.count += 1;
     }
 
-    // Each node's place in the list.
+    // Each node's place in the list. Backwards, so that a node's first place stays. An index. Tried as
+    // `enumerate().rev()`: the proof of which items that gives didn't close (the library has it of a
+    // slice's `rev` alone).
     pub fn places(&self) -> Places
         ensures size { result.count ≡ self.now.count }
         ensures placed { Placed (take self.now.count self.now.nodes) result.at }
@@ -55,7 +58,8 @@ impl Order {
     }
 }
 
-// Each node's place in a list of `count` nodes; `count` for a node that is not in it.
+// Each node's place in a list of `count` nodes; `count` for a node that is not in it, so that a place is one
+// byte, as the definition counts it (`Placed`): `place_of` says it as an Option.
 #[derive(Clone, Copy)]
 pub struct Places {
     pub at: [u8; 64],
@@ -64,7 +68,18 @@ pub struct Places {
 }
 
 impl Places {
-    // Whether a wire is late.
+    // The node's place, none if it is not in the list.
+    // Ruled out, and tried by a must-fail edit: a place for each node (place_of_each).
+    pub fn place_of(&self, node: usize) -> Option<usize>
+        requires { node < 64 }
+        ensures { result ≡ cond (ltb (get_or self.now.at node 0) self.now.count) (Some (get_or self.now.at node 0)) None }
+    {
+        let place = usize::from(self.at[node]);
+        (place < self.count).then_some(place)
+    }
+
+    // Whether a wire is late. Its ends are indices here, bytes in the table of wires and 16 bits in a record:
+    // one struct of them would be converted at each border.
     // Ruled out, and tried by a must-fail edit: the plate's loop broken at fb2 to wet7
     // (plate_board, loop_elsewhere).
     pub fn is_late(&self, source: usize, target: usize) -> bool
@@ -78,16 +93,10 @@ impl Places {
 
     // How many of the wires are late.
     pub fn late_count(&self, wires: &Wires) -> usize
-        requires { (wires.now.count ≤ 128) × Joined 64 wires.now.list wires.now.count }
         ensures { (l : List ℕ) → length l ≡ self.now.count → Placed l self.now.at → result ≡ length (late_wires l (wires_of wires.now.list wires.now.count)) }
     {
-        let mut late = 0;
-        for &(source, target) in &wires.list[..wires.count] {
-            if self.is_late(usize::from(source), usize::from(target)) {
-                late += 1;
-            }
-        }
-        late
+        let late = |&&(s, t): &&(u8, u8)| self.is_late(usize::from(s), usize::from(t));
+        wires.listed().iter().filter(late).count()
     }
 }
 
@@ -98,9 +107,7 @@ fn visit(node: usize, sources: &Sources, marks: &mut [bool; 64], order: &mut Ord
     ensures { Visited sources.now.counts sources.now.lists node marks.old order.old.nodes order.old.count marks.new order.new.nodes order.new.count }
 {
     marks[node] = true;
-    let first = 8 * node;
-    let size = usize::from(sources.counts[node]);
-    for &source in &sources.lists[first..first + size] {
+    for &source in sources.of(node) {
         let source = usize::from(source);
         if !marks[source] {
             visit(source, sources, marks, order);

@@ -8,3 +8,8 @@ answer n w = record { number = n; place = w }
 -- a refusal is an error
 abbrev pub checked : Answer → Result (Unit {0}) Answer
 checked a = cond (eqb a.number 0) (Ok tt) (Err a)
+
+-- a call's answer: 0 where it was done, or its refusal
+abbrev pub told : Result (Unit {0}) Answer → Answer
+told (Ok _) = answer 0 0
+told (Err a) = a

@@ -6,6 +6,8 @@ use Rattle.values.specs.Bytes.{u16_at}
 use Rattle.records.specs.declared.reader.Reader.{Reader}
 use Rattle.records.specs.declared.record.Found.{Found}
 use Rattle.records.specs.declared.record.Found.TheVariants.{Head, Node, Wire, End}
+use Rattle.records.specs.declared.record.RecordError.{RecordError}
+use Rattle.records.specs.declared.record.RecordError.TheVariants.{Length, Kind}
 
 -- fewer than 4 bytes are left, or fewer than the record's length
 abbrev pub cut : List ℕ → ℕ → Bool
@@ -14,6 +16,16 @@ cut s at = ltb (length s - at) 4 || ltb (length s - at) (u16_at s at)
 -- the head is first and once; after it the kinds never fall. `last` is the kind before, 0 at the start
 abbrev pub in_order : ℕ → ℕ → Bool
 in_order last k = cond (eqb last 0) (eqb k 1) (leb 2 k && leb last k && leb k 4)
+
+-- a refusal's number: 1 for a record that is cut or of a wrong length, 2 for a kind that is unknown or out of order
+abbrev pub number_of : RecordError → ℕ
+number_of Length = 1
+number_of Kind = 2
+
+-- what was found, with the number of its refusal
+abbrev pub numbered : Result Found RecordError → Result Found ℕ
+numbered (Ok f) = Ok f
+numbered (Err e) = Err (number_of e)
 
 -- f, if the length z is n
 abbrev pub sized : ℕ → ℕ → Found → Result Found ℕ

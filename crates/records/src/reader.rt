@@ -1,10 +1,10 @@
 // The record reader: it lends the board's bytes and remembers the offset of the next record. Each
-// method of it is thin; the work is `record::found_at`'s, which takes a plain slice. Callers that
-// hold a plain slice and an offset use `read_record`.
+// method of it is thin; the work is `record::found_at`'s, which takes a plain slice. boards knows most
+// records by their first four bytes, and asks `read_record` only what ends a part.
 ghost use Rattle.std.specs.Prelude.{◌≡◌, ◌+◌};
-ghost use Rattle.records.specs.Record.{found_at, length_of, passed};
+ghost use Rattle.records.specs.Record.{found_at, length_of, passed, numbered};
 
-use crate::record::{Found, found_at};
+use crate::record::{Found, RecordError, found_at};
 
 #[derive(Drop)]
 pub struct Reader<'a> {
@@ -23,8 +23,8 @@ impl<'a> Reader<'a> {
     // What stands at the reader's offset, after a record of kind `last` (0: none). The reader moves past
     // the record; where it is refused, it stays.
     // Ruled out, and tried by a must-fail edit: a reader that forgets its offset (reader_forgets_offset).
-    pub fn next(&mut self, last: u16) -> Result<Found, u32>
-        ensures { (result ≡ found_at self.old.bytes.now self.old.at last) × (self.new ≡ passed self.old result) }
+    pub fn next(&mut self, last: u16) -> Result<Found, RecordError>
+        ensures { (numbered result ≡ found_at self.old.bytes.now self.old.at last) × (self.new ≡ passed self.old (numbered result)) }
     {
         let found = found_at(self.bytes, self.at, last)?;
         self.at += found.length();
@@ -33,8 +33,8 @@ impl<'a> Reader<'a> {
 }
 
 // The same for a caller that holds a plain slice and an offset: the offset moves past the record.
-pub fn read_record(s: &[u8], at: &mut usize, last: u16) -> Result<Found, u32>
-    ensures { (result ≡ found_at s.now at.old last) × (at.new ≡ at.old + length_of result) }
+pub fn read_record(s: &[u8], at: &mut usize, last: u16) -> Result<Found, RecordError>
+    ensures { (numbered result ≡ found_at s.now at.old last) × (at.new ≡ at.old + length_of (numbered result)) }
 {
     let mut reader = Reader::open(s, *at);
     let found = reader.next(last);

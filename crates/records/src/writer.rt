@@ -1,5 +1,7 @@
 // The record writer: each function stores one record's bytes, the head's at the start and any other's at
 // the place `at`, and leaves the other bytes as they are.
+// Bytes and place stay two parameters: wiring writes single records into the middle
+// of a board, so that a writer that moves on would be made anew for each.
 ghost use Rattle.std.specs.Prelude.{◌≡◌, ◌++◌, ◌+◌, ◌≤◌, length};
 ghost use Rattle.std.proofs.lemmas.List.Edits.{sets};
 ghost use Rattle.values.specs.Bytes.{u16_bytes};
@@ -17,7 +19,7 @@ fn put_two(board: &mut [u8], at: usize, a: u16, b: u16)
     put_u16(board, at + 2, b);
 }
 
-// A record of two numbers.
+// A record of two numbers. Kinds and types are numbers here, as they are stored.
 fn put_four(board: &mut [u8], at: usize, kind: u16, a: u16, b: u16)
     requires { at + 8 ≤ length board.old }
     ensures { board.new ≡ sets board.old at (u16_bytes 8 ++ u16_bytes kind ++ u16_bytes a ++ u16_bytes b) }

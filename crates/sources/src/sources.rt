@@ -1,11 +1,13 @@
 // The table of each node's sources, filled wire by wire.
-ghost use Rattle.std.specs.Prelude.{◌≡◌, [], ◌+◌, ◌*◌, ◌≤◌, ◌<◌, length, get_or};
+ghost use Rattle.std.specs.Prelude.{◌≡◌, [], ◌+◌, ◌*◌, ◌≤◌, ◌<◌, length, get_or, set, take, drop};
 ghost use Rattle.sources.specs.Sources.{Tabled};
 ghost use Rattle.sources.specs.Gather.{among, Added};
 
 // How many distinct sources each node has, nine standing for more than eight; the first eight of them
 // by first wire, those of node v from 8 * v on; and the source of each node's second wire. Arrays, since
-// libraries have no heap; the counts have one of their own, so that the judge compares several at once.
+// libraries have no heap, and a Copy value; the counts have one of their own, so that the judge compares
+// several at once. That a node is below 64 is asked of each function, here and above: an index is read from
+// a byte each time, and a type with the bound would be taken off at the next array.
 #[derive(Clone, Copy)]
 pub struct Sources {
     pub counts: [u8; 64],
@@ -31,6 +33,29 @@ impl Sources {
             lists: [0; 512],
             seconds: [0; 64],
         }
+    }
+
+    // The distinct sources of a node that has at most eight.
+    // Ruled out, and tried by a must-fail edit: those of node 0 (sources_of_first).
+    pub fn of(&self, node: usize) -> &[u8]
+        requires { (node < 64) × (get_or self.now.counts node 0 ≤ 8) }
+        ensures count { length result.now ≡ get_or self.now.counts node 0 }
+        ensures items { result.now ≡ take (get_or self.now.counts node 0) (drop (8 * node) self.now.lists) }
+    {
+        let first = 8 * node;
+        &self.lists[first..first + usize::from(self.counts[node])]
+    }
+
+    // One source more of a node that has fewer than eight, and not this one.
+    // Ruled out, and tried by a must-fail edit: a source over the first one (push_over_first_source).
+    pub fn push(&mut self, target: usize, source: u8)
+        requires { (target < 64) × (get_or self.old.counts target 0 < 8) }
+        ensures counts { self.new.counts ≡ set self.old.counts target (get_or self.old.counts target 0 + 1) }
+        ensures lists { self.new.lists ≡ set self.old.lists (8 * target + get_or self.old.counts target 0) source }
+    {
+        let n = self.counts[target];
+        self.lists[8 * target + usize::from(n)] = source;
+        self.counts[target] = n + 1;
     }
 
     // One wire more, from `source` to `target`, into which `nth` wires lead already.

@@ -8,7 +8,7 @@ use Rattle.boards.proofs.judge.judge.Goals as goal
 pub returns-in-Ok : goal.returns-in-Ok
 returns-in-Ok c =
     let read = c.in-Ok.ensures in
-    c.new.ensures ∙ ap (λ (v : ℕ). answer 0 (4 * v)) read.1.values_sum ∙ sym (judged_whole _ _ read.0)
+    c.new.ensures ∙ ap (λ (v : ℕ). answer 0 (4 * v)) read.sum ∙ sym (judged_whole _ _ read.reads)
 
 pub returns-in-Err : goal.returns-in-Err
 returns-in-Err c = sym (judged_refused _ _ _ c.in-Err.ensures.1)

@@ -1,24 +1,23 @@
--- `boards::judge::sources_judged` meets its contract: the nodes passed fit, so what is left decides. Assumes nothing.
-use mathlib.Core.Path.{◌≡◌, refl, sym, ◌∙◌}
+-- `boards::judge::sources_judged` meets its contract: the nodes before the first that does not fit are passed, and it is refused. Assumes
+-- nothing.
+use mathlib.Core.Path.{sym, ◌∙◌}
 use native.Mathlib.Omega.{arith}
-use lib.ListN.{length}
 use Rattle.boards.proofs.Answers.{refused_by}
-use Rattle.boards.proofs.Six.{check_next, check_wrong, check_end}
+use Rattle.boards.proofs.Six.{first_below, check_none, check_first}
 use Rattle.boards.proofs.judge.sources_judged.Goals as goal
 
-pub loop-i-init : goal.loop-i-init
-loop-i-init c = λ p n h. refl
-
-pub returns-then-not-fits : goal.returns-then-not-fits
-returns-then-not-fits c = λ p n h.
+pub returns-in-Some : goal.returns-in-Some
+returns-in-Some c = λ p n h.
+    let nodes = c.args.nodes.now in
     refused_by c.new.ensures (omega arith)
-    (sym (c.loop-i.invariant p n h) ∙ check_wrong p _ _ h c.loop-i.i (omega (arith, n)) (sym c.fits.ensures ∙ c.if-not-fits.true))
+    (check_first p _ _ h _ n nodes.wide (omega arith) nodes.few c.in-Some.i (sym c.first_unfit.ensures ∙ c.in-Some.is))
 
-pub loop-i-preserved : goal.loop-i-preserved
-loop-i-preserved c = λ p n h.
-    check_next p _ _ h c.loop-i.i (omega (arith, n)) (sym c.fits.ensures ∙ c.if-not-fits.false) ∙ c.loop-i.invariant p n h
+pub returns-in-None : goal.returns-in-None
+returns-in-None c = λ p n h.
+    let nodes = c.args.nodes.now in
+    check_none p _ _ h _ n nodes.wide (omega arith) nodes.few (sym c.first_unfit.ensures ∙ c.in-None.is)
 
-pub returns : goal.returns
-returns c = λ p n h.
-    let all : length p.nodes ≡ c.loop-i.i = omega (arith, n) in
-    sym (c.loop-i.invariant p n h) ∙ rw (← all) (check_end p _ _ h)
+pub new-requires : goal.new-requires
+new-requires c =
+    let nodes = c.args.nodes.now in
+    omega (arith, first_below nodes.bounds _ nodes.count c.in-Some.i _ (omega (arith, nodes.wide, nodes.few)) (sym c.first_unfit.ensures ∙ c.in-Some.is), nodes.few)

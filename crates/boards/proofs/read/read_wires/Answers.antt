@@ -1,4 +1,4 @@
--- `boards::board::read_wires` meets its contract. The loop's invariant: the wires passed are those of the definition, and the table is
+-- `boards::read::read_wires` meets its contract. The loop's invariant: the wires passed are those of the definition, and the table is
 -- theirs. The measure is what is left of the bytes. Assumes nothing.
 use Prim.Native.Nat.{ℕ, ◌+◌, ◌≤◌, ◌<◌}
 use mathlib.Core.Path.{◌≡◌, sym, subst, ◌∙◌}
@@ -11,7 +11,7 @@ use Rattle.sources.proofs.Tabling.{tabling_started, ins_few, counts_few, tabling
 use Rattle.boards.proofs.Parts.{WireEnds, wire_here, wire_ends}
 use Rattle.boards.proofs.Answers.{residual_is}
 use Rattle.boards.proofs.Loops.{wires_start, wires_more, wires_ended, wires_refused}
-use Rattle.boards.proofs.board.read_wires.Goals as goal
+use Rattle.boards.proofs.read.read_wires.Goals as goal
 
 -- a number below 256 is its low byte
 low : (s : List ℕ) (at n : ℕ) → u16_at s at < n → n ≤ 64 → get_or s at 0 ≡ u16_at s at
@@ -20,7 +20,7 @@ low s at n h few = omega arith
 pub loop-ins-init : goal.loop-ins-init
 loop-ins-init c =
     let p = c.requires in
-    (wires_start _ _ _ _ p.i_bound.3 p.i_bound.2, tabling_started p.tabled)
+    (wires_start _ _ _ _ _ _ _ p.i_bound.2, tabling_started p.tabled)
 
 pub is_wire-requires : goal.is_wire-requires
 is_wire-requires c = c.loop-ins.invariant.0.inside
@@ -55,7 +55,7 @@ loop-ins-preserved c =
     let target_is = low s (at.next + 6) c.args.i here.1.obeys.target_there few in
     let target : c.from-target.result < 64 = omega (arith, c.from-target.ensures, target_is, here.1.obeys.target_there) in
     let stored = wires_stored at.wires.list at.wires.count (get_or s (at.next + 4) 0) (get_or s (at.next + 6) 0) (omega (arith, so_far.long, here.1.room)) in (
-      wires_more _ _ _ _ _ so_far _ _ source_is target_is here,
+      wires_more _ _ _ _ _ so_far _ _ source_is target_is here _ _ _,
       rw (stored, ← c.from-target.ensures) (tabling_added (get_or s (at.next + 4) 0) c.from-target.result target at.invariant.1 c.add.ensures),
     )
 

@@ -1,6 +1,6 @@
--- `boards::board::node_body` meets its contract: the fields are those of the definition, and each arm knows the rule. Assumes nothing.
+-- `boards::read::node_body` meets its contract: the fields are those of the definition, and each arm knows the rule. Assumes nothing.
 use Rattle.boards.specs.BoardParts.{node_read}
-use Rattle.boards.proofs.board.node_body.Goals as goal
+use Rattle.boards.proofs.read.node_body.Goals as goal
 
 pub returns-then-node_fits : goal.returns-then-node_fits
 unfolding node_read

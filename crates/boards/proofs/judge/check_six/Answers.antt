@@ -1,17 +1,18 @@
--- `boards::judge::judged` meets its contract: each arm knows the test that the definition makes there. Assumes nothing.
+-- `boards::judge::check_six` meets its contract: each arm knows the test that the definition makes there. Assumes nothing.
 use Prim.Native.Nat.{ℕ, ◌≤◌, ◌<◌}
 use mathlib.Core.Path.{◌≡◌, refl, sym, ap, ◌∙◌}
 use mathlib.Core.Bool.{true}
 use mathlib.Core.List.{List}
 use native.Mathlib.Omega.{arith}
 use lib.ListN.{length, get_or, take}
+use Rattle.kinds.specs.declared.kind.Bounds.{Bounds as NodeBounds}
 use Rattle.kinds.specs.declared.kind.NodeRecord.{NodeRecord}
 use Rattle.boards.specs.Board.{Parsed, refused}
 use Rattle.boards.specs.Judge.{pass_at, check_sources, check_six}
 use Rattle.boards.specs.BoardParts.{Counts}
 use Rattle.boards.proofs.Answers.{refused_by, decides_as}
 use Rattle.boards.proofs.Six.{counted, pass_below, six_none, six_no_pass, six_entered, six_open, check_all}
-use Rattle.boards.proofs.judge.judged.Goals as goal
+use Rattle.boards.proofs.judge.check_six.Goals as goal
 
 -- a board as the contract speaks of it
 module _ (p : Parsed) (ns : List NodeRecord) (count : ℕ) (long : (count ≤ 64) × (length ns ≡ 64)) (n : p.nodes ≡ take count ns) where
@@ -21,7 +22,7 @@ module _ (p : Parsed) (ns : List NodeRecord) (count : ℕ) (long : (count ≤ 64
   nodes_left : (count ≡ 0 → ⊥) → length p.nodes ≡ 0 → ⊥
   nodes_left some e = some (sym total ∙ e)
 
-  module _ (input : ℕ) (i : p.input ≡ input) (bounds counts : List ℕ) (h : Counts p bounds counts) (some : count ≡ 0 → ⊥)
+  module _ (input : ℕ) (i : p.input ≡ input) (bounds : List NodeBounds) (counts : List ℕ) (h : Counts p bounds counts) (some : count ≡ 0 → ⊥)
       (pass : pass_at (take count ns) input ≡ true) where
     passes : pass_at p.nodes p.input ≡ true
     passes = rw (n, i) pass
@@ -65,7 +66,7 @@ returns-then-all_fit c = λ p n i h.
     let nodes = c.args.nodes.now in
     let pass = sym c.pass_at.ensures ∙ c.if-not-pass_at.false in
     open_in p nodes.nodes nodes.count (nodes.few, nodes.long) n _ i _ _ h c.if-nodes-eq0.false pass c.if-counts-input-ne0.false
-    ∙ check_all p _ _ h (rw (total p nodes.nodes nodes.count (nodes.few, nodes.long) n) (c.all_fit.ensures c.if-all_fit.true))
+    ∙ check_all p _ _ h _ (total p nodes.nodes nodes.count (nodes.few, nodes.long) n) nodes.wide (omega arith) nodes.few (sym c.all_fit.ensures ∙ c.if-all_fit.true)
 
 pub returns-else-all_fit : goal.returns-else-all_fit
 returns-else-all_fit c = λ p n i h.

@@ -3,7 +3,7 @@ use lib.ListN.{length}
 use Rattle.boards.specs.Wires.{wires_of}
 use Rattle.sources.proofs.Tabling.{Tabling}
 use Rattle.boards.proofs.Loops.{WiresSoFar}
-use Rattle.boards.proofs.board.read_wires.Given as goal
+use Rattle.boards.proofs.read.read_wires.Given as goal
 
 abbrev pub invariant-loop-ins : goal.invariant-loop-ins
 invariant-loop-ins l =

@@ -1,4 +1,4 @@
--- `boards::board::starts_with` meets its contract: two 2-byte numbers are read and compared as one. Assumes nothing.
+-- `boards::read::starts_with` meets its contract: two 2-byte numbers are read and compared as one. Assumes nothing.
 use Prim.Native.Nat.{ℕ, ◌+◌, ◌*◌, ◌<◌}
 use lib.ListN.{length, get_or}
 use mathlib.Core.Path.{◌≡◌, refl, ap}
@@ -8,7 +8,7 @@ use borrow.Author.Rules.{rules}
 use borrow.Author.Tests.{lt-leb, le-leb, eq-eqb, ne_eqb, eqb-true, eqb-false}
 use lib.Dec.{eqb}
 use Rattle.values.specs.Bytes.{u16_at}
-use Rattle.boards.proofs.board.starts_with.Goals as goal
+use Rattle.boards.proofs.read.starts_with.Goals as goal
 
 -- below 2^16 both halves are the same where the numbers are
 halves : (a b z k : ℕ) → a < 65536 → z < 65536 → eqb (a + b * 65536) (z + k * 65536) ≡ eqb a z && eqb b k
