@@ -7,11 +7,12 @@ use mathlib.Core.Bool.{Bool, true, false, cond, not, ◌||◌, ◌&&◌, and-fal
 use mathlib.Core.List.{List, [], ◌∷◌, ◌++◌, append_assoc, append-nil}
 use lib.Dec.{eqb}
 use borrow.Author.Tests.{eq-eqb, ne_eqb, eqb-true, eqb-false}
+use Rattle.std.proofs.lemmas.Bool.{false_from_ne_true}
 use Rattle.reading.specs.Table.{mem}
 use Rattle.reading.specs.Visit.{choose}
 use Rattle.reading.proofs.Table.{or_right, or_left}
 use Rattle.carrying.specs.Carried.{Way, Carried, Change, Changes, mark, enter, through, walk, up_to, on_way, with_rest, copies, turn, look, skim, sources_before, sources_after, fresh, carry}
-use Rattle.carrying.proofs.Lists.{else_false, mem_one, mem_either, mem_second, through-append}
+use Rattle.carrying.proofs.Lists.{mem_one, mem_either, mem_second, through-append}
 use Rattle.carrying.proofs.Parts.{part, parts, parts_append, walk_seen, walk_new, part_seen, part_new, walk_marks, walk_listed, walk_keeps, through_keeps, part_off, Ahead, ahead_refl}
 use Rattle.carrying.proofs.Depth.{left, left_mark, left_all, left_walk, left_through, walk_filled}
 use Rattle.carrying.proofs.Copying.{bare, Kept, kept_as, untouched, through_untouched, skim_bare, through_bare, skim_looks, cut, Next, late, late_through}
@@ -275,7 +276,7 @@ module _ (S S' : ℕ → List ℕ) (d : Change) (ch : Changes d S S') (n : ℕ)
       pick : (b : Bool) → mem d.target (part S (suc f) u c.way) ≡ b → Stepped r (walk S (suc f) u c.way) (walk S' (suc f) u c.way) (skim S d (suc f) u c)
       pick true e =
           inside f (spec f refl) u c r below room t e
-          (else_false (c.way.marks u) (λ h. false≢true (ap (mem d.target) (sym (part_seen S (suc f) u c.way h)) ∙ e))) k
+          (false_from_ne_true (c.way.marks u) (λ h. false≢true (ap (mem d.target) (sym (part_seen S (suc f) u c.way h)) ∙ e))) k
       pick false e = outside (suc f) u c r t e k
 
   step_by : (f : ℕ) → ((g : ℕ) → f ≡ suc g → Steps g) → Steps f

@@ -6,11 +6,12 @@ use mathlib.Core.Bool.{Bool, true, false, cond, not, ◌||◌, ◌&&◌, false�
 use mathlib.Core.List.{List, [], ◌∷◌, ◌++◌, append_assoc}
 use lib.Dec.{eqb}
 use borrow.Author.Tests.{eqb-true, eqb-false}
+use Rattle.std.proofs.lemmas.Bool.{or_parts, false_from_ne_true}
 use Rattle.reading.specs.Table.{mem}
 use Rattle.reading.specs.Visit.{choose}
 use Rattle.reading.proofs.Table.{mem-head}
 use Rattle.carrying.specs.Carried.{Way, Carried, Change, Changes, mark, enter, through, walk, lay_one, lay, up_to, past, on_way, with_rest, copies, copy, turn, look, skim}
-use Rattle.carrying.proofs.Lists.{or-none, or_one, not_both, else_false, mem_parts, mem_neither, mem_either, mem_second, up_to_at, past_at, through-append}
+use Rattle.carrying.proofs.Lists.{or_one, not_both, mem_parts, mem_neither, mem_either, mem_second, up_to_at, past_at, through-append}
 use Rattle.carrying.proofs.Parts.{part, parts, walk_seen, part_new, walk_marks, walk_keeps, part_off, parts_off, parts_without, lay_marks, lay_marked, Ahead, ahead_more, part_ahead, walk_laid}
 
 -- nothing to copy
@@ -46,7 +47,7 @@ module _ (S S' : ℕ → List ℕ) (d : Change) (ch : Changes d S S') where
       pick true h ih = refl
       pick false h ih =
           let n = mem_parts d.target (parts S f (S u) (mark u w)) (u ∷ []) h in
-          let apart : u ≡ d.target → ⊥ = λ p. eqb-false d.target u (or-none (eqb d.target u) false n.1).0 (sym p) in
+          let apart : u ≡ d.target → ⊥ = λ p. eqb-false d.target u (or_parts (eqb d.target u) false n.1).0 (sym p) in
           ap (λ (ss : List ℕ). enter u (through (walk S' f) ss (mark u w))) (ch.others u apart)
           ∙ ap (enter u) (untouched_by f ih (S u) (mark u w) n.0)
 
@@ -150,7 +151,7 @@ module _ (S S' : ℕ → List ℕ) (d : Change) (ch : Changes d S S') where
           ∙ sym (append_assoc k.junk ps (u ∷ r))
 
       free : mem u ys ≡ false
-      free = mem_neither u k.junk ps (else_false (mem u k.junk) (λ h. not_both (k.marked u h) e)) (parts_without S f u (S u) o)
+      free = mem_neither u k.junk ps (false_from_ne_true (mem u k.junk) (λ h. not_both (k.marked u h) e)) (parts_without S f u (S u) o)
 
   -- ---- copying: o is the old board's walk, p the new board's, c the carried one
 
@@ -171,7 +172,7 @@ module _ (S S' : ℕ → List ℕ) (d : Change) (ch : Changes d S S') where
         };
         ahead = record {
           has = λ j m. or_one (mem j (part S f u o)) (o.marks j) (sym (walk_marks S f u o j) ∙ m) (inside j) (a.has j);
-          closed = λ x m n. a.closed x m (or-none (mem x (part S f u o)) (o.marks x) (sym (walk_marks S f u o x) ∙ n)).1;
+          closed = λ x m n. a.closed x m (or_parts (mem x (part S f u o)) (o.marks x) (sym (walk_marks S f u o x) ∙ n)).1;
         };
       }
     where
@@ -181,7 +182,7 @@ module _ (S S' : ℕ → List ℕ) (d : Change) (ch : Changes d S S') where
   -- a target that is not marked is in neither walk's part
   off : (f u : ℕ) (o q : Way) → Ahead S o q → mem d.target (part S f u q) ≡ false → q.marks d.target ≡ false → mem d.target (part S f u o) ≡ false
   off f u o q a e m =
-      (or-none (mem d.target (part S f u o)) (q.marks d.target)
+      (or_parts (mem d.target (part S f u o)) (q.marks d.target)
       (sym (lay_marks (part S f u o) q d.target) ∙ ap (λ (v : Way). v.marks d.target) (sym (walk_laid S f u o q a))
       ∙ walk_marks S f u q d.target ∙ ap (λ (b : Bool). b || q.marks d.target) e ∙ m)
       ).0
@@ -196,7 +197,7 @@ module _ (S S' : ℕ → List ℕ) (d : Change) (ch : Changes d S S') where
       pick false m =
           ap (λ (l : List ℕ). not (mem d.target l)) x.first
           ∙ ap not
-          (mem_neither d.target k.junk (part S (suc f) u o) (else_false (mem d.target k.junk) (λ h. not_both (k.marked d.target h) m))
+          (mem_neither d.target k.junk (part S (suc f) u o) (false_from_ne_true (mem d.target k.junk) (λ h. not_both (k.marked d.target h) m))
           (off (suc f) u o c.way a e m))
 
   late_copied : (f u : ℕ) (o : Way) (c : Carried) (r : List ℕ) → Ahead S o c.way → mem d.target (part S (suc f) u c.way) ≡ false
@@ -223,7 +224,7 @@ module _ (S S' : ℕ → List ℕ) (d : Change) (ch : Changes d S S') where
       pick : (b : Bool) → c.way.marks u ≡ b → Next r (walk S (suc f) u o) (walk S' (suc f) u c.way) (skim S d (suc f) u c)
       pick true m = subst⁻¹ (Next r (walk S (suc f) u o) (walk S' (suc f) u c.way)) (skim_seen f u c m) (late_seen (suc f) u o c r a m k)
       pick false m =
-          let x = cut f u o r c k m (else_false (o.marks u) (λ h. not_both (a.has u h) m)) in
+          let x = cut f u o r c k m (false_from_ne_true (o.marks u) (λ h. not_both (a.has u h) m)) in
           subst⁻¹ (Next r (walk S (suc f) u o) (walk S' (suc f) u c.way)) (skim_copies f u c m (late_copies f u o c r a e k x)) (late_copied f u o c r a e k x)
 
   pub late_through : (f : ℕ) (ss : List ℕ) (o : Way) (c : Carried) (r : List ℕ) → Ahead S o c.way → c.way.marks d.target ≡ true → Kept (parts S f ss o ++ r) c

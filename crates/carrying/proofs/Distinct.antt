@@ -5,12 +5,14 @@ use mathlib.Core.Bool.{Bool, true, false, cond, ◌||◌, or-false, false≢true
 use mathlib.Core.List.{List, [], ◌∷◌, ◌++◌, append_assoc, append-nil}
 use lib.Dec.{eqb}
 use borrow.Author.Tests.{eq-eqb, ne_eqb, eqb-true, eqb-false}
+use Rattle.std.proofs.Math.Bool.{or_assoc}
+use Rattle.std.proofs.lemmas.Bool.{or_parts}
 use Rattle.reading.specs.Table.{mem}
 use Rattle.reading.specs.Visit.{choose}
 use Rattle.reading.proofs.Table.{or_right, or_left}
 use Rattle.sources.specs.Sources.{add_new, add_all, distinct}
 use Rattle.carrying.specs.Carried.{Way, mark, enter, through, walk}
-use Rattle.carrying.proofs.Lists.{or-none, or_one, mem-append, mem_neither, through-append}
+use Rattle.carrying.proofs.Lists.{or_one, mem-append, mem_neither, through-append}
 use Rattle.carrying.proofs.Parts.{walk_seen, through_keeps}
 
 -- ---- a source that comes again is marked by then
@@ -68,12 +70,8 @@ all_append l (x ∷ xs) ys = all_append (add_new l x) xs ys
 
 mem_all : (j : ℕ) (l xs : List ℕ) → mem j (add_all l xs) ≡ (mem j l || mem j xs)
 mem_all j l [] = sym (or-false (mem j l))
-mem_all j l (x ∷ xs) = mem_all j (add_new l x) xs ∙ ap (λ (b : Bool). b || mem j xs) (one (mem x l) refl) ∙ join (mem j l) (eqb j x) (mem j xs)
+mem_all j l (x ∷ xs) = mem_all j (add_new l x) xs ∙ ap (λ (b : Bool). b || mem j xs) (one (mem x l) refl) ∙ or_assoc (mem j l) (eqb j x) (mem j xs)
   where
-    join : (a b c : Bool) → (a || b || c) ≡ (a || (b || c))
-    join true b c = refl
-    join false b c = refl
-
     one : (b : Bool) → mem x l ≡ b → mem j (cond b l (l ++ (x ∷ []))) ≡ (mem j l || eqb j x)
     one true e = in_it (eqb j x) refl
       where
@@ -110,7 +108,7 @@ around s a b [] e h = record { behind = b; has = refl; lacks = refl; free = e }
 around s a b (x ∷ xs) e h = pick (mem x (a ++ b)) refl (λ c f. around s a c xs f no.1)
   where
     no : (eqb s x ≡ false) × (mem s xs ≡ false)
-    no = or-none (eqb s x) (mem s xs) h
+    no = or_parts (eqb s x) (mem s xs) h
 
     same : mem x (a ++ (s ∷ b)) ≡ mem x (a ++ b)
     same = mem-append x a (s ∷ b) ∙ ap (λ (c : Bool). mem x a || (c || mem x b)) (ne_eqb x s (λ p. eqb-false s x no.0 (sym p))) ∙ sym (mem-append x a b)

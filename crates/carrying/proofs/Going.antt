@@ -8,15 +8,17 @@ use mathlib.Core.Bool.{Bool, true, false, ◌&&◌, false≢true}
 use mathlib.Core.List.{List, [], ◌∷◌, ◌++◌}
 use lib.Dec.{eqb}
 use borrow.Author.Tests.{eqb-true}
-use lib.ListN.{length, get_or, set, take, drop, drop_of_length-le}
+use lib.ListN.{length, get_or, set, length-set, take, drop, drop_of_length-le}
 use lib.Seq.{take-suc, take_all, take-take, length-take-le}
+use Rattle.std.proofs.lemmas.Bool.{false_from_ne_true}
 use Rattle.reading.specs.Visit.{choose}
+use Rattle.sources.proofs.Part.{part_at}
 use Rattle.graph.specs.Late.{place}
-use Rattle.graph.specs.Walking.{unmarked}
+use Rattle.graph.specs.Walking.{Table, unmarked}
 use Rattle.graph.proofs.Going.{unmarked-set}
 use Rattle.carrying.specs.Carried.{Carried, Change, mark, enter, through, lay, on_way, with_rest, up_to, past, copies, copy, turn}
-use Rattle.carrying.specs.Skimming.{edit, go_at, skim_all, Holds, Shows, Stands, Old, Room, Grown, LaidPart, Skimmed}
-use Rattle.carrying.proofs.Lists.{else_false, through-append}
+use Rattle.carrying.specs.Skimming.{edit, go_at, skim_all, Holds, Shows, Stands, Old, Room, Grown, LaidPart, Asks, Skimmed}
+use Rattle.carrying.proofs.Lists.{through-append}
 use Rattle.carrying.proofs.Laying.{shows_seen, shows_new, shows_mark, shows_enter, grown_refl, grown_trans, grown_around}
 use Rattle.carrying.proofs.Placed.{up_to_index, past_index, copies_yes, copies_no}
 
@@ -222,7 +224,42 @@ module _ (counts lists old places : List ℕ) (size : ℕ) (adding : Bool) (sour
         (record { shows = shows_enter m' l' n v _ in-l y.shows; rest = y.rest })
       where
         shut : (c : Carried) → Stands old size m l count at c → (get_or m target false ≡ true → ⊥) → c.way.marks target ≡ false
-        shut c s un = else_false (c.way.marks target) (λ e. un (s.shows.marks target goal-in ∙ e))
+        shut c s un = false_from_ne_true (c.way.marks target) (λ e. un (s.shows.marks target goal-in ∙ e))
 
     pub skimmed_walked : Skimmed counts lists old size adding source target v m l count at m' (set l' n v) (n + 1) rest
     skimmed_walked = record { grown = grown_around m count v m' n in_m unseen g.grown; at_in = g.rest_in; walk = walked_walk }
+
+-- ---- what going on to a source asks
+
+-- an entry of those that the table lends is the table's
+pub lent_at : (lists : List ℕ) (v : ℕ) {items : List ℕ} {n i u : ℕ} → items ≡ take n (drop (8 * v) lists) → i < n → u ≡ get_or items i 0 → u ≡ get_or lists (8 * v + i) 0
+lent_at lists v {n = n} {i = i} lent h e =
+    e ∙ ap (λ (l : List ℕ). get_or l i 0) lent ∙ part_at lists (8 * v) n i h
+
+-- a source in the table is a node
+pub source_node : {counts lists : List ℕ} {v i u : ℕ} → Table counts lists → v < 64 → i < get_or counts v 0 → u ≡ get_or lists (8 * v + i) 0 → u < 64
+source_node {v = v} {i = i} t node h is = subst (λ (x : ℕ). x < 64) (sym is) (t.nodes v i node h)
+
+module _ {counts lists old places : List ℕ} {size : ℕ} {adding : Bool} {source target v : ℕ} {m₀ : List Bool} {l₀ : List ℕ} {count at : ℕ} {m : List Bool} {l : List ℕ} {n rest i : ℕ}
+    (pre : Asks counts lists old places size source target v m₀ count at) (g : Going counts lists old size adding source target v (set m₀ v true) l₀ count at m l n rest i) where
+  one : unmarked m₀ ≡ suc (unmarked (set m₀ v true))
+  one = unmarked-set m₀ v (omega (arith, pre.room.marks_size, pre.node_in)) pre.unseen
+
+  pub fewer : unmarked m < unmarked m₀
+  fewer = omega (arith, one, g.grown.fewer)
+
+  pub asks_on : {u : ℕ} → i < get_or counts v 0 → u ≡ get_or lists (8 * v + i) 0 → get_or m u false ≡ false → (at' : ℕ) → at' ≤ size
+      → Asks counts lists old places size source target u m n at'
+  asks_on h is unseen at' at_in = record {
+    table = pre.table;
+    was = pre.was;
+    node_in = source_node pre.table pre.node_in h is;
+    source_in = pre.source_in;
+    target_in = pre.target_in;
+    room = record {
+      marks_size = omega (arith, g.grown.marks_kept, pre.room.marks_size, length-set m₀ v true);
+      room = omega (arith, one, g.grown.total, pre.room.room);
+    };
+    unseen = unseen;
+    at_in = at_in;
+  }

@@ -6,15 +6,13 @@ use mathlib.Core.Bool.{Bool, true, false, cond, ◌||◌, true≢false, false≢
 use mathlib.Core.List.{List, [], ◌∷◌, ◌++◌}
 use lib.Dec.{eqb}
 use borrow.Author.Tests.{eq-eqb, eqb-true}
+use Rattle.std.proofs.Math.Bool.{or_assoc, or_comm}
+use Rattle.std.proofs.lemmas.Bool.{or_parts}
 use Rattle.reading.specs.Table.{mem}
 use Rattle.reading.proofs.Table.{or_right}
 use Rattle.carrying.specs.Carried.{through, up_to, past}
 
 -- ---- tests
-
-pub or-none : (a b : Bool) → (a || b) ≡ false → (a ≡ false) × (b ≡ false)
-or-none true b h = absurd (true≢false h)
-or-none false b h = (refl, h)
 
 pub or_one : {C : Type 0} (a b : Bool) → (a || b) ≡ true → (a ≡ true → C) → (b ≡ true → C) → C
 or_one true b e f g = f refl
@@ -23,33 +21,24 @@ or_one false b e f g = g e
 pub not_both : {C : Type 0} {a : Bool} → a ≡ true → a ≡ false → C
 not_both e f = absurd (true≢false (sym e ∙ f))
 
--- what is not true is false
-pub else_false : (a : Bool) → (a ≡ true → ⊥) → a ≡ false
-else_false true h = absurd (h refl)
-else_false false h = refl
+pub or_turned : (a b c : Bool) → (a || (b || c)) ≡ (b || a || c)
+or_turned a b c = sym (or_assoc a b c) ∙ ap (λ (d : Bool). d || c) (or_comm a b)
 
 pub or_swap : (a b c : Bool) → (a || (b || c)) ≡ (b || (a || c))
-or_swap true true c = refl
-or_swap true false c = refl
-or_swap false true c = refl
-or_swap false false c = refl
+or_swap a b c = or_turned a b c ∙ or_assoc b a c
 
 -- ---- members
 
 pub mem-append : (j : ℕ) (a b : List ℕ) → mem j (a ++ b) ≡ (mem j a || mem j b)
 mem-append j [] b = refl
-mem-append j (x ∷ a) b = ap (λ (c : Bool). eqb j x || c) (mem-append j a b) ∙ or_join (eqb j x) (mem j a) (mem j b)
-  where
-    or_join : (p q r : Bool) → (p || (q || r)) ≡ (p || q || r)
-    or_join true q r = refl
-    or_join false q r = refl
+mem-append j (x ∷ a) b = ap (λ (c : Bool). eqb j x || c) (mem-append j a b) ∙ sym (or_assoc (eqb j x) (mem j a) (mem j b))
 
 pub mem_one : (j k : ℕ) → mem j (k ∷ []) ≡ true → j ≡ k
 mem_one j k e = or_one (eqb j k) false e (λ t. eqb-true j k t) (λ f. absurd (false≢true f))
 
 -- not a member of either part
 pub mem_parts : (j : ℕ) (a b : List ℕ) → mem j (a ++ b) ≡ false → (mem j a ≡ false) × (mem j b ≡ false)
-mem_parts j a b e = or-none (mem j a) (mem j b) (sym (mem-append j a b) ∙ e)
+mem_parts j a b e = or_parts (mem j a) (mem j b) (sym (mem-append j a b) ∙ e)
 
 pub mem_neither : (j : ℕ) (a b : List ℕ) → mem j a ≡ false → mem j b ≡ false → mem j (a ++ b) ≡ false
 mem_neither j a b e f = mem-append j a b ∙ ap (λ (c : Bool). c || mem j b) e ∙ f
@@ -65,13 +54,13 @@ mem_second j a b e = mem-append j a b ∙ or_right (mem j a) e
 pub up_to_at : (k : ℕ) (a r : List ℕ) → mem k a ≡ false → up_to k (a ++ (k ∷ r)) ≡ a ++ (k ∷ [])
 up_to_at k [] r e = ap (λ (b : Bool). cond b (k ∷ []) (k ∷ up_to k r)) (eq-eqb k k refl)
 up_to_at k (x ∷ a) r e =
-    let h = or-none (eqb k x) (mem k a) e in
+    let h = or_parts (eqb k x) (mem k a) e in
     ap (λ (b : Bool). cond b (x ∷ []) (x ∷ up_to k (a ++ (k ∷ r)))) h.0 ∙ ap (λ (l : List ℕ). x ∷ l) (up_to_at k a r h.1)
 
 pub past_at : (k : ℕ) (a r : List ℕ) → mem k a ≡ false → past k (a ++ (k ∷ r)) ≡ r
 past_at k [] r e = ap (λ (b : Bool). cond b r (past k r)) (eq-eqb k k refl)
 past_at k (x ∷ a) r e =
-    let h = or-none (eqb k x) (mem k a) e in
+    let h = or_parts (eqb k x) (mem k a) e in
     ap (λ (b : Bool). cond b (a ++ (k ∷ r)) (past k (a ++ (k ∷ r)))) h.0 ∙ past_at k a r h.1
 
 -- ---- steps for each node

@@ -2,15 +2,17 @@
 -- Assumes nothing.
 use mathlib.Core.Path.{◌≡◌, refl, sym, ap, ◌∙◌}
 use Prim.Native.Nat.{ℕ, zero, suc}
-use mathlib.Core.Bool.{Bool, true, false, ◌||◌, false≢true}
+use mathlib.Core.Bool.{Bool, true, false, ◌||◌, or-false, false≢true}
 use mathlib.Core.List.{List, [], ◌∷◌, ◌++◌, append_assoc, append-nil}
 use lib.Dec.{eqb}
 use borrow.Author.Tests.{eq-eqb, ne_eqb, eqb-true, eqb-false}
+use Rattle.std.proofs.Math.Bool.{or_assoc}
+use Rattle.std.proofs.lemmas.Bool.{or_parts, false_from_ne_true}
 use Rattle.reading.specs.Table.{mem}
 use Rattle.reading.specs.Visit.{choose}
 use Rattle.reading.proofs.Table.{or_right, or_left}
 use Rattle.carrying.specs.Carried.{Way, mark, enter, through, walk, lay_one, lay}
-use Rattle.carrying.proofs.Lists.{or-none, or_one, not_both, else_false, or_swap, mem-append, mem_one, mem_either, through-append}
+use Rattle.carrying.proofs.Lists.{or_one, not_both, or_turned, or_swap, mem-append, mem_one, mem_either, through-append}
 
 -- ---- what is listed on the way
 
@@ -59,23 +61,15 @@ module _ (S : ℕ → List ℕ) where
   marks_through g p h (s ∷ ss) w j =
       marks_through g p h ss (g s w) j
       ∙ ap (λ (b : Bool). mem j (parts_of g p ss (g s w)) || b) (h s w j)
-      ∙ turned (mem j (parts_of g p ss (g s w))) (mem j (p s w)) (w.marks j)
+      ∙ or_turned (mem j (parts_of g p ss (g s w))) (mem j (p s w)) (w.marks j)
       ∙ ap (λ (b : Bool). b || w.marks j) (sym (mem-append j (p s w) (parts_of g p ss (g s w))))
-    where
-      turned : (a b c : Bool) → (a || (b || c)) ≡ (b || a || c)
-      turned true true c = refl
-      turned true false c = refl
-      turned false true c = refl
-      turned false false c = refl
 
   pub walk_marks : (f u : ℕ) (w : Way) (j : ℕ) → (walk S f u w).marks j ≡ (mem j (part S f u w) || w.marks j)
   walk_marks zero u w j = refl
   walk_marks (suc f) u w j = pick (w.marks u) (walk_marks f)
     where
       shift : (a b c : Bool) → (a || (b || c)) ≡ (a || (b || false) || c)
-      shift true b c = refl
-      shift false true c = refl
-      shift false false c = refl
+      shift a b c = ap (λ (d : Bool). a || (d || c)) (sym (or-false b)) ∙ sym (or_assoc a (b || false) c)
 
       pick : (b : Bool) → ((v : ℕ) (x : Way) (i : ℕ) → (walk S f v x).marks i ≡ (mem i (part S f v x) || x.marks i))
           → (choose b (λ _. w) (λ _. enter u (through (walk S f) (S u) (mark u w)))).marks j
@@ -97,7 +91,7 @@ module _ (S : ℕ → List ℕ) where
 
   -- what is not marked after was not marked before
   pub walk_unmarked : (f u : ℕ) (w : Way) (j : ℕ) → (walk S f u w).marks j ≡ false → w.marks j ≡ false
-  walk_unmarked f u w j e = (or-none (mem j (part S f u w)) (w.marks j) (sym (walk_marks f u w j) ∙ e)).1
+  walk_unmarked f u w j e = (or_parts (mem j (part S f u w)) (w.marks j) (sym (walk_marks f u w j) ∙ e)).1
 
   listed_through : (g : ℕ → Way → Way) (p : ℕ → Way → List ℕ) → ((u : ℕ) (w : Way) → (g u w).listed ≡ w.listed ++ p u w)
       → (ss : List ℕ) (w : Way) → (through g ss w).listed ≡ w.listed ++ parts_of g p ss w
@@ -136,7 +130,7 @@ module _ (S : ℕ → List ℕ) where
       pick true m h ih = absurd (false≢true h)
       pick false m h ih =
           mem_either j (parts S f (S u) (mark u w)) (u ∷ []) h
-          (λ a. (or-none (eqb j u) (w.marks j) (parts_fresh_by f ih (S u) (mark u w) j a)).1)
+          (λ a. (or_parts (eqb j u) (w.marks j) (parts_fresh_by f ih (S u) (mark u w) j a)).1)
           (λ b. ap w.marks (mem_one j u b) ∙ m)
 
   pub parts_fresh : (f : ℕ) (ss : List ℕ) (w : Way) (j : ℕ) → mem j (parts S f ss w) ≡ true → w.marks j ≡ false
@@ -144,10 +138,10 @@ module _ (S : ℕ → List ℕ) where
 
   -- a marked node is not listed
   pub part_off : (f u : ℕ) (w : Way) (j : ℕ) → w.marks j ≡ true → mem j (part S f u w) ≡ false
-  part_off f u w j e = else_false (mem j (part S f u w)) (λ h. not_both e (part_fresh f u w j h))
+  part_off f u w j e = false_from_ne_true (mem j (part S f u w)) (λ h. not_both e (part_fresh f u w j h))
 
   pub parts_off : (f : ℕ) (ss : List ℕ) (w : Way) (j : ℕ) → w.marks j ≡ true → mem j (parts S f ss w) ≡ false
-  parts_off f ss w j e = else_false (mem j (parts S f ss w)) (λ h. not_both e (parts_fresh f ss w j h))
+  parts_off f ss w j e = false_from_ne_true (mem j (parts S f ss w)) (λ h. not_both e (parts_fresh f ss w j h))
 
   -- so the node itself comes last, and once
   pub parts_without : (f u : ℕ) (ss : List ℕ) (w : Way) → mem u (parts S f ss (mark u w)) ≡ false
@@ -159,7 +153,7 @@ module _ (S : ℕ → List ℕ) where
   Closed P w = (x : ℕ) → P x ≡ true → w.marks x ≡ false → (y : ℕ) → mem y (S x) ≡ true → P y ≡ true
 
   closed_mark : (P : ℕ → Bool) (u : ℕ) (w : Way) → Closed P w → Closed P (mark u w)
-  closed_mark P u w h x e m = h x e (or-none (eqb x u) (w.marks x) m).1
+  closed_mark P u w h x e m = h x e (or_parts (eqb x u) (w.marks x) m).1
 
   parts_inside_by : (f : ℕ) (P : ℕ → Bool) → ((u : ℕ) (w : Way) → Closed P w → P u ≡ true → (j : ℕ) → mem j (part S f u w) ≡ true → P j ≡ true)
       → (ss : List ℕ) (w : Way) → Closed P w → ((s : ℕ) → mem s ss ≡ true → P s ≡ true) → (j : ℕ) → mem j (parts S f ss w) ≡ true → P j ≡ true
@@ -185,7 +179,7 @@ module _ (S : ℕ → List ℕ) where
 
 pub lay_marks : (xs : List ℕ) (q : Way) (j : ℕ) → (lay xs q).marks j ≡ (mem j xs || q.marks j)
 lay_marks [] q j = refl
-lay_marks (x ∷ xs) q j = lay_marks xs (lay_one x q) j ∙ ap (λ (b : Bool). mem j xs || b) (one (q.marks x) refl) ∙ swap (mem j xs) (eqb j x) (q.marks j)
+lay_marks (x ∷ xs) q j = lay_marks xs (lay_one x q) j ∙ ap (λ (b : Bool). mem j xs || b) (one (q.marks x) refl) ∙ or_turned (mem j xs) (eqb j x) (q.marks j)
   where
     one : (b : Bool) → q.marks x ≡ b → (choose b (λ _. q) (λ _. enter x (mark x q))).marks j ≡ (eqb j x || q.marks j)
     one true e = in_it (eqb j x) refl
@@ -194,12 +188,6 @@ lay_marks (x ∷ xs) q j = lay_marks xs (lay_one x q) j ∙ ap (λ (b : Bool). m
         in_it true h = ap q.marks (eqb-true j x h) ∙ e
         in_it false h = refl
     one false e = refl
-
-    swap : (a b c : Bool) → (a || (b || c)) ≡ (b || a || c)
-    swap true true c = refl
-    swap true false c = refl
-    swap false true c = refl
-    swap false false c = refl
 
 -- what is marked already is not copied
 pub lay_marked : (xs : List ℕ) (q : Way) → ((j : ℕ) → mem j xs ≡ true → q.marks j ≡ true) → lay xs q ≡ q
@@ -213,10 +201,10 @@ mark_swap u x q = λ i. record { marks = λ j. or_swap (eqb j x) (eqb j u) (q.ma
 
 lay-mark : (u : ℕ) (xs : List ℕ) (q : Way) → mem u xs ≡ false → lay xs (mark u q) ≡ mark u (lay xs q)
 lay-mark u [] q e = refl
-lay-mark u (x ∷ xs) q e = ap (λ (v : Way). lay xs v) (one (q.marks x) refl) ∙ lay-mark u xs (lay_one x q) (or-none (eqb u x) (mem u xs) e).1
+lay-mark u (x ∷ xs) q e = ap (λ (v : Way). lay xs v) (one (q.marks x) refl) ∙ lay-mark u xs (lay_one x q) (or_parts (eqb u x) (mem u xs) e).1
   where
     other : eqb x u ≡ false
-    other = ne_eqb x u (λ p. eqb-false u x (or-none (eqb u x) (mem u xs) e).0 (sym p))
+    other = ne_eqb x u (λ p. eqb-false u x (or_parts (eqb u x) (mem u xs) e).0 (sym p))
 
     one : (b : Bool) → q.marks x ≡ b → choose (eqb x u || q.marks x) (λ _. mark u q) (λ _. enter x (mark x (mark u q))) ≡ mark u (choose b (λ _. q) (λ _. enter x (mark x q)))
     one true m = ap (λ (b : Bool). choose b (λ _. mark u q) (λ _. enter x (mark x (mark u q)))) (or_right (eqb x u) m)
@@ -239,7 +227,7 @@ module _ (S : ℕ → List ℕ) where
       record {
         has = λ j e. or_one (eqb j u) (o.marks j) e (λ h. or_left (q.marks j) h) (λ h. or_right (eqb j u) (a.has j h));
         closed = λ x e m y h.
-            let n = or-none (eqb x u) (o.marks x) m in
+            let n = or_parts (eqb x u) (o.marks x) m in
             or_one (eqb x u) (q.marks x) e (λ t. not_both t n.0) (λ t. or_right (eqb y u) (a.closed x t n.1 y h));
       }
 
@@ -250,7 +238,7 @@ module _ (S : ℕ → List ℕ) where
       record {
         has = λ j e. or_one (mem j xs) (o.marks j) (sym (mo j) ∙ e) (λ h. mq j ∙ or_left (q.marks j) h) (λ h. mq j ∙ or_right (mem j xs) (a.has j h));
         closed = λ x e m y h.
-            let n = or-none (mem x xs) (o.marks x) (sym (mo x) ∙ m) in
+            let n = or_parts (mem x xs) (o.marks x) (sym (mo x) ∙ m) in
             or_one (mem x xs) (q.marks x) (sym (mq x) ∙ e) (λ t. not_both t n.0) (λ t. mq y ∙ or_right (mem y xs) (a.closed x t n.1 y h));
       }
 
@@ -278,7 +266,7 @@ module _ (S : ℕ → List ℕ) where
       pick : (b : Bool) → q.marks u ≡ b → ((v : ℕ) (x y : Way) → Ahead x y → walk S f v y ≡ lay (part S f v x) y) → walk S (suc f) u q ≡ lay (part S (suc f) u o) q
       pick true e ih = walk_seen S (suc f) u q e ∙ sym (lay_marked (part S (suc f) u o) q (part_ahead (suc f) u o q a e))
       pick false e ih =
-          let new : o.marks u ≡ false = else_false (o.marks u) (λ h. not_both (a.has u h) e) in
+          let new : o.marks u ≡ false = false_from_ne_true (o.marks u) (λ h. not_both (a.has u h) e) in
           let ps : List ℕ = parts S f (S u) (mark u o) in
           let without : mem u ps ≡ false = parts_without S f u (S u) o in
           walk_new S f u q e

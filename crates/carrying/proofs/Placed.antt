@@ -10,17 +10,15 @@ use borrow.Author.Tests.{eq-eqb, ne_eqb, ltb-true, ltb-false, leb-true, lt-ltb, 
 use lib.Dec.{ltb, leb, eqb}
 use lib.ListN.{length, take, drop}
 use lib.Seq.{take_all}
+use Rattle.std.proofs.Math.Seq.{drop-nil}
+use Rattle.std.proofs.lemmas.Bool.{false_from_ne_true}
 use Rattle.reading.specs.Table.{mem}
 use Rattle.reading.specs.Order.{Once}
 use Rattle.reading.proofs.Table.{or_right, or_left, mem_other}
 use Rattle.graph.specs.Late.{place}
 use Rattle.graph.proofs.Late.{place-head, place_other}
 use Rattle.carrying.specs.Carried.{up_to, past}
-use Rattle.carrying.proofs.Lists.{or_one, not_both, else_false}
-
-drop-none : (a : ℕ) → ◌≡◌ {A = List ℕ} (drop a []) []
-drop-none zero = refl
-drop-none (suc a) = refl
+use Rattle.carrying.proofs.Lists.{or_one, not_both}
 
 -- a node whose place is between two others stands in that part
 pub index_in : (l : List ℕ) (a e t : ℕ) → a ≤ place l t → place l t < e → e ≤ length l → mem t (drop a (take e l)) ≡ true
@@ -49,8 +47,8 @@ mem-take (suc n) (x ∷ l) t e = or_one (eqb t x) (mem t (take n l)) e (λ h. or
 
 -- and only such a one, where each node stands once
 pub index_of : (l : List ℕ) (a e t : ℕ) → Once l → mem t (drop a (take e l)) ≡ true → (a ≤ place l t) × (place l t < e)
-index_of l a zero t o m = absurd (false≢true (ap (mem t) (sym (drop-none a)) ∙ m))
-index_of [] a (suc e) t o m = absurd (false≢true (ap (mem t) (sym (drop-none a)) ∙ m))
+index_of l a zero t o m = absurd (false≢true (ap (mem t) (sym (drop-nil a)) ∙ m))
+index_of [] a (suc e) t o m = absurd (false≢true (ap (mem t) (sym (drop-nil a)) ∙ m))
 index_of (x ∷ l) zero (suc e) t o m = pick (ℕ_discrete x t) (λ i. index_of l zero e t o.1 i)
   where
     pick : Dec (x ≡ t) → (mem t (take e l) ≡ true → (0 ≤ place l t) × (place l t < e)) → (0 ≤ place (x ∷ l) t) × (place (x ∷ l) t < suc e)
@@ -116,7 +114,7 @@ module _ (l : List ℕ) (once : Once l) (a k t : ℕ) where
       pick true e = refl
       pick false e =
           ap not
-          (else_false (mem t (drop a (take (suc (place l k)) l)))
+          (false_from_ne_true (mem t (drop a (take (suc (place l k)) l)))
           (λ m. let x = index_of l a (suc (place l k)) t once m in free e x.0 (le_of_suc-le-suc x.1)))
 
   pub copies_no : (b : Bool) → (a ≤ place l k → place l k < length l → (b ≡ false → a ≤ place l t → place l t ≤ place l k → ⊥) → ⊥)
@@ -126,7 +124,7 @@ module _ (l : List ℕ) (once : Once l) (a k t : ℕ) where
       pick : (c : Bool) → mem k (drop a l) ≡ c → (c && (b || not (mem t (up_to k (drop a l))))) ≡ false
       pick true e =
           let x = index_of l a (length l) k once (ap (λ (r : List ℕ). mem k (drop a r)) (take_all (length l) l (le_refl _)) ∙ e) in
-          else_false (b || not (mem t (up_to k (drop a l)))) (λ y. h x.0 x.1 (λ f g i. not_both y
+          false_from_ne_true (b || not (mem t (up_to k (drop a l)))) (λ y. h x.0 x.1 (λ f g i. not_both y
           (ap (λ (c : Bool). c || not (mem t (up_to k (drop a l)))) f
           ∙ ap (λ (r : List ℕ). not (mem t r)) (up_to_index l a k x.0 x.1)
           ∙ ap not (index_in l a (suc (place l k)) t g (suc-le-suc i) x.1))))

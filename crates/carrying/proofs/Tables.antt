@@ -7,6 +7,7 @@ use native.Mathlib.Omega.{arith}
 use lib.Dec.{eqb, lit<}
 use lib.ListN.{length, length-append}
 use borrow.Author.Tests.{eq-eqb, ne_eqb, eqb-true, eqb-false}
+use Rattle.std.proofs.lemmas.Bool.{or_parts}
 use Rattle.reading.specs.Table.{mem}
 use Rattle.reading.specs.Order.{Wire, sources, wire}
 use Rattle.reading.specs.Visit.{choose}
@@ -15,7 +16,7 @@ use Rattle.graph.specs.Visit.{visiting_list}
 use Rattle.graph.specs.Listed.{SourcesBelow}
 use Rattle.carrying.specs.Carried.{Way, Carried, Change, mark, enter, through, walk, on_way, copies, copy, turn, look, skim, fresh, carry, added, wired, older, newer, pulled}
 use Rattle.carrying.specs.Skimming.{edit, go_at, skim_all}
-use Rattle.carrying.proofs.Lists.{or-none, mem_parts, mem_neither, through-append}
+use Rattle.carrying.proofs.Lists.{mem_parts, mem_neither, through-append}
 use Rattle.carrying.proofs.Carry.{carry_is}
 use Rattle.carrying.proofs.Distinct.{walk_distinct, mem_distinct, distinct_new, distinct_again, Around, distinct_around}
 use Rattle.carrying.proofs.Wires.{visiting-walk, sources-append, sources_here, sources_other, newest, none-newer}
@@ -31,8 +32,8 @@ module _ (T S : ℕ → List ℕ) (a : Bool) (s t : ℕ) (front back : List ℕ)
   turns_not : (g : ℕ → Carried → Carried) (xs : List ℕ) (c : Carried) → mem s xs ≡ false → through (λ x y. choose (true && eqb x s) (λ _. turn g d y) (λ _. g x y)) xs c ≡ through g xs c
   turns_not g [] c e = refl
   turns_not g (x ∷ xs) c e =
-      ap (λ (b : Bool). through (λ x y. choose (true && eqb x s) (λ _. turn g d y) (λ _. g x y)) xs (choose b (λ _. turn g d c) (λ _. g x c))) (other x (or-none (eqb s x) (mem s xs) e).0)
-      ∙ turns_not g xs (g x c) (or-none (eqb s x) (mem s xs) e).1
+      ap (λ (b : Bool). through (λ x y. choose (true && eqb x s) (λ _. turn g d y) (λ _. g x y)) xs (choose b (λ _. turn g d c) (λ _. g x c))) (other x (or_parts (eqb s x) (mem s xs) e).0)
+      ∙ turns_not g xs (g x c) (or_parts (eqb s x) (mem s xs) e).1
     where
       other : (y : ℕ) → eqb s y ≡ false → eqb y s ≡ false
       other y h = pick (eqb y s) refl

@@ -7,7 +7,9 @@ ghost use Rattle.carrying.specs.Skimming.{Room, LaidPart, AsksOf, SkimmedBy, Car
 use graph::graph::{Order, Places};
 use sources::sources::Sources;
 
-// A wire from `source` to `target` is added, or else pulled.
+// A wire from `source` to `target` is added, or else pulled. A flag, read by one `if`, not an enum of the
+// two: the walk reads both ends at every step, whichever it is, and would match first to take the same two
+// numbers out of either. Indices, as the walk goes by them; the table has bytes, a record 16 bits.
 #[derive(Clone, Copy)]
 pub struct Change {
     pub adding: bool,
@@ -34,8 +36,8 @@ struct Ground<'a> {
     change: Change,
 }
 
-// A carried walk under way: the marks, the list so far, and from which place on the old list is still to
-// come.
+// A carried walk under way: the mark of each node, the list so far, and from which place on the old list
+// is still to come.
 #[derive(Clone, Copy)]
 struct Walk {
     marks: [bool; 64],
@@ -77,10 +79,7 @@ impl Walk {
             return;
         }
         self.marks[node] = true;
-        let sources = ground.sources;
-        let first = 8 * node;
-        let count = usize::from(sources.counts[node]);
-        for &source in &sources.lists[first..first + count] {
+        for &source in ground.sources.of(node) {
             let source = usize::from(source);
             if !self.marks[source] {
                 if !change.is(source, node) {

@@ -10,7 +10,8 @@ use Rattle.boards.specs.Wires.{wires_of}
 use Rattle.graph.specs.Late.{is_late, late_wires}
 use Rattle.graph.proofs.Late.{late-more}
 use Rattle.text.specs.Written.{spaced}
-use Rattle.text.proofs.Writing.{take_snoc, pair-length}
+use Rattle.std.proofs.lemmas.List.{take_more}
+use Rattle.text.proofs.Writing.{pair-length}
 use Rattle.text.proofs.Digits.{two_digits}
 use Rattle.listing.specs.Text.{spaced_all, line, late_word, late_lines}
 
@@ -28,7 +29,7 @@ all_one v = append-nil (spaced v)
 -- one node more
 pub all_snoc : (l : List ℕ) (i v : ℕ) → v ≡ get_or l i 0 → i < length l → spaced_all (take (i + 1) l) ≡ spaced_all (take i l) ++ spaced v
 all_snoc l i v is h =
-    ap spaced_all (take_snoc l i h ∙ rw is) ∙ all_append (take i l) (v ∷ []) ∙ ap (λ (x : List ℕ). spaced_all (take i l) ++ x) (all_one v)
+    ap spaced_all (take_more l i 0 h ∙ rw is) ∙ all_append (take i l) (v ∷ []) ∙ ap (λ (x : List ℕ). spaced_all (take i l) ++ x) (all_one v)
 
 -- ---- lines
 

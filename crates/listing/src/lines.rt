@@ -1,7 +1,7 @@
 // The lines of a board: its visiting list, and its late wires.
 ghost use Rattle.std.specs.Prelude.{◌≡◌, [], ◌∷◌, ◌++◌, ◌+◌, ◌*◌, ◌<◌, ◌≤◌, length, take};
 ghost use Rattle.boards.specs.Judge.{read_board};
-ghost use Rattle.boards.specs.Wires.{Within, Joined, wires_of};
+ghost use Rattle.boards.specs.Wires.{Within, wires_of};
 ghost use Rattle.graph.specs.Late.{late_wires};
 ghost use Rattle.text.specs.Written.{Appends};
 ghost use Rattle.listing.specs.Text.{spaced_all, line, order_word, late_word, refused_word, late_lines, order_text, text_of};
@@ -32,11 +32,11 @@ fn push_late(out: &mut Text<2048>, source: u8, target: u8)
 
 // A line for each late wire.
 fn push_lates(out: &mut Text<2048>, order: &Order, wires: &Wires)
-    requires { (length out.old + 11 * wires.now.count + 16 ≤ 2048) × (wires.now.count ≤ 128) × (length wires.now.list ≡ 128) × Joined 64 wires.now.list wires.now.count }
+    requires { length out.old + 11 * wires.now.count + 16 ≤ 2048 }
     ensures { out.new ≡ out.old ++ late_lines (late_wires (take order.now.count order.now.nodes) (wires_of wires.now.list wires.now.count)) }
 {
     let places = order.places();
-    for &(source, target) in &wires.list[..wires.count] {
+    for &(source, target) in wires.listed() {
         if places.is_late(usize::from(source), usize::from(target)) {
             push_late(out, source, target);
         }
@@ -45,7 +45,6 @@ fn push_lates(out: &mut Text<2048>, order: &Order, wires: &Wires)
 
 // The text of a board with these wires and this visiting list.
 pub fn listed_text(order: &Order, wires: &Wires) -> Text<2048>
-    requires { (wires.now.count ≤ 128) × (length wires.now.list ≡ 128) × Joined 64 wires.now.list wires.now.count }
     ensures { result ≡ order_text (take order.now.count order.now.nodes) (wires_of wires.now.list wires.now.count) }
 {
     let mut out = Text::new();

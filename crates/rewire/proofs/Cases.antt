@@ -1,18 +1,18 @@
 -- Lines of changes by computation: "+ 3 0", "- 12 65535", a node's number that is too large, a word too many, and an empty line. Assumes
 -- nothing.
 use mathlib.Core.Path.{◌≡◌, refl}
-use mathlib.Core.Bool.{true, false}
 use mathlib.Core.List.{[], ◌∷◌}
 use Rattle.decimals.specs.Number.{digit_of, read_from, whole_of}
 use Rattle.text.specs.Words.{ahead, word_at}
 use Rattle.std.specs.Prelude.{Some, None, Ok}
+use Rattle.rewire.specs.declared.change.Request.TheVariants.{Add, Pull}
 use Rattle.rewire.specs.Change.{no_change, change_of}
 
-pub adds : change_of (43 ∷ 32 ∷ 51 ∷ 32 ∷ 48 ∷ []) ≡ Ok (Some (record { adding = true; source = 3; target = 0 }))
+pub adds : change_of (43 ∷ 32 ∷ 51 ∷ 32 ∷ 48 ∷ []) ≡ Ok (Some (Add 3 0))
 unfolding change_of word_at ahead whole_of read_from digit_of
 adds = refl
 
-pub pulls : change_of (45 ∷ 32 ∷ 49 ∷ 50 ∷ 32 ∷ 54 ∷ 53 ∷ 53 ∷ 51 ∷ 53 ∷ []) ≡ Ok (Some (record { adding = false; source = 12; target = 65535 }))
+pub pulls : change_of (45 ∷ 32 ∷ 49 ∷ 50 ∷ 32 ∷ 54 ∷ 53 ∷ 53 ∷ 51 ∷ 53 ∷ []) ≡ Ok (Some (Pull 12 65535))
 unfolding change_of word_at ahead whole_of read_from digit_of
 pulls = refl
 

@@ -1,8 +1,8 @@
 -- A change that is made leaves a board as long as is said, and its answer is that board's. Assumes nothing.
-use mathlib.Core.Path.{◌≡◌, refl, sym, ap, subst, ◌∙◌}
-use mathlib.Core.Bool.{Bool, true, false, cond}
+use mathlib.Core.Path.{◌≡◌, refl, sym, ap, ◌∙◌}
+use mathlib.Core.Bool.{Bool, true, false}
 use mathlib.Core.List.{List}
-use Prim.Native.Nat.{ℕ, ◌+◌, ◌-◌, ◌≤◌}
+use Prim.Native.Nat.{ℕ, ◌+◌, ◌-◌, ◌<◌, ◌≤◌}
 use native.Mathlib.Omega.{arith}
 use borrow.Author.Tests.{eq-eqb, ne_eqb, eqb-true, eqb-false}
 use lib.Dec.{eqb}
@@ -19,57 +19,49 @@ use Rattle.wiring.specs.declared.rewire.Wiring.{Wiring}
 use Rattle.wiring.proofs.Answered.{lent_refused}
 use Rattle.wiring.proofs.Changes.{added_leaves, pulled_leaves}
 use Rattle.wiring.proofs.Written.{read_long}
-use Rattle.rewire.specs.declared.change.Change.{Change}
-use Rattle.rewire.specs.Step.{made_of, length_after, Plays}
+use Rattle.rewire.specs.declared.change.Request.{Request}
+use Rattle.rewire.specs.declared.change.Request.TheVariants.{Add, Pull}
+use Rattle.rewire.specs.Step.{made_of, changed_length, length_after, Room, Plays}
 
 -- an answer and bytes, of which the first n are the board that the answer is of
 pub record Made (r : Wiring × List ℕ) (n : ℕ) : Type 0 where
   pub within : n ≤ length r.1
+  pub small : Bytes r.1
   pub answers : r.0 ≡ wiring_by (read_board (take n r.1))
 
 leaves_made : {p : Parsed} {ws : List Wire} {r : Wiring × List ℕ} {n : ℕ} → Leaves p ws r n → Made r n
-leaves_made l = record { within = l.within; answers = l.answer ∙ sym (ap wiring_by l.reads) }
+leaves_made l = record { within = l.within; small = l.are_bytes; answers = l.answer ∙ sym (ap wiring_by l.reads) }
 
 -- ---- either change
 
-module _ (c : Change) (bytes : List ℕ) (n : ℕ) (plays : Plays bytes n) (small : Bytes bytes) where
-  abbrev adds : Wiring × List ℕ
-  adds = add_of bytes n c.source c.target
+module _ (bytes : List ℕ) (n : ℕ) (plays : Plays bytes n) (small : Bytes bytes) where
+  either_made : (c : Request) → (made_of c bytes n).0.number ≡ 0 → Made (made_of c bytes n) (changed_length c n)
+  unfolding made_of
+  either_made (Add s t) z = leaves_made (added_leaves bytes small n plays.parsed plays.reads s t z)
+  either_made (Pull s t) z = leaves_made (pulled_leaves bytes small n plays.parsed plays.reads s t z)
 
-  abbrev pulls : Wiring × List ℕ
-  pulls = pull_of bytes n c.source c.target
+  either_kept : (c : Request) → ((made_of c bytes n).0.number ≡ 0 → ⊥) → (made_of c bytes n).1 ≡ bytes
+  unfolding made_of add_of pull_of
+  either_kept (Add s t) o = lent_refused bytes (n + 8) (added_board s t (take n bytes)) (ne_eqb _ 0 o)
+  either_kept (Pull s t) o = lent_refused bytes n (pulled_board s t (take n bytes)) (ne_eqb _ 0 o)
 
-  either_made : (b : Bool) → (cond b adds pulls).0.number ≡ 0 → Made (cond b adds pulls) (cond b (n + 8) (n - 8))
-  either_made true z = leaves_made (added_leaves bytes small n plays.parsed plays.reads c.source c.target z)
-  either_made false z = leaves_made (pulled_leaves bytes small n plays.parsed plays.reads c.source c.target z)
+  -- there is room for the new board; the board that a wire is pulled from has its 8 bytes
+  pub made_room : (c : Request) → (made_of c bytes n).0.number ≡ 0 → length (made_of c bytes n).1 < 18446744073709551616 → Room c n
+  unfolding made_of
+  made_room (Add s t) z l = let m = either_made (Add s t) z in omega (arith, m.within, l)
+  made_room (Pull s t) z l =
+      let new = pulled_leaves bytes small n plays.parsed plays.reads s t z in
+      let rest = take (n - 8) (pull_of bytes n s t).1 in
+      omega (arith, read_long rest (bytes_front (n - 8) (pull_of bytes n s t).1 new.are_bytes) _ new.reads, length-take-le (n - 8) (pull_of bytes n s t).1 new.within)
 
-  either_kept : (b : Bool) → ((cond b adds pulls).0.number ≡ 0 → ⊥) → (cond b adds pulls).1 ≡ bytes
-  unfolding add_of pull_of
-  either_kept true o = lent_refused bytes (n + 8) (added_board c.source c.target (take n bytes)) (ne_eqb _ 0 o)
-  either_kept false o = lent_refused bytes n (pulled_board c.source c.target (take n bytes)) (ne_eqb _ 0 o)
-
-  -- the board that a wire is pulled from has its 8 bytes
-  pull_room : pulls.0.number ≡ 0 → 8 ≤ n
-  pull_room z =
-      let l = pulled_leaves bytes small n plays.parsed plays.reads c.source c.target z in
-      let new = take (n - 8) pulls.1 in
-      omega (arith, read_long new (bytes_front (n - 8) pulls.1 l.are_bytes) _ l.reads, length-take-le (n - 8) pulls.1 l.within)
-
+module _ (c : Request) (bytes : List ℕ) (n : ℕ) (plays : Plays bytes n) (small : Bytes bytes) where
   -- the board's length after a change, made or refused
-  after_made : (made_of c bytes n).0.number ≡ 0 → length_after c n (made_of c bytes n).0 ≡ cond c.adding (n + 8) (n - 8)
+  after_made : (made_of c bytes n).0.number ≡ 0 → length_after c n (made_of c bytes n).0 ≡ changed_length c n
   unfolding length_after
   after_made z = rw (eq-eqb (made_of c bytes n).0.number 0 z)
 
   pub made : (made_of c bytes n).0.number ≡ 0 → Made (made_of c bytes n) (length_after c n (made_of c bytes n).0)
-  unfolding made_of
-  made z = rw (after_made z) (either_made c.adding z)
-
-  pub made_longer : (made_of c bytes n).0.number ≡ 0 → c.adding ≡ true → n + 8 ≤ length (made_of c bytes n).1
-  made_longer z e = subst (λ (m : ℕ). m ≤ length (made_of c bytes n).1) (after_made z ∙ ap (λ (b : Bool). cond b (n + 8) (n - 8)) e) (made z).within
-
-  pub pulled_room : (made_of c bytes n).0.number ≡ 0 → c.adding ≡ false → 8 ≤ n
-  unfolding made_of
-  pulled_room z e = pull_room (ap (λ (b : Bool). (cond b adds pulls).0.number) (sym e) ∙ z)
+  made z = rw (after_made z) (either_made bytes n plays small c z)
 
   -- an answer of 0 is that of a board
   made_plays : (r : Wiring × List ℕ) (m : ℕ) → Made r m → r.0.number ≡ 0 → Plays r.1 m
@@ -81,8 +73,8 @@ module _ (c : Change) (bytes : List ℕ) (n : ℕ) (plays : Plays bytes n) (smal
       go (whole p) e f = record { within = d.within; parsed = p; reads = e }
 
   refused_plays : ((made_of c bytes n).0.number ≡ 0 → ⊥) → Plays (made_of c bytes n).1 (length_after c n (made_of c bytes n).0)
-  unfolding made_of length_after
-  refused_plays o = rw (ne_eqb (cond c.adding adds pulls).0.number 0 o, either_kept c.adding o) plays
+  unfolding length_after
+  refused_plays o = rw (ne_eqb (made_of c bytes n).0.number 0 o, either_kept bytes n plays small c o) plays
 
   pub after_plays : Plays (made_of c bytes n).1 (length_after c n (made_of c bytes n).0)
   after_plays = go (eqb (made_of c bytes n).0.number 0) refl

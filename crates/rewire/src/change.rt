@@ -1,17 +1,18 @@
 // A change of wires: what a line of text says, and how it is written again.
-ghost use Rattle.std.specs.Prelude.{◌≡◌, [], ◌∷◌, cond};
+ghost use Rattle.std.specs.Prelude.{◌≡◌, ◌≤◌, [], ◌∷◌, length};
+ghost use Rattle.text.specs.Written.{pair};
 ghost use Rattle.rewire.specs.Change.{signed, change_of, change_line};
 
 use decimals::number::whole_of;
 use text::words::word_at;
 use text::written::Text;
 
-// A wire to add, or to pull.
+// A wire to add or to pull, by its source and its target, as the two calls take them. `carrying` has a
+// `Change` of its own, by indices, for the walk below those calls.
 #[derive(Clone, Copy)]
-pub struct Change {
-    pub adding: bool,
-    pub source: u16,
-    pub target: u16,
+pub enum Request {
+    Add(u16, u16),
+    Pull(u16, u16),
 }
 
 // A line that is not empty, and says no change.
@@ -19,23 +20,18 @@ pub struct Change {
 pub struct NoChange;
 
 // The change of this sign.
-fn signed(sign: u8, source: u16, target: u16) -> Result<Option<Change>, NoChange>
+fn signed(sign: u8, source: u16, target: u16) -> Result<Option<Request>, NoChange>
     ensures { result ≡ signed sign source target }
 {
-    let adding = match sign {
-        b'+' => true,
-        b'-' => false,
-        _ => return Err(NoChange),
-    };
-    Ok(Some(Change {
-        adding,
-        source,
-        target,
-    }))
+    match sign {
+        b'+' => Ok(Some(Request::Add(source, target))),
+        b'-' => Ok(Some(Request::Pull(source, target))),
+        _ => Err(NoChange),
+    }
 }
 
 // Reads a line: a sign and two numbers of nodes, apart by spaces; or nothing.
-pub fn change_of(line: &[u8]) -> Result<Option<Change>, NoChange>
+pub fn change_of(line: &[u8]) -> Result<Option<Request>, NoChange>
     ensures { result ≡ change_of line.now }
 {
     let sign = word_at(line, 0);
@@ -48,33 +44,27 @@ pub fn change_of(line: &[u8]) -> Result<Option<Change>, NoChange>
     if !word_at(line, 3).is_empty() {
         return Err(NoChange);
     }
-    let Some(source) = whole_of(word_at(line, 1), 65535) else {
-        return Err(NoChange);
-    };
-    let Some(target) = whole_of(word_at(line, 2), 65535) else {
-        return Err(NoChange);
-    };
+    let source = whole_of(word_at(line, 1), 65535).ok_or(NoChange)?;
+    let target = whole_of(word_at(line, 2), 65535).ok_or(NoChange)?;
     signed(sign[0], source as u16, target as u16)
 }
 
-// The sign of a change.
-fn sign(adding: bool) -> &'static [u8]
-    ensures { result.now ≡ cond adding 43 45 ∷ 32 ∷ [] }
-{
-    if adding { b"+ " } else { b"- " }
-}
-
-// The change as a line of the output.
-pub fn change_text(change: Change) -> Text<32>
-    ensures { result ≡ change_line change }
+// A line of the output: a sign and a space, source and target.
+fn line(sign: &[u8], source: u16, target: u16) -> Text<32>
+    requires { length sign.now ≤ 2 }
+    ensures { result ≡ pair sign.now source (32 ∷ []) target (10 ∷ []) }
 {
     let mut out = Text::new();
-    out.push_pair(
-        sign(change.adding),
-        u32::from(change.source),
-        b" ",
-        u32::from(change.target),
-        b"\n",
-    );
+    out.push_pair(sign, u32::from(source), b" ", u32::from(target), b"\n");
     out
+}
+
+// The change as a line of the output. A match: each has its own sign.
+pub fn change_text(request: Request) -> Text<32>
+    ensures { result ≡ change_line request }
+{
+    match request {
+        Request::Add(source, target) => line(b"+ ", source, target),
+        Request::Pull(source, target) => line(b"- ", source, target),
+    }
 }

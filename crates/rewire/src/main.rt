@@ -15,27 +15,26 @@ ghost use Rattle.boards.specs.Judge.{judge_of};
 ghost use Rattle.rewire.specs.Step.{made_of, length_after, Plays};
 
 use boards::judge::judge;
-use change::{Change, NoChange, change_of, change_text};
+use change::{NoChange, Request, change_of, change_text};
 use files::name::open_read;
-use input::read_full;
+use input::{is_there, read_full, word};
 use listing::lines::board_text;
-use std::env::{Env, FillError};
 use std::io;
 use std::rt::Files;
 use step::{answer_text, length_after, make};
 use text::words::Lines;
 
 // Makes a change on the board that the first n bytes are, shows it with what came of it, and returns
-// the board's length.
-fn show_change(rt: &impl Print, bytes: &mut [u8], n: usize, change: Change) -> io::Result<usize>
+// the board's length. `bytes, n`, as the calls take them: the spare bytes behind the board are lent with it.
+fn show_change(rt: &impl Print, bytes: &mut [u8], n: usize, request: Request) -> io::Result<usize>
     requires { Plays bytes.old n }
-    ensures made { bytes.new ≡ (made_of change bytes.old n).1 }
-    ensures long { IfOk result (λ m. m ≡ length_after change n (made_of change bytes.old n).0) }
+    ensures made { bytes.new ≡ (made_of request bytes.old n).1 }
+    ensures long { IfOk result (λ m. m ≡ length_after request n (made_of request bytes.old n).0) }
     ensures plays { IfOk result (λ m. Plays bytes.new m) }
 {
-    let answer = make(bytes, n, change);
-    let after = length_after(n, change, &answer);
-    rt.write_all(change_text(change).as_bytes())?;
+    let answer = make(bytes, n, request).checked();
+    let after = length_after(n, request, &answer);
+    rt.write_all(change_text(request).as_bytes())?;
     rt.write_all(answer_text(&answer, &bytes[..after]).as_bytes())?;
     Ok(after)
 }
@@ -48,7 +47,7 @@ fn show_changes(rt: &impl Print, bytes: &mut [u8], board: usize, text: &[u8]) ->
     for (i, line) in Lines::new(text).enumerate() {
         match change_of(line) {
             Ok(None) => {}
-            Ok(Some(change)) => n = show_change(rt, bytes, n, change)?,
+            Ok(Some(request)) => n = show_change(rt, bytes, n, request)?,
             Err(NoChange) => {
                 return println!(rt; "line {} is no change", i.saturating_add(1));
             }
@@ -62,11 +61,11 @@ fn show_board(rt: &impl Print, s: &[u8]) -> io::Result<bool>
     ensures { IfOk result (λ b. b ≡ true → (judge_of s.now).number ≡ 0) }
 {
     rt.write_all(board_text(s).as_bytes())?;
-    Ok(judge(s).number == 0)
+    Ok(judge(s).checked().is_ok())
 }
 
-// The board of an open file, and the changes on standard input. As in `order`, no byte past the buffer's
-// end can change an answer; the longest board has 1,932 bytes and so leaves spare ones for a wire.
+// The board of an open file, and the changes on standard input. No byte past the buffer's end can change an
+// answer (answers::card::MOST); the longest board has 1,932 bytes and so leaves spare ones for a wire.
 fn run<R: Files + Input + Print>(rt: &R, file: R::File) -> io::Result<()> {
     let mut file = file;
     let mut bytes = [0u8; 69632];
@@ -82,19 +81,12 @@ fn run<R: Files + Input + Print>(rt: &R, file: R::File) -> io::Result<()> {
     Ok(())
 }
 
-// Whether there is a word `i`.
-fn is_word(rt: &impl Env, i: usize) -> bool {
-    let mut none = [0u8; 1];
-    !matches!(rt.arg(i, &mut none), Err(FillError::NotPresent))
-}
-
 fn main(rt: HostRuntime) -> io::Result<()> {
-    if !is_word(&rt, 1) | is_word(&rt, 2) {
+    if !is_there(&rt, 1) | is_there(&rt, 2) {
         return rt.write_all(b"rewire BOARD < CHANGES\n");
     }
     let mut name = [0u8; 4096];
-    let k = rt.arg(1, &mut name).unwrap_or(0);
-    let Ok(file) = open_read(&rt, &name[..k]) else {
+    let Ok(file) = open_read(&rt, word(&rt, 1, &mut name)) else {
         return rt.write_all(b"the board cannot be opened\n");
     };
     run(&rt, file)

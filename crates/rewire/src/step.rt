@@ -1,10 +1,12 @@
 // A change made on a board, and what came of it as text.
-ghost use Rattle.std.specs.Prelude.{◌≡◌, true, false, ◌+◌, ◌≤◌, ◌<◌, length};
+ghost use Rattle.std.specs.Prelude.{◌≡◌, IfOk, take};
 ghost use Rattle.boards.specs.Judge.{read_board};
-ghost use Rattle.wiring.specs.Rewire.{wiring_by};
-ghost use Rattle.rewire.specs.Step.{made_of, length_after, answer_text};
+ghost use Rattle.wiring.specs.Rewire.{wiring, wiring_by};
+ghost use Rattle.wiring.specs.Rewiring.{Checked};
+ghost use Rattle.wiring.specs.declared.rewire.Wiring.{Wiring};
+ghost use Rattle.rewire.specs.Step.{made_of, length_after, answer_text, Room};
 
-use crate::change::Change;
+use crate::change::Request;
 use boards::judge::read_board;
 use graph::graph::Order;
 use listing::lines::{listed_text, refusal_text};
@@ -12,51 +14,42 @@ use records::answer::Answer;
 use text::written::Text;
 use wiring::rewire::{Wiring, add_wire, pull_wire};
 
-// Makes a change on the board that the first n bytes are.
-pub fn make(bytes: &mut [u8], n: usize, change: Change) -> Wiring
-    ensures answered { result ≡ (made_of change bytes.old n).0 }
-    ensures bytes { bytes.new ≡ (made_of change bytes.old n).1 }
+// Makes a change on the board that the first n bytes are, lent with the spare bytes behind it, as the calls
+// take them. A match: each changes the length its own way.
+pub fn make(bytes: &mut [u8], n: usize, request: Request) -> Wiring
+    ensures answered { result ≡ (made_of request bytes.old n).0 }
+    ensures bytes { bytes.new ≡ (made_of request bytes.old n).1 }
 {
-    if change.adding {
-        add_wire(bytes, n, change.source, change.target)
-    } else {
-        pull_wire(bytes, n, change.source, change.target)
+    match request {
+        Request::Add(source, target) => add_wire(bytes, n, source, target),
+        Request::Pull(source, target) => pull_wire(bytes, n, source, target),
     }
 }
 
-// The board's length after a change with this answer.
-pub fn length_after(n: usize, change: Change, answer: &Wiring) -> usize
-    requires { answer.now.number ≡ 0 → (change.adding ≡ true → n + 8 < 18446744073709551616) × (change.adding ≡ false → 8 ≤ n) }
-    ensures { result ≡ length_after change n answer.now }
+// The board's length after a change with this answer: a wire's record has 8 bytes. A match: each changes
+// the length its own way.
+pub fn length_after(n: usize, request: Request, answer: &Result<Order, Answer>) -> usize
+    requires { IfOk answer.now (λ _. Room request n) }
+    ensures { (w : Wiring) → Checked w answer.now → result ≡ length_after request n w }
 {
-    if answer.number != 0 {
-        n
-    } else if change.adding {
-        n + 8
-    } else {
-        n - 8
+    match (answer, request) {
+        (Err(_), _) => n,
+        (Ok(_), Request::Add(_, _)) => n + 8,
+        (Ok(_), Request::Pull(_, _)) => n - 8,
     }
 }
 
 // The text of an answer: the refusal, or the lines of the changed board `s` with the answer's list.
-pub fn answer_text(answer: &Wiring, s: &[u8]) -> Text<2048>
-    requires { answer.now.number ≡ 0 → answer.now ≡ wiring_by (read_board s.now) }
-    ensures { result ≡ answer_text answer.now s.now }
+pub fn answer_text(answer: &Result<Order, Answer>, s: &[u8]) -> Text<2048>
+    requires { IfOk answer.now (λ o. wiring 0 0 (take o.count o.nodes) ≡ wiring_by (read_board s.now)) }
+    ensures { (w : Wiring) → Checked w answer.now → result ≡ answer_text w s.now }
 {
-    if answer.number != 0 {
-        return refusal_text(Answer {
-            number: answer.number,
-            place: answer.place,
-        });
-    }
+    let order = match answer {
+        Ok(order) => order,
+        Err(refused) => return refusal_text(*refused),
+    };
     match read_board(s) {
-        Ok(board) => {
-            let order = Order {
-                nodes: answer.listed,
-                count: answer.count as usize,
-            };
-            listed_text(&order, &board.wires)
-        }
+        Ok(board) => listed_text(order, &board.wires),
         Err(refused) => refusal_text(refused),
     }
 }

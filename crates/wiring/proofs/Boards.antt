@@ -72,14 +72,14 @@ takes b t n = sources_fit (get_or b.nodes t blank).kind n
 
 module _ (s : List ℕ) (b : Board) (read : Read (read_board s) (Ok b)) where
   pub below_64 : SourcesBelow (wires_in b) 64
-  below_64 k j e = le_trans (graph.sources_below s b read k j e) read.1.few_nodes
+  below_64 k j e = le_trans (graph.sources_below s b read k j e) b.few
 
   -- each node of its list stands there once
   pub listed_once : (nodes : List ℕ) (count : ℕ) → Lists (visiting_list (wires_in b)) nodes count → Once (take count nodes)
   listed_once nodes count l = subst Once (sym l.same) (lists_reached (wires_in b) below_64).once
 
   pub wires_are : length (wires_in b) ≡ b.wires.count
-  wires_are = wires_length b.wires.list b.wires.count (omega (arith, read.1.wires_long, read.1.few_wires))
+  wires_are = wires_length b.wires.list b.wires.count (omega (arith, b.wires.long, b.wires.few))
 
   reads : read_board s ≡ whole (parsed_of b)
   reads = accepted_board s b read
@@ -95,7 +95,7 @@ module _ (s : List ℕ) (b : Board) (read : Read (read_board s) (Ok b)) where
 
   -- the table's count of a node's sources
   sources_are : (t : ℕ) → t < b.count → length (distinct_sources (wires_in b) t) ≡ get_or b.sources.counts t 0
-  sources_are t h = sym ((graph.gathered s b read).size t (omega (arith, read.1.few_nodes)))
+  sources_are t h = sym ((graph.gathered s b read).size t (omega (arith, b.few)))
 
   kind_is : (t n : ℕ) → t < b.count → takes b t n ≡ sources_fit (get_or (parsed_of b).nodes t blank).kind n
   kind_is t n h = ap (λ (r : NodeRecord). sources_fit r.kind n) (sym (get_or-take b.count b.nodes t blank h))

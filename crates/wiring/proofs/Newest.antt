@@ -11,6 +11,7 @@ use lib.Seq.{take_at}
 use Rattle.std.specs.Prelude.{map, Option, Some, None, IfSome, IsNone, is_some}
 use Rattle.std.proofs.lemmas.List.{take-map}
 use Rattle.reading.specs.Order.{Wire, wire}
+use Rattle.reading.proofs.Table.{or_right}
 use Rattle.boards.specs.Wires.{wire_of}
 use Rattle.carrying.specs.Carried.{joins, wired, older, newer}
 use Rattle.wiring.specs.Rewiring.{newest_place}
@@ -46,10 +47,6 @@ newest_at (p ∷ l) s t (suc i) h j n =
       or_right (joins s t (wire_of p)) ih.0,
       ap (λ (b : Bool). length (cond b (wire_of p ∷ older (map wire_of l) s t) [])) ih.0 ∙ ap suc ih.1,
     )
-  where
-    or_right : (b : Bool) {c : Bool} → c ≡ true → (b || c) ≡ true
-    or_right true q = refl
-    or_right false q = q
 
 -- so an option that says where the newest is, is its place
 pub newest_by : (l : List (ℕ × ℕ)) (s t : ℕ) (o : Option ℕ) → IfSome o (λ i. i < length l) → IfSome o (λ i. Joins l s t i)

@@ -9,6 +9,7 @@ use native.Mathlib.Omega.{arith}
 use borrow.Author.Tests.{ne_eqb}
 use lib.Dec.{eqb}
 use lib.ListN.{length, get_or}
+use Rattle.std.proofs.Math.Bool.{and-false}
 use Rattle.kinds.specs.Kind.{sources_fit}
 use Rattle.kinds.specs.declared.kind.NodeRecord.{NodeRecord}
 use Rattle.reading.specs.Order.{Wire, sources}
@@ -78,11 +79,7 @@ module _ (p : Parsed) (f : Formed p) (input : input_fits p ≡ true) (vs : List 
   -- a wire into the input node
   pub six_into : t ≡ p.input → (length (sources vs t) ≡ 0 → ⊥) → check_six (with_wires p vs) ≡ refused 6 t
   six_into e h =
-      six_input (with_wires p vs) some (rw (ne_eqb (length (sources vs p.input)) 0 (rw e at h)) (neither (pass_at p.nodes p.input))) ∙ ap (refused 6) (sym e)
-    where
-      neither : (b : Bool) → (b && false) ≡ false
-      neither true = refl
-      neither false = refl
+      six_input (with_wires p vs) some (rw (ne_eqb (length (sources vs p.input)) 0 (rw e at h)) (and-false (pass_at p.nodes p.input))) ∙ ap (refused 6) (sym e)
 
   module _ (apart : t ≡ p.input → ⊥) where
     walked : check_six (with_wires p vs) ≡ check_sources (with_wires p vs) 0 p.nodes

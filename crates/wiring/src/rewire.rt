@@ -1,12 +1,13 @@
 // A wire added to a board that plays, or pulled from it: the calls on lent bytes. Everything is judged
-// before anything is written.
+// before anything is written. A wire comes as source and target, two 16-bit numbers as C gives them: bytes
+// in the board's table and indices in the walk, so that one struct of both would fit none of the three.
 ghost use Rattle.std.specs.Prelude.{◌≡◌, ◌++◌, ◌+◌, ◌≤◌, min, ltb, length, take, map};
 ghost use Rattle.std.proofs.lemmas.List.Edits.{sets};
 ghost use Rattle.reading.specs.Order.{wire};
-ghost use Rattle.boards.specs.Wires.{wire_of};
+ghost use Rattle.boards.specs.Wires.{wire_of, Within};
 ghost use Rattle.records.specs.Write.{wire_bytes, end_bytes};
 ghost use Rattle.wiring.specs.Rewire.{wiring, refusal, closed_up, in_front, add_of, pull_of};
-ghost use Rattle.wiring.specs.Rewiring.{newest_place, Adds, Pulls};
+ghost use Rattle.wiring.specs.Rewiring.{newest_place, Adds, Pulls, Checked};
 
 use boards::board::wire_fits;
 use boards::judge::read_board;
@@ -17,7 +18,8 @@ use records::answer::Answer;
 use records::writer::{put_end, put_wire};
 
 // What a change of wires gives back: number and place as every call, and the new board's visiting list,
-// the first `count` bytes of `listed`, with zeros behind them. A refusal's list is empty.
+// the first `count` bytes of `listed`, with zeros behind them. A refusal's list is empty. Numbers and an
+// array with its length: C is handed it so.
 #[repr(C)]
 #[derive(Clone, Copy)]
 pub struct Wiring {
@@ -27,14 +29,37 @@ pub struct Wiring {
     pub listed: [u8; 64],
 }
 
-fn refusal(number: u32, place: u32) -> Wiring
-    ensures { result ≡ refusal number place }
-{
-    Wiring {
-        number,
-        place,
-        count: 0,
-        listed: [0u8; 64],
+impl Wiring {
+    // The same as success or refusal: the visiting list, or what is refused and where.
+    // Ruled out, and tried by a must-fail edit: a refusal that passes (refusal_listed).
+    pub fn checked(&self) -> Result<Order, Answer>
+        requires { self.now.number ≡ 0 → (self.now.count ≤ 64) × Within 64 self.now.listed self.now.count }
+        ensures { Checked self.now result }
+    {
+        if self.number != 0 {
+            return Err(Answer {
+                number: self.number,
+                place: self.place,
+            });
+        }
+        Ok(Order {
+            nodes: self.listed,
+            count: self.count as usize,
+        })
+    }
+}
+
+// A refusal, of an empty list.
+impl From<Answer> for Wiring {
+    ghost from_gives = { λ refused w. w ≡ refusal refused.number refused.place };
+
+    fn from(refused: Answer) -> Wiring {
+        Wiring {
+            number: refused.number,
+            place: refused.place,
+            count: 0,
+            listed: [0; 64],
+        }
     }
 }
 
@@ -47,17 +72,13 @@ fn too_short(lent: usize, n: usize, more: usize) -> bool
 
 // 15: the length needed, n + more, held at the largest place.
 fn no_room(n: usize, more: usize) -> Wiring
-    requires { more ≤ 8 }
     ensures { result ≡ refusal 15 (min (n + more) 4294967295) }
 {
-    if 4294967295 - more < n {
-        refusal(15, 4294967295)
-    } else {
-        refusal(15, (n + more) as u32)
-    }
+    let needed = n.saturating_add(more);
+    Wiring::from(Answer::new(15, needed.min(u32::MAX as usize)))
 }
 
-// 0 and a visiting list.
+// 0 and a visiting list. Not `From`: a list alone is no answer.
 fn listing(order: &Order) -> Wiring
     ensures { result ≡ wiring 0 0 (take order.now.count order.now.nodes) }
 {
@@ -85,8 +106,9 @@ fn added(s: &[u8], source: u16, target: u16) -> Result<Order, Answer>
     ensures { Adds s.now source target result }
 {
     let board = read_board(s)?;
-    let wires = &board.wires.list[..board.wires.count];
-    if !wire_fits(board.count, wires.len(), source, target) {
+    let wires = &board.wires;
+    if !wire_fits(board.count, wires.count, source, target) {
+        // Its record would stand where the end record does.
         return Err(Answer::new(5, s.len() - 4));
     }
     let from = usize::from(source);
@@ -95,17 +117,16 @@ fn added(s: &[u8], source: u16, target: u16) -> Result<Order, Answer>
         return Err(Answer::new(6, to));
     }
     let was = visiting_list(&board.sources);
-    if newest(wires, from, to).is_some() {
+    if newest(wires.listed(), from, to).is_some() {
         return Ok(was);
     }
-    let mut sources = board.sources;
-    let n = usize::from(sources.counts[to]);
+    let n = board.sources.of(to).len();
     let kind = board.nodes[to].kind;
     if !sources_fit(kind, n + 1) {
         return Err(Answer::new(6, to));
     }
-    sources.counts[to] = (n + 1) as u8;
-    sources.lists[8 * to + n] = source as u8;
+    let mut sources = board.sources;
+    sources.push(to, source as u8);
     let change = Change {
         adding: true,
         source: from,
@@ -119,19 +140,20 @@ fn added(s: &[u8], source: u16, target: u16) -> Result<Order, Answer>
 fn pulled(s: &[u8], source: u16, target: u16) -> Result<(Order, usize), Answer>
     ensures { Pulls s.now source target result }
 {
-    let board = read_board(s)?; // 1 to 6 come before 16.
-    let wires = &board.wires.list[..board.wires.count];
+    let board = read_board(s)?; // Its refusals, 1 to 6, come before 16.
+    let wires = board.wires.listed();
     let from = usize::from(source);
     let to = usize::from(target);
     let Some(place) = newest(wires, from, to) else {
         return Err(Answer::new(16, to));
     };
+    // The head has 8 bytes, a node 14, a wire 8.
     let at = 8 + 14 * board.count + 8 * place;
     let was = visiting_list(&board.sources);
     if newest(&wires[..place], from, to).is_some() {
         return Ok((was, at));
     }
-    let n = usize::from(board.sources.counts[to]);
+    let n = board.sources.of(to).len();
     let kind = board.nodes[to].kind;
     if !sources_fit(kind, n - 1) {
         return Err(Answer::new(6, to));
@@ -161,7 +183,7 @@ fn close_bytes(bytes: &mut [u8], at: usize, n: usize)
     bytes.copy_within(at + 8..n, at);
 }
 
-// Adds a wire to the board that the first n bytes are: its record comes before the end record, into the
+// Adds a wire to the board that the first n bytes are, since C lends the spare bytes behind it too: its record comes before the end record, into the
 // spare bytes behind. Answers 0 and the new board's visiting list; or 15, 1 to 6, or 5 or 6 of the
 // changed board, and every byte is as found.
 // Ruled out, and tried by must-fail edits: a length that wraps (length_wraps), a list found from the old
@@ -178,7 +200,7 @@ pub fn add_wire(bytes: &mut [u8], n: usize, source: u16, target: u16) -> Wiring
             put_last(bytes, n - 4, source, target);
             listing(&order)
         }
-        Err(refused) => refusal(refused.number, refused.place),
+        Err(refused) => Wiring::from(refused),
     }
 }
 
@@ -199,6 +221,6 @@ pub fn pull_wire(bytes: &mut [u8], n: usize, source: u16, target: u16) -> Wiring
             close_bytes(bytes, at, n);
             listing(&order)
         }
-        Err(refused) => refusal(refused.number, refused.place),
+        Err(refused) => Wiring::from(refused),
     }
 }

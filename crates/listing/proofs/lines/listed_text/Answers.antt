@@ -26,12 +26,7 @@ pub push_lates-requires : goal.push_lates-requires
 push_lates-requires c =
     let order = c.args.order.now in
     let fits = listed_fits order.nodes order.count c.listed.result.now c.listed.ensures order.long order.fits order.below in
-    let pre = c.requires in (
-      omega (arith, fits.0, c.push_word.ensures.len, ap (λ (l : List ℕ). length l) c.new-out.ensures, c.push_nodes.ensures.short, c.push.ensures.len, pre.0),
-      pre.0,
-      pre.1,
-      pre.2,
-    )
+    omega (arith, fits.0, c.push_word.ensures.len, ap (λ (l : List ℕ). length l) c.new-out.ensures, c.push_nodes.ensures.short, c.push.ensures.len, c.args.wires.now.few)
 
 pub returns : goal.returns
 unfolding order_text

@@ -1,7 +1,6 @@
 -- `listing::lines::push_late` meets its contract: the line has at most 11 bytes. Assumes nothing.
-use mathlib.Core.Path.{◌≡◌, ap, ◌∙◌}
-use mathlib.Core.List.{List, ◌++◌}
-use Prim.Native.Nat.{ℕ}
+use mathlib.Core.Path.{◌≡◌}
+use mathlib.Core.List.{◌++◌}
 use Rattle.listing.specs.Text.{line, late_word}
 use Rattle.text.proofs.Writing.{appends_short}
 use Rattle.listing.proofs.Writing.{late_short}

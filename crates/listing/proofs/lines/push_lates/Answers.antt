@@ -7,9 +7,9 @@ use borrow.Author.Rules.{rules}
 use lib.ListN.{length, take, get_or}
 use lib.Seq.{get_or-take, length-take-le}
 use Rattle.boards.specs.Wires.{wires_of}
+use Rattle.boards.specs.declared.board.Wires.{Wires}
 use Rattle.graph.specs.Late.{is_late, late_wires}
 use Rattle.reading.specs.Order.{wire}
-use Rattle.text.specs.Written.{Appends}
 use Rattle.text.proofs.Writing.{appends_none, appends_both}
 use Rattle.listing.specs.Text.{late_lines}
 use Rattle.listing.proofs.Writing.{lates_hit, lates_miss}
@@ -20,19 +20,26 @@ pub loop-source-init : goal.loop-source-init
 unfolding late_wires late_lines
 loop-source-init c = (omega arith, appends_none _)
 
--- wire i of those in the array
-wire_at : (l : List (ℕ × ℕ)) (n i : ℕ) → n ≤ 128 → length l ≡ 128 → i < length (take n l) → (i < n) × (i < length l) × (get_or (take n l) i (0, 0) ≡ get_or l i (0, 0))
-wire_at l n i few long h =
-    let size = length-take-le n l (omega arith) in
-    (omega (arith, size), omega (arith, size), get_or-take n l i (0, 0) (omega (arith, size)))
+-- wire i of those that are listed, and its ends
+module _ (w : Wires) (i : ℕ) {r : List (ℕ × ℕ)} (listed : r ≡ take w.count w.list) (h : i < length r) where
+  size : length r ≡ w.count
+  size = ap length listed ∙ length-take-le w.count w.list (omega (arith, w.few, w.long))
+
+  wire_at : (i < w.count) × (i < length w.list) × (get_or r i (0, 0) ≡ get_or w.list i (0, 0))
+  wire_at =
+      let inside : i < w.count = omega (arith, size, h) in
+      (inside, omega (arith, inside, w.few, w.long), ap (λ (l : List (ℕ × ℕ)). get_or l i (0, 0)) listed ∙ get_or-take w.count w.list i (0, 0) inside)
+
+  ends : ((get_or r i (0, 0)).0 < 64) × ((get_or r i (0, 0)).1 < 64)
+  ends = rw wire_at.2 (w.joined i wire_at.0)
 
 pub push_late-requires : goal.push_late-requires
 push_late-requires c =
     let wires = c.args.wires.now in
     let at = c.loop-source in
-    let here = wire_at wires.list wires.count at.source-index c.requires.1 c.requires.2 c.loop-source-test.true in
-    let ends = c.requires.3 at.source-index here.0 in
-    (rw here.2 ends.0, rw here.2 ends.1, omega (arith, at.invariant.1.short, c.requires.0, here.0))
+    let here = wire_at wires at.source-index c.listed-source-items.ensures c.loop-source-test.true in
+    let ends = ends wires at.source-index c.listed-source-items.ensures c.loop-source-test.true in
+    (search (rules, ends.0, ends.1), search (rules, ends.0, ends.1), omega (arith, at.invariant.1.short, c.requires, here.0))
 
 pub loop-source-preserved : goal.loop-source-preserved
 loop-source-preserved c =
@@ -41,8 +48,8 @@ loop-source-preserved c =
     let wires = c.args.wires.now in
     let l = take order.count order.nodes in
     let i = at.source-index in
-    let here = wire_at wires.list wires.count i c.requires.1 c.requires.2 c.loop-source-test.true in
-    let p = get_or (take wires.count wires.list) i (0, 0) in
+    let here = wire_at wires i c.listed-source-items.ensures c.loop-source-test.true in
+    let p = get_or c.listed-source-items.result.now i (0, 0) in
     let size : length l ≡ c.places-places.result.count = omega (arith, length-take-le order.count order.nodes (omega (arith, order.long, order.fits)), c.places-places.ensures.size) in
     let judged : is_late l (wire p.0 p.1) ≡ c.is_late.result = rw (← c.from.ensures, ← c.from-in-loop-source.ensures) (sym (c.is_late.ensures l size c.places-places.ensures.placed)) in
     let more : 11 * i + 11 ≡ 11 * (i + 1) = omega arith in
@@ -62,5 +69,6 @@ returns c =
     let at = c.loop-source in
     let wires = c.args.wires.now in
     let order = c.args.order.now in
-    let e : at.source-index ≡ wires.count = omega (arith, length-take-le wires.count wires.list (omega (arith, c.requires.1, c.requires.2))) in
+    let e : at.source-index ≡ wires.count =
+    omega (arith, c.loop-source-test.false, ap length c.listed-source-items.ensures, length-take-le wires.count wires.list (omega (arith, wires.few, wires.long)), at.invariant.0) in
     subst (λ (n : ℕ). at.out ≡ c.args.out.now ++ late_lines (late_wires (take order.count order.nodes) (wires_of wires.list n))) e at.invariant.1.wrote

@@ -1,5 +1,5 @@
 use Prim.Native.Nat.{◌≤◌, ◌*◌}
-use lib.ListN.{length, take}
+use lib.ListN.{take}
 use Rattle.boards.specs.Wires.{wires_of}
 use Rattle.graph.specs.Late.{late_wires}
 use Rattle.text.specs.Written.{Appends}

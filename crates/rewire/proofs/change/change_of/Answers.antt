@@ -4,10 +4,12 @@ use mathlib.Core.List.{List}
 use Prim.Native.Nat.{ℕ}
 use lib.ListN.{length, get_or}
 use Rattle.std.proofs.lemmas.Bool.{eqb-true, eqb-false}
-use Rattle.std.specs.Prelude.{Option, Some, None}
+use Rattle.std.specs.Prelude.{Option, Some, None, Result, Ok, Err, IsErrAnd}
+use Rattle.rewire.specs.declared.change.NoChange.{NoChange}
+use Rattle.rewire.specs.declared.change.Request.{Request}
 use Rattle.decimals.specs.Number.{whole_of}
 use Rattle.text.specs.Words.{word_at}
-use Rattle.rewire.specs.Change.{by_numbers, change_of}
+use Rattle.rewire.specs.Change.{no_change, by_numbers, change_of}
 use Rattle.rewire.proofs.Saying.{no_words, long_sign, more_words, three_words}
 use Rattle.rewire.proofs.change.change_of.Goals as goal
 
@@ -49,26 +51,36 @@ numbers line sign more s t is behind from to one none =
     ∙ ap (λ (x : Option ℕ). by_numbers (get_or (word_at 0 line) 0 0) (source line) x) to
     ∙ sym (three_words (source line) (target line) (word_at 0 line) (word_at 3 line) (ap length (sym is) ∙ one) (ap length (sym behind) ∙ none))
 
-pub returns-in_default : goal.returns-in_default
-returns-in_default c =
-    let line = c.args.line.now in
-    let none = eqb-true _ 0 (sym c.is_empty-2.ensures ∙ c.if-not-is_empty.false) in
-    let from = sym c.in_default.is ∙ c.whole_of.ensures.1 ∙ ap (λ (w : List ℕ). whole_of w 65535) c.word_at-2.ensures in
-    numbers line c.word_at-sign.result.now c.word_at.result.now None (target line) c.word_at-sign.ensures c.word_at.ensures from refl c.if-sign-ne1.false none
+-- a number as it was read
+number : (line : List ℕ) (k : ℕ) {w : List ℕ} {o s : Option ℕ} → w ≡ word_at k line → o ≡ whole_of w 65535 → o ≡ s → s ≡ whole_of (word_at k line) 65535
+number line k e o s = sym s ∙ o ∙ ap (λ (w : List ℕ). whole_of w 65535) e
 
-pub returns-in_default-whole_of : goal.returns-in_default-whole_of
-returns-in_default-whole_of c =
+refused : (r : Result (Option Request) NoChange) (a : NoChange) → IsErrAnd r (λ e. e ≡ a) → r ≡ no_change
+refused (Ok x) a h = absurd h
+refused (Err e) a h = refl
+
+pub returns-in_err-source : goal.returns-in_err-source
+returns-in_err-source c =
     let line = c.args.line.now in
     let none = eqb-true _ 0 (sym c.is_empty-2.ensures ∙ c.if-not-is_empty.false) in
-    let from = sym c.in-Some.is ∙ c.whole_of.ensures.1 ∙ ap (λ (w : List ℕ). whole_of w 65535) c.word_at-2.ensures in
-    let to = sym c.in_default-whole_of.is ∙ c.whole_of-2.ensures.1 ∙ ap (λ (w : List ℕ). whole_of w 65535) c.word_at-3.ensures in
-    numbers line c.word_at-sign.result.now c.word_at.result.now (Some c.in-Some.source) None c.word_at-sign.ensures c.word_at.ensures from to c.if-sign-ne1.false none
+    let from = number line 1 c.word_at-2.ensures c.whole_of.ensures.1 c.in_err-source.ensures.ok_part in
+    refused _ _ c.from_residual.ensures.1
+    ∙ numbers line c.word_at-sign.result.now c.word_at.result.now None (target line) c.word_at-sign.ensures c.word_at.ensures from refl c.if-sign-ne1.false none
+
+pub returns-in_err-target : goal.returns-in_err-target
+returns-in_err-target c =
+    let line = c.args.line.now in
+    let none = eqb-true _ 0 (sym c.is_empty-2.ensures ∙ c.if-not-is_empty.false) in
+    let from = number line 1 c.word_at-2.ensures c.whole_of.ensures.1 c.in_ok-source.ensures.ok_part in
+    let to = number line 2 c.word_at-3.ensures c.whole_of-2.ensures.1 c.in_err-target.ensures.ok_part in
+    refused _ _ c.from_residual-in_err-target.ensures.1
+    ∙ numbers line c.word_at-sign.result.now c.word_at.result.now (Some c.in_ok-source.source) None c.word_at-sign.ensures c.word_at.ensures from to c.if-sign-ne1.false none
 
 pub returns : goal.returns
 returns c =
     let line = c.args.line.now in
     let none = eqb-true _ 0 (sym c.is_empty-2.ensures ∙ c.if-not-is_empty.false) in
-    let from = sym c.in-Some.is ∙ c.whole_of.ensures.1 ∙ ap (λ (w : List ℕ). whole_of w 65535) c.word_at-2.ensures in
-    let to = sym c.in-Some-whole_of.is ∙ c.whole_of-2.ensures.1 ∙ ap (λ (w : List ℕ). whole_of w 65535) c.word_at-3.ensures in
+    let from = number line 1 c.word_at-2.ensures c.whole_of.ensures.1 c.in_ok-source.ensures.ok_part in
+    let to = number line 2 c.word_at-3.ensures c.whole_of-2.ensures.1 c.in_ok-target.ensures.ok_part in
     c.signed.ensures
-    ∙ numbers line c.word_at-sign.result.now c.word_at.result.now (Some c.in-Some.source) (Some c.in-Some-whole_of.target) c.word_at-sign.ensures c.word_at.ensures from to c.if-sign-ne1.false none
+    ∙ numbers line c.word_at-sign.result.now c.word_at.result.now (Some c.in_ok-source.source) (Some c.in_ok-target.target) c.word_at-sign.ensures c.word_at.ensures from to c.if-sign-ne1.false none

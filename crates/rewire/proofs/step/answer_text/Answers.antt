@@ -1,45 +1,34 @@
 -- `rewire::step::answer_text` meets its contract: the answer's list is the visiting list of the changed board. Assumes nothing.
-use mathlib.Core.Path.{sym, ap, subst, ◌∙◌}
+use mathlib.Core.Path.{◌≡◌, sym, ap, subst, ◌∙◌}
 use mathlib.Core.List.{List}
 use Prim.Native.Nat.{ℕ}
 use borrow.Author.Tests.{eq-eqb, ne_eqb}
+use lib.ListN.{take}
+use Rattle.std.specs.Prelude.{Result, IfOk}
 use Rattle.boards.specs.Judge.{read_board}
 use Rattle.boards.specs.Read.{parsed_of, Read}
-use Rattle.graph.proofs.Wired.{wires_within}
-use Rattle.listing.specs.Text.{order_text, text_of}
-use Rattle.rewire.proofs.Answering.{answer_lists}
+use Rattle.graph.specs.declared.graph.Order.{Order}
+use Rattle.records.specs.declared.answer.Answer.{Answer}
+use Rattle.wiring.specs.Rewire.{wiring, wiring_by}
+use Rattle.wiring.specs.Rewiring.{Checked}
+use Rattle.listing.specs.Text.{line, refused_word, order_text, text_of}
+use Rattle.rewire.proofs.Answering.{list_same}
 use Rattle.rewire.specs.Step.{answer_text}
 use Rattle.rewire.proofs.step.answer_text.Goals as goal
 
-pub returns-then-answer-ne0 : goal.returns-then-answer-ne0
-unfolding answer_text
-returns-then-answer-ne0 c = rw (ne_eqb c.args.answer.now.number 0 c.if-answer-ne0.true) c.refusal_text.ensures
-
-pub invariant_of-order : goal.invariant_of-order
-invariant_of-order c =
-    let s = c.args.s.now in
-    let read = subst (Read (read_board s)) c.in-Ok.is c.read_board.ensures in
-    let l = answer_lists s c.in-Ok.board read c.args.answer.now (c.requires c.if-answer-ne0.false) in
-    record { long = l.size; fits = l.fits; below = l.below }
-
-pub listed_text-requires : goal.listed_text-requires
-listed_text-requires c =
-    let s = c.args.s.now in
-    let read = subst (Read (read_board s)) c.in-Ok.is c.read_board.ensures in
-    (read.1.few_wires, read.1.wires_long, wires_within s c.in-Ok.board read)
-
-pub returns-in-Ok : goal.returns-in-Ok
-unfolding answer_text text_of
-returns-in-Ok c =
-    let s = c.args.s.now in
-    let b = c.in-Ok.board in
-    let read = subst (Read (read_board s)) c.in-Ok.is c.read_board.ensures in
-    let l = answer_lists s b read c.args.answer.now (c.requires c.if-answer-ne0.false) in
-    rw (eq-eqb c.args.answer.now.number 0 c.if-answer-ne0.false)
-    (c.listed_text.ensures ∙ ap (λ (x : List ℕ). order_text x (parsed_of b).wires) l.same ∙ sym (ap text_of read.0))
-
 pub returns-in-Err : goal.returns-in-Err
+unfolding answer_text
+returns-in-Err c w k =
+    let same = subst (Checked w) c.in-Err.is k in
+    rw (ne_eqb w.number 0 same.0) (c.refusal_text.ensures ∙ λ i. line refused_word (same.1 i) (same.2 i))
+
+pub returns-in-Ok-read_board : goal.returns-in-Ok-read_board
 unfolding answer_text text_of
-returns-in-Err c =
-    let read = subst (Read (read_board c.args.s.now)) c.in-Err.is c.read_board.ensures in
-    rw (eq-eqb c.args.answer.now.number 0 c.if-answer-ne0.false) (c.refusal_text-in-Err.ensures ∙ sym (ap text_of read.1))
+returns-in-Ok-read_board c w k =
+    let s = c.args.s.now in
+    let b = c.in-Ok-read_board.board in
+    let read = subst (Read (read_board s)) c.in-Ok-read_board.is c.read_board.ensures in
+    let listed : wiring 0 0 (take c.in-Ok.order.count c.in-Ok.order.nodes) ≡ wiring_by (read_board s) =
+    subst (λ (r : Result Order Answer). IfOk r (λ o. wiring 0 0 (take o.count o.nodes) ≡ wiring_by (read_board s))) c.in-Ok.is c.requires in
+    rw (eq-eqb w.number 0 (subst (Checked w) c.in-Ok.is k).0)
+    (c.listed_text.ensures ∙ ap (λ (x : List ℕ). order_text x (parsed_of b).wires) (list_same _ _ (listed ∙ ap wiring_by read)) ∙ sym (ap text_of read))

@@ -2,10 +2,18 @@
 use Rattle.rewire.specs.Step.{made_of}
 use Rattle.rewire.proofs.step.make.Goals as goal
 
-pub returns-then-change : goal.returns-then-change
+pub returns-in-Add-clause-answered : goal.returns-in-Add-clause-answered
 unfolding made_of
-returns-then-change c = rw c.if-change.true c.add_wire.ensures
+returns-in-Add-clause-answered c = rw c.in-Add.is c.add_wire.ensures.answered
 
-pub returns-else-change : goal.returns-else-change
+pub returns-in-Add-clause-bytes : goal.returns-in-Add-clause-bytes
 unfolding made_of
-returns-else-change c = rw c.if-change.false c.pull_wire.ensures
+returns-in-Add-clause-bytes c = rw c.in-Add.is c.add_wire.ensures.bytes
+
+pub returns-in-Pull-clause-answered : goal.returns-in-Pull-clause-answered
+unfolding made_of
+returns-in-Pull-clause-answered c = rw c.in-Pull.is c.pull_wire.ensures.answered
+
+pub returns-in-Pull-clause-bytes : goal.returns-in-Pull-clause-bytes
+unfolding made_of
+returns-in-Pull-clause-bytes c = rw c.in-Pull.is c.pull_wire.ensures.bytes

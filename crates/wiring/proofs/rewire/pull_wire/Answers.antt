@@ -43,4 +43,4 @@ returns-in-Err c =
     let e = c.in-Err.ensures in
     let kept = lent_kept a.bytes.now a.n (pulled_board a.source a.target (take a.n a.bytes.now))
     (le-ltb (length a.bytes.now) a.n c.if-bytes-n.false) (λ z. omega (arith, e.0, ap (λ (r : Wiring). r.number) e.1, z)) in
-    record { answered = c.refusal.ensures ∙ e.1 ∙ sym (ap (λ (d : Wiring × List ℕ). d.0) kept); bytes = sym (ap (λ (d : Wiring × List ℕ). d.1) kept) }
+    record { answered = c.from.ensures ∙ e.1 ∙ sym (ap (λ (d : Wiring × List ℕ). d.0) kept); bytes = sym (ap (λ (d : Wiring × List ℕ). d.1) kept) }

@@ -1,20 +1,20 @@
 -- `carrying::carried::Walk::skim` meets its contract. One node less is unmarked than where the function was called, and the loop goes on as
 -- `Going` says. Assumes nothing.
-use mathlib.Core.Path.{◌≡◌, refl, sym, subst, subst₂, subst⁻¹, ◌∙◌}
-use mathlib.Core.Bool.{Bool, true, false, ◌&&◌, false≢true}
+use mathlib.Core.Path.{◌≡◌, sym, subst, subst₂, subst⁻¹, ◌∙◌}
+use mathlib.Core.Bool.{true, ◌&&◌}
 use mathlib.Core.List.{List}
 use Prim.Native.Nat.{ℕ, ◌+◌, ◌*◌, ◌<◌, ◌≤◌}
 use native.Mathlib.Nat.{le_refl}
 use native.Mathlib.Omega.{arith}
 use lib.Dec.{eqb}
 use borrow.Author.Tests.{eqb-true}
-use lib.ListN.{length, get_or, set, length-set}
-use Rattle.std.proofs.lemmas.Grind.{common_steps}
+use lib.ListN.{length, get_or, set}
+use Rattle.reading.proofs.Choice.{both}
 use Rattle.graph.proofs.Going.{unmarked-set}
 use Rattle.carrying.specs.Skimming.{Skimmed}
 use Rattle.carrying.specs.declared.carried.Walk.{Walk}
 use Rattle.carrying.proofs.Placed.{test_yes, test_no}
-use Rattle.carrying.proofs.Going.{Going, going_past, going_into, going_add, going_pull, skimmed_copied, skimmed_walked}
+use Rattle.carrying.proofs.Going.{Going, going_past, going_into, going_add, going_pull, skimmed_copied, skimmed_walked, lent_at, source_node, fewer, asks_on}
 use Rattle.carrying.proofs.carried.Walk.+skim.Goals as goal
 use Rattle.carrying.proofs.carried.Walk.+skim.Goals.{then-not-self-source+then-not-is, then-not-self-source+else-not-is+then-change, then-not-self-source+else-not-is+else-change, else-not-self-source}
 
@@ -39,81 +39,33 @@ returns-then-self-place t c =
     (λ un x y. f.2 un (subst⁻¹ (λ (j : ℕ). w.at ≤ j) goal_is x) (subst⁻¹ (λ (j : ℕ). j ≤ c.from-place.result) goal_is y))
     _ _ _ laid.0)
 
+-- ---- the sources, and the one to come
+
+pub of-source-items-requires : goal.of-source-items-requires
+of-source-items-requires t c = (c.requires.node_in, c.requires.table.few _ c.requires.node_in)
+
 pub bounds-self-source : goal.bounds-self-source
 bounds-self-source t c =
-    let pre = c.requires in
-    let a = c.args in
-    let s = a.ground.now.sources.now in
-    let at = c.loop-source in
-    -- the source to come is one of the node's, and a node
-    let in_size : at.source-index < get_or s.counts a.node 0 = grind (arith, common_steps) in
-    let is : c.from-source.result ≡ get_or s.lists (8 * a.node + at.source-index) 0 = grind (arith, common_steps) in
-    let source_node : c.from-source.result < 64 = subst (λ (x : ℕ). x < 64) (sym is) (pre.table.nodes a.node at.source-index pre.node_in in_size) in
-    source_node
+    let lent = c.of-source-items.ensures in
+    let in_size : c.loop-source.source-index < get_or c.args.ground.now.sources.now.counts c.args.node 0 = omega (arith, lent.count, c.loop-source-test.true) in
+    source_node c.requires.table c.requires.node_in in_size (lent_at _ _ lent.items in_size c.from-source.ensures)
 
 pub skim-requires : goal.skim-requires
 skim-requires t c =
-    let pre = c.requires in
-    let a = c.args in
-    let s = a.ground.now.sources.now in
-    let at = c.loop-source in
-    -- the source to come is one of the node's, and a node
-    let in_size : at.source-index < get_or s.counts a.node 0 = grind (arith, common_steps) in
-    let is : c.from-source.result ≡ get_or s.lists (8 * a.node + at.source-index) 0 = grind (arith, common_steps) in
-    let source_node : c.from-source.result < 64 = subst (λ (x : ℕ). x < 64) (sym is) (pre.table.nodes a.node at.source-index pre.node_in in_size) in
-    let g = at.invariant.grown in
-    let one = unmarked-set a.self.now.marks a.node (omega (arith, pre.room.marks_size, pre.node_in)) pre.unseen in (
-      omega (arith, c.decreases, one, g.fewer),
-      record {
-        table = pre.table;
-        was = pre.was;
-        node_in = source_node;
-        source_in = pre.source_in;
-        target_in = pre.target_in;
-        room = record {
-          marks_size = omega (arith, g.marks_kept, pre.room.marks_size, length-set a.self.now.marks a.node true);
-          room = omega (arith, one, g.total, pre.room.room);
-        };
-        unseen = c.if-not-self-source.true;
-        at_in = at.invariant.rest_in;
-      },
-    )
+    let g = c.loop-source.invariant in
+    let lent = c.of-source-items.ensures in
+    let in_size : c.loop-source.source-index < get_or c.args.ground.now.sources.now.counts c.args.node 0 = omega (arith, lent.count, c.loop-source-test.true) in
+    (omega (arith, c.decreases, fewer c.requires g), asks_on c.requires g in_size (lent_at _ _ lent.items in_size c.from-source.ensures) c.if-not-self-source.true _ g.rest_in)
 
 pub skim-requires-then-change : goal.skim-requires-then-change
 skim-requires-then-change t c =
-    let pre = c.requires in
-    let a = c.args in
-    let s = a.ground.now.sources.now in
-    let at = c.loop-source in
-    -- the source to come is one of the node's, and a node
-    let in_size : at.source-index < get_or s.counts a.node 0 = grind (arith, common_steps) in
-    let is : c.from-source.result ≡ get_or s.lists (8 * a.node + at.source-index) 0 = grind (arith, common_steps) in
-    let source_node : c.from-source.result < 64 = subst (λ (x : ℕ). x < 64) (sym is) (pre.table.nodes a.node at.source-index pre.node_in in_size) in
-    let g = at.invariant.grown in
-    let one = unmarked-set a.self.now.marks a.node (omega (arith, pre.room.marks_size, pre.node_in)) pre.unseen in (
-      omega (arith, c.decreases, one, g.fewer),
-      record {
-        table = pre.table;
-        was = pre.was;
-        node_in = source_node;
-        source_in = pre.source_in;
-        target_in = pre.target_in;
-        room = record {
-          marks_size = omega (arith, g.marks_kept, pre.room.marks_size, length-set a.self.now.marks a.node true);
-          room = omega (arith, one, g.total, pre.room.room);
-        };
-        unseen = c.if-not-self-source.true;
-        at_in = le_refl _;
-      },
-    )
+    let g = c.loop-source.invariant in
+    let lent = c.of-source-items.ensures in
+    let in_size : c.loop-source.source-index < get_or c.args.ground.now.sources.now.counts c.args.node 0 = omega (arith, lent.count, c.loop-source-test.true) in
+    (omega (arith, c.decreases, fewer c.requires g), asks_on c.requires g in_size (lent_at _ _ lent.items in_size c.from-source.ensures) c.if-not-self-source.true _ (le_refl _))
 
 second : (v t u s : ℕ) → (eqb v t && eqb u s) ≡ true → u ≡ s
-second v t u s e = pick (eqb v t) (eqb u s) refl e
-  where
-    pick : (a b : Bool) → eqb u s ≡ b → (a && b) ≡ true → u ≡ s
-    pick true true h g = eqb-true u s h
-    pick true false h g = absurd (false≢true g)
-    pick false b h g = absurd (false≢true g)
+second v t u s e = eqb-true u s (both (eqb v t) (eqb u s) e).1
 
 pub loop-source-preserved : goal.loop-source-preserved
 loop-source-preserved t c =
@@ -121,10 +73,10 @@ loop-source-preserved t c =
     let a = c.args in
     let s = a.ground.now.sources.now in
     let at = c.loop-source in
-    -- the source to come is one of the node's, and a node
-    let in_size : at.source-index < get_or s.counts a.node 0 = grind (arith, common_steps) in
-    let is : c.from-source.result ≡ get_or s.lists (8 * a.node + at.source-index) 0 = grind (arith, common_steps) in
-    let source_node : c.from-source.result < 64 = subst (λ (x : ℕ). x < 64) (sym is) (pre.table.nodes a.node at.source-index pre.node_in in_size) in
+    let lent = c.of-source-items.ensures in
+    let in_size : at.source-index < get_or s.counts a.node 0 = omega (arith, lent.count, c.loop-source-test.true) in
+    let is : c.from-source.result ≡ get_or s.lists (8 * a.node + at.source-index) 0 = lent_at _ _ lent.items in_size c.from-source.ensures in
+    let source_node = source_node pre.table pre.node_in in_size is in
     let o = a.ground.now.old.now in
     let d = a.ground.now.change in
     let was = pre.was in
@@ -172,7 +124,7 @@ returns t c =
     let w = a.self.now in
     let goal_is = c.from-goal.ensures ∙ pre.was.placed.at d.target pre.target_in in
     let one = unmarked-set w.marks a.node (omega (arith, pre.room.marks_size, pre.node_in)) pre.unseen in
-    let all : get_or s.counts a.node 0 ≤ at.source-index = grind (arith, common_steps) in
+    let all : get_or s.counts a.node 0 ≤ at.source-index = omega (arith, c.of-source-items.ensures.count, c.loop-source-test.false) in
     let room : at.self.order.count < length at.self.order.nodes = omega (arith, one, at.invariant.grown.total, pre.room.room, at.self.order.long) in
     subst₂ (λ (l : List ℕ) (n : ℕ). Skimmed s.counts s.lists o.nodes o.count d.adding d.source d.target a.node w.marks w.order.nodes w.order.count w.at
     at.self.marks l n at.self.at) (sym c.push.ensures.nodes) (sym c.push.ensures.count)
