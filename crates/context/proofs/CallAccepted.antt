@@ -22,7 +22,7 @@ use Rattle.memory.specs.Memory.{node_in, node_at, kind_at, listed}
 use Rattle.running.specs.Run.{put_input}
 use Rattle.memory.specs.Calls.{and_then}
 use Rattle.context.specs.Block.{check_blocks, check_samples}
-use Rattle.boards.specs.Read.{parsed_of, Sound}
+use Rattle.boards.specs.Read.{parsed_of}
 use Rattle.memory.specs.Fine.{Fine}
 use Rattle.running.specs.Lent.{StartsOf, Runs}
 use Rattle.nodes.specs.declared.node.Starts.{Starts}
@@ -57,10 +57,10 @@ pub record Checked (p : Parsed) (m x l r : List ℕ) : Type 0 where
 
 -- ---- the board
 
-module _ (b : Board) (sound : Sound b) (table : (v : ℕ) → v < 64 → TableAt b v) where
+module _ (b : Board) (table : (v : ℕ) → v < 64 → TableAt b v) where
   -- the sources, as the visiting list asks for them
   pub board_table : Table b.sources.counts b.sources.lists
-  board_table = record { few = λ v h. (table v h).few; nodes = λ v j h l. omega (arith, (table v h).source_in j l, sound.few_nodes) }
+  board_table = record { few = λ v h. (table v h).few; nodes = λ v j h l. omega (arith, (table v h).source_in j l, b.few) }
 
   pub board_gathered : Gathered (parsed_of b).wires b.sources.counts b.sources.lists
   board_gathered = record { size = λ v h. (table v h).count_is; source = λ v j h l. (table v h).source_is j l }
@@ -69,7 +69,6 @@ module _ (b : Board) (sound : Sound b) (table : (v : ℕ) → v < 64 → TableAt
 
 -- the board is read whole, and the checks pass
 pub record AcceptedRun (m x l r : List ℕ) (b : Board) : Type 0 where
-  pub sound : Sound b
   pub fine : Fine (parsed_of b)
   pub table : (v : ℕ) → v < 64 → TableAt b v
   pub long : length m ≡ memory_length (parsed_of b)
@@ -86,7 +85,7 @@ module _ {m x l r : List ℕ} {b : Board} (run : AcceptedRun m x l r b) where
   start = (node_in b.nodes b.input).cell + 3
 
   there : b.input < b.count
-  there = omega (arith, run.fine.input_there, count_nodes b run.sound)
+  there = omega (arith, run.fine.input_there, count_nodes b)
 
   -- the input node is a pass
   input_cell : (node_at (parsed_of b) b.input).cell + (3 + b.size) ≤ cells_of b.size (parsed_of b).nodes
@@ -95,7 +94,7 @@ module _ {m x l r : List ℕ} {b : Board} (run : AcceptedRun m x l r b) where
       omega (arith, cell_in (parsed_of b) run.fine b.input run.fine.input_there)
 
   start_is : (node_at (parsed_of b) b.input).cell + 3 ≡ start
-  start_is = ap (λ (n : NodeRecord). n.cell + 3) (node_in_lem b run.sound b.input there)
+  start_is = ap (λ (n : NodeRecord). n.cell + 3) (node_in_lem b b.input there)
 
   pub input_room : 4 * ((node_in b.nodes b.input).cell + 3) + 4 * b.size ≤ length m
   input_room = omega (arith, input_cell, start_is, checked.long)
@@ -107,15 +106,18 @@ module _ {m x l r : List ℕ} {b : Board} (run : AcceptedRun m x l r b) where
       omega (arith, cell_in (parsed_of b) run.fine 0 run.fine.formed.some_nodes, checked.long)
 
   pub few_bytes : length m ≤ 1114880
-  few_bytes = omega (arith, checked.long, run.sound.values_sum, run.sound.few_values)
+  few_bytes = omega (arith, checked.long, b.sum, b.held)
 
   -- ---- the input block copied in
 
-  module _ (m₁ : List ℕ) (put : m₁ ≡ paste m (4 * ((node_in b.nodes b.input).cell + 3)) (drop 0 x) (4 * b.size)) where
+  module _ (m₁ : List ℕ) (put : m₁ ≡ paste m (4 * ((node_in b.nodes b.input).cell + 3)) x (length x)) where
+    by_size : m₁ ≡ paste m (4 * start) x (4 * b.size)
+    by_size = put ∙ ap (paste m (4 * start) x) checked.input_long
+
     pub input_put : words m₁ ≡ put_input (parsed_of b) (words x) (words m)
     unfolding put_input
     input_put =
-        ap words put ∙ words-paste m x start b.size (omega (arith, input_room)) (omega (arith, checked.input_long))
+        ap words by_size ∙ words-paste m x start b.size (omega (arith, input_room)) (omega (arith, checked.input_long))
         ∙ ap (λ (n : ℕ). paste (words m) n (words x) b.size) (sym start_is)
 
     pub input_runs : (st : Starts) → StartsOf (take b.count b.nodes) b.size st → (o : Order) → Lists (listed (parsed_of b)) o.nodes o.count → Runs b st o m₁
@@ -123,11 +125,10 @@ module _ {m x l r : List ℕ} {b : Board} (run : AcceptedRun m x l r b) where
         let block : length (words x) ≡ b.size = length-words x ∙ omega (arith, checked.input_long) in
         let whole-memory : Whole (parsed_of b) (words m) = length-words m ∙ omega (arith, checked.long) in
         record {
-          sound = run.sound;
           fine = run.fine;
           table = run.table;
           starts = starts;
           lists = lists;
-          long = ap length put ∙ length-paste m (4 * start) x (4 * b.size) (omega (arith, input_room)) (omega (arith, checked.input_long)) ∙ checked.long;
+          long = ap length by_size ∙ length-paste m (4 * start) x (4 * b.size) (omega (arith, input_room)) (omega (arith, checked.input_long)) ∙ checked.long;
           judged = judged_passed (parsed_of b) (words m₁) (rw input_put (input_judged (parsed_of b) run.fine (words m) whole-memory (words x) block checked.judged));
         }

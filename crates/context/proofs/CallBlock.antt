@@ -38,14 +38,14 @@ module _ {m x l r : List ℕ} {b : Board} (run : AcceptedRun m x l r b) (m' : Li
       ap length copied ∙ length-paste d 0 (drop (4 * at) m') (4 * b.size) (omega arith) (omega (arith, length-drop (4 * at) m')) ∙ size in
       unwords-words d' b.size long small ∙ ap unwords words_are
 
-  pub block_ran : (l' r' : List ℕ) → Bytes l' → Bytes r' → l' ≡ paste l 0 (drop 12 m') (4 * b.size)
-      → r' ≡ paste r 0 (drop (12 + 4 * b.size) m') (4 * b.size) → as_left passed m' l' r' ≡ ran_block (parsed_of b) (listed (parsed_of b)) x m
+  pub block_ran : (l' r' : List ℕ) → Bytes l' → Bytes r' → l' ≡ paste l 0 (drop 12 m') (length l)
+      → r' ≡ paste r 0 (drop (12 + length l) m') (length r) → as_left passed m' l' r' ≡ ran_block (parsed_of b) (listed (parsed_of b)) x m
   block_ran l' r' left-bytes right-bytes left-copied right-copied =
       let c = checked run in
       let p = parsed_of b in
-      let at : 12 + 4 * b.size ≡ 4 * (3 + b.size) = omega arith in
+      let at : 12 + length l ≡ 4 * (3 + b.size) = omega (arith, c.left_long) in
       let memory : m' ≡ unwords ws = unwords-words m' (cells_of p.size p.nodes) (kept ∙ c.long) bytes ∙ ap unwords ran in
-      let left : l' ≡ unwords (part ws 3 b.size) = channel l l' 3 c.left_long left-bytes left-copied (omega (arith, output_room run)) in
+      let left : l' ≡ unwords (part ws 3 b.size) = channel l l' 3 c.left_long left-bytes (left-copied ∙ ap (paste l 0 (drop 12 m')) c.left_long) (omega (arith, output_room run)) in
       let right : r' ≡ unwords (part ws (3 + b.size) b.size) =
-      channel r r' (3 + b.size) c.right_long right-bytes (right-copied ∙ ap (λ (n : ℕ). paste r 0 (drop n m') (4 * b.size)) at) (omega (arith, output_room run)) in
+      channel r r' (3 + b.size) c.right_long right-bytes (right-copied ∙ (λ i. paste r 0 (drop (at i) m') (c.right_long i))) (omega (arith, output_room run)) in
       λ i. as_left passed (memory i) (left i) (right i)

@@ -15,13 +15,14 @@ use native.Mathlib.Omega.{arith}
 use borrow.Author.Tests.{eqb-true, ne_eqb}
 use lib.Dec.{eqb}
 use lib.ListN.{length}
-use Rattle.std.specs.Prelude.{Ok, Err}
+use Rattle.std.specs.Prelude.{Result, Ok, Err, IsErrAnd}
 use Rattle.values.specs.Words.{words, unwords, Bytes, unwords-words}
 use Rattle.boards.specs.Board.{Parsed, Progress, going, refused, whole, memory_length}
 use Rattle.boards.specs.Judge.{read_board}
 use Rattle.boards.specs.BoardParts.{Refuses}
-use Rattle.records.specs.Answer.{checked}
+use Rattle.records.specs.Answer.{checked, told}
 use Rattle.records.specs.declared.answer.Answer.{Answer}
+use Rattle.boards.proofs.Answers.{residual_is}
 use Rattle.boards.proofs.Run.{refused_is_not_whole, going_is_not_whole}
 use Rattle.memory.specs.Memory.{passed}
 use Rattle.memory.specs.Calls.{and_then, check_needed, check_values, check_memory, call_by, change_by}
@@ -105,14 +106,14 @@ module _ {A : Type 0} (found : Answer → A) (check : Parsed → Answer) (done :
     pub call_done : Ok tt ≡ checked (check p) → call_by found check done v ≡ done p
     call_done e = let z : (check p).number ≡ 0 = checked_passed (check p) e in ap (call_by found check done) read ∙ rw z
 
--- ---- a call that changes the memory only: what it answers, and the bytes that it leaves
+-- ---- a call that changes the memory only: what it tells, by its result, and the bytes that it leaves
 
 module _ (m : List ℕ) (check : Parsed → Answer) (change : Parsed → List ℕ) (v : Progress) where
-  abbrev Is : Answer → List ℕ → Type 0
-  Is a n = (a ≡ (change_by m check change v).0) × (n ≡ (change_by m check change v).1)
+  abbrev Is : Result (Unit {0}) Answer → List ℕ → Type 0
+  Is r n = (told r ≡ (change_by m check change v).0) × (n ≡ (change_by m check change v).1)
 
-  is : (a : Answer) (n : List ℕ) → change_by m check change v ≡ (a, n) → Is a n
-  is a n e = (ap (λ (x : Answer × List ℕ). x.0) (sym e), ap (λ (x : Answer × List ℕ). x.1) (sym e))
+  is : (r : Result (Unit {0}) Answer) (n : List ℕ) → change_by m check change v ≡ (told r, n) → Is r n
+  is r n e = (ap (λ (x : Answer × List ℕ). x.0) (sym e), ap (λ (x : Answer × List ℕ). x.1) (sym e))
 
   abbrev found : Answer → Answer × List ℕ
   found a = (a, m)
@@ -120,19 +121,19 @@ module _ (m : List ℕ) (check : Parsed → Answer) (change : Parsed → List �
   abbrev done : Parsed → Answer × List ℕ
   done p = (passed, unwords (change p))
 
-  pub change_refused : (a : Answer) → Refuses v a → Is a m
-  change_refused a h = is a m (call_refused found check done v a h)
+  -- what `?` hands out is the refusal
+  pub change_refused : (r : Result (Unit {0}) Answer) (a : Answer) → IsErrAnd r (λ e. e ≡ a) → Refuses v a → Is r m
+  change_refused r a out h = rw (residual_is r a out) (is (Err a) m (call_refused found check done v a h))
 
   module _ (p : Parsed) (read : v ≡ whole p) where
-    pub change_lacking : (a : Answer) → Err a ≡ checked (check p) → Is a m
-    change_lacking a e = is a m (call_lacking found check done v p read a e)
+    pub change_lacking : (r : Result (Unit {0}) Answer) (a : Answer) → IsErrAnd r (λ e. e ≡ a) → Err a ≡ checked (check p) → Is r m
+    change_lacking r a out e = rw (residual_is r a out) (is (Err a) m (call_lacking found check done v p read a e))
 
     -- the words of the bytes n, as many as so many values, are as they must be
-    pub change_done : Ok tt ≡ checked (check p) → (values : ℕ) (n : List ℕ) → length n ≡ 4 * values → Bytes n → words n ≡ change p
-        → (r : Answer) → r ≡ passed → Is r n
-    change_done e values n long small w r ok =
+    pub change_done : Ok tt ≡ checked (check p) → (values : ℕ) (n : List ℕ) → length n ≡ 4 * values → Bytes n → words n ≡ change p → Is (Ok tt) n
+    change_done e values n long small w =
         let bytes : n ≡ unwords (change p) = unwords-words n values long small ∙ ap unwords w in
-        is r n (call_done found check done v p read e ∙ (λ i. (sym ok i, sym bytes i)))
+        is (Ok tt) n (call_done found check done v p read e ∙ (λ i. (passed, sym bytes i)))
 
 pub change_passes : (m : List ℕ) (check : Parsed → Answer) (change : Parsed → List ℕ) (p : Parsed)
     → (change_by m check change (whole p)).0.number ≡ 0 → (check p).number ≡ 0
@@ -152,19 +153,18 @@ module _ (s m : List ℕ) (own : Parsed → Answer) (change : Parsed → List �
   opens : whole_call ≡ change_by m own change (read_judged s m)
   opens = judged_call (λ a. (a, m)) own (λ p. (passed, unwords (change p))) s m
 
-  abbrev Gives : Answer → List ℕ → Type 0
-  Gives a n = (a ≡ whole_call.0) × (n ≡ whole_call.1)
+  abbrev Gives : Result (Unit {0}) Answer → List ℕ → Type 0
+  Gives r n = (told r ≡ whole_call.0) × (n ≡ whole_call.1)
 
-  as_opened : (a : Answer) (n : List ℕ) → Is m own change (read_judged s m) a n → Gives a n
-  as_opened a n e = rw opens e
+  as_opened : (r : Result (Unit {0}) Answer) (n : List ℕ) → Is m own change (read_judged s m) r n → Gives r n
+  as_opened r n e = rw opens e
 
-  pub judged_refused : (a : Answer) → Refuses (read_judged s m) a → Gives a m
-  judged_refused a h = as_opened _ _ (change_refused m own change (read_judged s m) a h)
+  pub judged_refused : (r : Result (Unit {0}) Answer) (a : Answer) → IsErrAnd r (λ e. e ≡ a) → Refuses (read_judged s m) a → Gives r m
+  judged_refused r a out h = as_opened r m (change_refused m own change (read_judged s m) r a out h)
 
   module _ (p : Parsed) (read : read_judged s m ≡ whole p) where
-    pub judged_lacking : (a : Answer) → Err a ≡ checked (own p) → Gives a m
-    judged_lacking a e = as_opened _ _ (change_lacking m own change (read_judged s m) p read a e)
+    pub judged_lacking : (r : Result (Unit {0}) Answer) (a : Answer) → IsErrAnd r (λ e. e ≡ a) → Err a ≡ checked (own p) → Gives r m
+    judged_lacking r a out e = as_opened r m (change_lacking m own change (read_judged s m) p read r a out e)
 
-    pub judged_done : Ok tt ≡ checked (own p) → (values : ℕ) (n : List ℕ) → length n ≡ 4 * values → Bytes n → words n ≡ change p
-        → (r : Answer) → r ≡ passed → Gives r n
-    judged_done e values n long small w r ok = as_opened _ _ (change_done m own change (read_judged s m) p read e values n long small w r ok)
+    pub judged_done : Ok tt ≡ checked (own p) → (values : ℕ) (n : List ℕ) → length n ≡ 4 * values → Bytes n → words n ≡ change p → Gives (Ok tt) n
+    judged_done e values n long small w = as_opened (Ok tt) n (change_done m own change (read_judged s m) p read e values n long small w)

@@ -12,7 +12,7 @@ use Rattle.kinds.specs.Kind.{cell_size}
 use Rattle.kinds.specs.declared.kind.NodeRecord.{NodeRecord}
 use Rattle.boards.specs.Board.{Parsed, blank, cells_of}
 use Rattle.memory.specs.Memory.{node_in, node_at, kind_at}
-use Rattle.boards.specs.Read.{parsed_of, Sound}
+use Rattle.boards.specs.Read.{parsed_of}
 use Rattle.memory.specs.Fine.{Fine}
 use Rattle.memory.specs.Stages.{CellsIn}
 use Rattle.boards.specs.declared.board.Board.{Board}
@@ -34,18 +34,18 @@ module _ (p : Parsed) (fine : Fine p) where
 
 -- ---- in the code's arrays
 
-module _ (b : Board) (sound : Sound b) where
+module _ (b : Board) where
   pub node_in_lem : (k : ℕ) → k < b.count → node_at (parsed_of b) k ≡ node_in b.nodes k
   node_in_lem k h = get_or-take b.count b.nodes k blank h
 
   pub count_nodes : length (parsed_of b).nodes ≡ b.count
-  count_nodes = counted b.nodes b.count (omega (arith, sound.nodes_long, sound.few_nodes))
+  count_nodes = counted b.nodes b.count (omega (arith, b.long, b.few))
 
   pub cells_fit : Fine (parsed_of b) → CellsIn b.nodes b.count (4 * b.values)
   cells_fit fine k h =
       let at : (node_at (parsed_of b) k).cell ≡ (node_in b.nodes k).cell = ap (λ (r : NodeRecord). r.cell) (node_in_lem k h) in
-      omega (arith, cell_in (parsed_of b) fine k (omega (arith, count_nodes)), sound.values_sum)
+      omega (arith, cell_in (parsed_of b) fine k (omega (arith, count_nodes)), b.sum)
 
   -- of the part that the nodes fill
   pub cells_in : Fine (parsed_of b) → (m : List ℕ) → length m ≡ 4 * b.values → CellsIn (take b.count b.nodes) (length (take b.count b.nodes)) (length m)
-  cells_in fine m long k h = omega (arith, cell_in (parsed_of b) fine k h, sound.values_sum, long)
+  cells_in fine m long k h = omega (arith, cell_in (parsed_of b) fine k h, b.sum, long)

@@ -27,7 +27,7 @@ use Rattle.records.specs.Answer.{answer}
 use Rattle.boards.specs.Board.{Parsed}
 use Rattle.memory.specs.Memory.{node_in, passed, node_at, kind_at}
 use Rattle.memory.specs.Calls.{check_number, put_number}
-use Rattle.boards.specs.Read.{parsed_of, Sound}
+use Rattle.boards.specs.Read.{parsed_of}
 use Rattle.memory.specs.Fine.{Fine}
 use Rattle.records.specs.declared.answer.Answer.{Answer}
 use Rattle.boards.specs.declared.board.Board.{Board}
@@ -42,21 +42,21 @@ use Rattle.reading.proofs.Choice.{both}
 abbrev by : ℕ → Bool → Bool → Bool → Answer
 by k there takes right = cond (there && takes) (cond right passed (answer 12 k)) (answer 11 k)
 
-module _ (b : Board) (sound : Sound b) (k : ℕ) (x : Float) where
+module _ (b : Board) (k : ℕ) (x : Float) where
   abbrev p : Parsed
   p = parsed_of b
 
   pub number_missing : b.count ≤ k → check_number p k x ≡ answer 11 k
   number_missing h =
-      let gone : ltb k (length p.nodes) ≡ false = le-ltb k (length p.nodes) (omega (arith, count_nodes b sound)) in
+      let gone : ltb k (length p.nodes) ≡ false = le-ltb k (length p.nodes) (omega (arith, count_nodes b)) in
       λ i. by k (gone i) (takes_number (kind_at p k)) (value_fits (kind_at p k) x)
 
   module _ (here : k < b.count) where
     there : ltb k (length p.nodes) ≡ true
-    there = lt-ltb k (length p.nodes) (omega (arith, count_nodes b sound))
+    there = lt-ltb k (length p.nodes) (omega (arith, count_nodes b))
 
     same : {A : Type 0} (f : NodeKind → A) {r : A} → f (node_in b.nodes k).kind ≡ r → f (kind_at p k) ≡ r
-    same f e = ap (λ (n : NodeRecord). f n.kind) (node_in_lem b sound k here) ∙ e
+    same f e = ap (λ (n : NodeRecord). f n.kind) (node_in_lem b k here) ∙ e
 
     -- by what the node's kind says
     pub number_there : {t f : Bool} → takes_number (node_in b.nodes k).kind ≡ t → value_fits (node_in b.nodes k).kind x ≡ f

@@ -116,7 +116,7 @@ fine_board s b p e =
 
 -- of the board as the code holds it
 pub accepted_fine : (s : List ℕ) → Bytes s → (b : Board) → Read (read_board s) (Ok b) → Fine (parsed_of b)
-accepted_fine s small b read = fine_board s small (parsed_of b) read.0
+accepted_fine s small b read = fine_board s small (parsed_of b) read
 
 -- ---- wires and the visiting list
 

@@ -7,7 +7,7 @@ use Rattle.kinds.specs.declared.kind.NodeRecord.{NodeRecord}
 use Rattle.boards.specs.Board.{Parsed, Progress, going, refused, whole, memory_length}
 use Rattle.boards.specs.Judge.{read_board}
 use Rattle.boards.specs.BoardParts.{or_refused, Refuses}
-use Rattle.boards.specs.Read.{parsed_of, Sound}
+use Rattle.boards.specs.Read.{parsed_of}
 use Rattle.boards.specs.Formed.{TableAt}
 use Rattle.boards.specs.declared.board.Board.{Board}
 use Rattle.memory.specs.Memory.{node_in}
@@ -33,7 +33,6 @@ read_judged s m = held_to (λ p. check_values p m) (read_open s (length m))
 -- a board that stands for the reading v: it is fine, and so many bytes are as many as its memory has
 pub record OpenBoard (v : Progress) (lent : ℕ) (b : Board) : Type 0 where
   pub reading : v ≡ whole (parsed_of b)
-  pub sound : Sound b
   pub fine : Fine (parsed_of b)
   pub table : (v : ℕ) → v < 64 → TableAt b v
   pub long : lent ≡ 4 * b.values

@@ -1,6 +1,7 @@
 // Fresh memory. The call judges everything first and then works, so a refusal leaves every byte as found.
 ghost use Rattle.std.specs.Prelude.{◌≡◌, ◌≤◌, length};
 ghost use Rattle.values.specs.Words.{words};
+ghost use Rattle.records.specs.Answer.{told};
 ghost use Rattle.memory.specs.Calls.{fresh_of};
 ghost use Rattle.memory.specs.Stages.{CellsIn, put_numbers};
 
@@ -20,6 +21,16 @@ fn put_numbers(nodes: &[NodeRecord], memory: &mut [u8])
     }
 }
 
+// The whole memory written, or the first refusal.
+fn written(s: &[u8], memory: &mut [u8]) -> Result<(), Answer>
+    ensures { (told result ≡ (fresh_of s.now memory.old).0) × (memory.new ≡ (fresh_of s.now memory.old).1) }
+{
+    let board = opened(s, memory.len())?;
+    memory.fill(0);
+    put_numbers(board.listed(), memory);
+    Ok(())
+}
+
 // The fresh call writes the whole memory: numbers at their start, all else 0.
 // Ruled out, and tried by must-fail edits: numbers left at 0 (fresh_numbers_left_out), a refused call
 // that writes (fresh_refused_writes).
@@ -27,11 +38,5 @@ pub fn fresh(s: &[u8], memory: &mut [u8]) -> Answer
     ensures answered { result ≡ (fresh_of s.now memory.old).0 }
     ensures bytes { memory.new ≡ (fresh_of s.now memory.old).1 }
 {
-    let board = match opened(s, memory.len()) {
-        Ok(board) => board,
-        Err(refused) => return refused,
-    };
-    memory.fill(0);
-    put_numbers(&board.nodes[..board.count], memory);
-    Answer::new(0, 0)
+    Answer::from(written(s, memory))
 }

@@ -18,7 +18,8 @@ pub fn length_judged(lent: usize, needed: usize, refusal: Answer) -> Result<(), 
     if lent == needed { Ok(()) } else { Err(refusal) }
 }
 
-// Check 8: the lowest node with a judged value that is not as it must be.
+// Check 8: the lowest node with a judged value that is not as it must be. A slice, since the laws go by
+// a list of nodes; its bound of 64 is a clause, as in running and resizing, since a slice's type has none.
 fn cells_judged(nodes: &[NodeRecord], memory: &[u8]) -> Result<(), Answer>
     requires { (length nodes.now ≤ 64) × CellsIn nodes.now (length nodes.now) (length memory.now) }
     ensures { result ≡ checked (check_cells (words memory.now) 0 nodes.now) }
@@ -46,6 +47,6 @@ pub fn judged(s: &[u8], memory: &[u8]) -> Result<Board, Answer>
     ensures { Opened (read_judged s.now memory.now) (length memory.now) result }
 {
     let board = opened(s, memory.len())?;
-    cells_judged(&board.nodes[..board.count], memory)?;
+    cells_judged(board.listed(), memory)?;
     Ok(board)
 }

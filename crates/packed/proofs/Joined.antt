@@ -10,7 +10,9 @@ use native.Mathlib.Omega.{arith}
 use borrow.Author.Tests.{eqb-false, eq-eqb}
 use lib.Dec.{eqb}
 use lib.ListN.{length}
-use Rattle.std.specs.Prelude.{Some}
+use Rattle.std.specs.Prelude.{Some, Ok, Err}
+use Rattle.records.specs.Answer.{checked}
+use Rattle.memory.proofs.CallChecks.{checked_passed, checked_refused}
 use Rattle.values.specs.Words.{Bytes, words}
 use Rattle.boards.specs.Board.{Parsed, Progress, going, refused, whole}
 use Rattle.boards.specs.Judge.{read_board}
@@ -20,7 +22,7 @@ use Rattle.memory.specs.Calls.{and_then, check_memory, call_by}
 use Rattle.context.specs.Block.{Outcome, as_left, check_block, check_samples, ran_block, block_in, block_of}
 use Rattle.context.proofs.BlockChecks.{sizes_passed}
 use Rattle.records.specs.declared.answer.Answer.{Answer}
-use Rattle.packed.specs.Packed.{floats_of, packed, check_packed_blocks, packed_in, packed_of}
+use Rattle.packed.specs.Packed.{floats_of, words_of, packed, check_packed_blocks, packed_in, packed_of}
 use Rattle.packed.specs.Said.{size_said}
 use Rattle.packed.proofs.Triples.{floats_long}
 use Rattle.packed.proofs.Finite.{words_finite}
@@ -28,7 +30,7 @@ use Rattle.packed.proofs.Head.{same_size, said_is}
 
 -- the two calls agree: d is the float block's outcome, e the packed block's, for the bytes m, l and r
 abbrev Agree : List ℕ → List ℕ → List ℕ → Outcome → Outcome → Type 0
-Agree m l r d e = (d.answer.number ≡ 0 → packed d ≡ e) × ((d.answer.number ≡ 0 → ⊥) → as_left d.answer d.memory l r ≡ e)
+Agree m l r d e = (d.answer.number ≡ 0 → (d.answer ≡ passed) × (packed d ≡ e)) × ((d.answer.number ≡ 0 → ⊥) → as_left d.answer d.memory l r ≡ e)
 
 module _ (s m x l r L R : List ℕ) (n : ℕ) (bytes : Bytes s) (small : Bytes x) (said : size_said s ≡ Some n)
     (long : (length x ≡ 3 * n) × (length l ≡ 3 * n) × (length r ≡ 3 * n)) (room : (length L ≡ 4 * n) × (length R ≡ 4 * n)) where
@@ -61,7 +63,7 @@ module _ (s m x l r L R : List ℕ) (n : ℕ) (bytes : Bytes s) (small : Bytes x
     where
       go : (a : Answer) (q : Bool) → eqb a.number 0 ≡ q
           → Agree m l r (cond q (ran_block p (listed p) (floats_of x) m) (as_left a m L R)) (cond q (packed (ran_block p (listed p) (floats_of x) m)) (as_left a m l r))
-      go a true f = ((λ z. refl), (λ h. absurd (h refl)))
+      go a true f = ((λ z. (refl, refl)), (λ h. absurd (h refl)))
       go a false f = ((λ z. absurd (eqb-false a.number 0 f z)), (λ h. refl))
 
   agree : Agree m l r (block_of s m (floats_of x) L R) (packed_of s m x l r)
@@ -69,8 +71,14 @@ module _ (s m x l r L R : List ℕ) (n : ℕ) (bytes : Bytes s) (small : Bytes x
   agree = agree_by (read_board s) refl (board_ends s)
 
   module _ (d : Outcome) (e : d ≡ block_of s m (floats_of x) L R) where
-    pub packed_ran : d.answer.number ≡ 0 → packed d ≡ packed_of s m x l r
-    packed_ran z = (rw (← e) at agree).0 z
+    -- where it is accepted, its answer is 0, 0
+    pub packed_ran : Ok tt ≡ checked d.answer → record { answer = passed; memory = d.memory; left = words_of (words d.left); right = words_of (words d.right) } ≡ packed_of s m x l r
+    packed_ran h =
+        let two = (rw (← e) at agree).0 (checked_passed d.answer h) in
+        (λ i. record { answer = sym two.0 i; memory = d.memory; left = words_of (words d.left); right = words_of (words d.right) }) ∙ two.1
 
-    pub packed_refused : (d.answer.number ≡ 0 → ⊥) → as_left d.answer d.memory l r ≡ packed_of s m x l r
-    packed_refused h = (rw (← e) at agree).1 h
+    pub packed_refused : (a : Answer) → Err a ≡ checked d.answer → as_left a d.memory l r ≡ packed_of s m x l r
+    packed_refused a h =
+        let given = checked_refused d.answer a h in
+        let some : d.answer.number ≡ 0 → ⊥ = λ z. omega (arith, given.1, ap (λ (b : Answer). b.number) (sym given.0) ∙ z) in
+        (λ i. as_left (sym given.0 i) d.memory l r) ∙ (rw (← e) at agree).1 some

@@ -1,7 +1,8 @@
 // The block run with packed blocks: the input's words become a float block, that is run as any other, and
 // its outputs go out as words. The call judges everything first, so a refusal leaves every byte as found.
-ghost use Rattle.std.specs.Prelude.{◌≡◌, ℕ, ◌*◌, ◌≤◌, false, Some, None, IfSome, length};
+ghost use Rattle.std.specs.Prelude.{◌≡◌, ℕ, ◌*◌, ◌/◌, ◌≤◌, false, Some, None, IfSome, length};
 ghost use Rattle.values.specs.Words.{words};
+ghost use Rattle.records.specs.Answer.{told};
 ghost use Rattle.context.specs.Block.{as_left};
 ghost use Rattle.packed.specs.Packed.{floats_of, words_of, packed_of};
 ghost use Rattle.packed.specs.Said.{size_said, lengths_fit, Fits};
@@ -40,22 +41,23 @@ fn size_lent(s: &[u8], input: usize, left: usize, right: usize) -> Option<usize>
     }
 }
 
-// Going in: n words as floats. An index: a word has three bytes, a float four.
-fn take_words(input: &[u8], n: usize, floats: &mut [u8])
-    requires { (n ≤ 128) × (length input.now ≡ 3 * n) × (length floats.old ≡ 4 * n) }
+// Going in: words as floats. An index. Tried with the chunks of both blocks zipped: the proof didn't
+// close, as what is written stands in lent chunks and the laws speak of the first i words.
+fn take_words(input: &[u8], floats: &mut [u8])
+    requires { (length floats.old ≤ 512) × (4 * length input.now ≡ 3 * length floats.old) }
     ensures { floats.new ≡ floats_of input.now }
 {
-    for i in 0..n {
+    for i in 0..floats.len() / 4 {
         store(floats, i, of_word(u24_at(input, 3 * i)));
     }
 }
 
-// Going out: n floats as words. An index, as going in.
-fn give_words(floats: &[u8], n: usize, out: &mut [u8])
-    requires { (n ≤ 128) × (length floats.now ≡ 4 * n) × (length out.old ≡ 3 * n) }
+// Going out: floats as words. An index, as going in.
+fn give_words(floats: &[u8], out: &mut [u8])
+    requires { (length floats.now ≤ 512) × (4 * length out.old ≡ 3 * length floats.now) }
     ensures { out.new ≡ words_of (words floats.now) }
 {
-    for i in 0..n {
+    for i in 0..floats.len() / 4 {
         put_u24(out, 3 * i, to_word(load(floats, i)));
     }
 }
@@ -69,25 +71,51 @@ fn converted(
     input: &[u8],
     out0: &mut [u8],
     out1: &mut [u8],
-    n: usize,
     floats: &mut [u8],
     left: &mut [u8],
     right: &mut [u8],
-) -> Answer
-    requires n_value { (size_said s.now ≡ Some n) × (n ≤ 128) }
-    requires input_len { (length input.now ≡ 3 * n) × (length out0.old ≡ 3 * n) × (length out1.old ≡ 3 * n) }
-    requires floats_len { (length floats.old ≡ 4 * n) × (length left.old ≡ 4 * n) × (length right.old ≡ 4 * n) }
-    ensures { as_left result memory.new out0.new out1.new
+) -> Result<(), Answer>
+    requires fits { Fits s.now (length input.now) (length out0.old) (length out1.old) (length floats.old / 4) }
+    requires floats_len { (length floats.old ≡ 4 * (length floats.old / 4)) × (length left.old ≡ length floats.old) × (length right.old ≡ length floats.old) }
+    ensures { as_left (told result) memory.new out0.new out1.new
         ≡ packed_of s.now memory.old input.now out0.old out1.old }
 {
-    take_words(input, n, floats);
-    let answer = block(s, memory, floats, left, right);
-    if answer.number != 0 {
-        return answer;
-    }
-    give_words(left, n, out0);
-    give_words(right, n, out1);
-    answer
+    take_words(input, floats);
+    block(s, memory, floats, left, right).checked()?;
+    give_words(left, out0);
+    give_words(right, out1);
+    Ok(())
+}
+
+// The same for any lengths: another is refused, and before it what checks 1 to 8 refuse.
+fn run_words(
+    s: &[u8],
+    memory: &mut [u8],
+    input: &[u8],
+    out0: &mut [u8],
+    out1: &mut [u8],
+) -> Result<(), Answer>
+    ensures { as_left (told result) memory.new out0.new out1.new
+        ≡ packed_of s.now memory.old input.now out0.old out1.old }
+{
+    let Some(n) = size_lent(s, input.len(), out0.len(), out1.len()) else {
+        let board = judged(s, memory)?;
+        return Err(Answer::new(13, board.size));
+    };
+    let size = 4 * n;
+    let mut floats = [0u8; 512];
+    let mut left = [0u8; 512];
+    let mut right = [0u8; 512];
+    converted(
+        s,
+        memory,
+        input,
+        out0,
+        out1,
+        &mut floats[..size],
+        &mut left[..size],
+        &mut right[..size],
+    )
 }
 
 // A packed block.
@@ -103,25 +131,5 @@ pub fn block24(
     ensures { as_left result memory.new out0.new out1.new
         ≡ packed_of s.now memory.old input.now out0.old out1.old }
 {
-    let Some(n) = size_lent(s, input.len(), out0.len(), out1.len()) else {
-        return match judged(s, memory) {
-            Ok(board) => Answer::new(13, board.size),
-            Err(refused) => refused,
-        };
-    };
-    let size = 4 * n;
-    let mut floats = [0u8; 512];
-    let mut left = [0u8; 512];
-    let mut right = [0u8; 512];
-    converted(
-        s,
-        memory,
-        input,
-        out0,
-        out1,
-        n,
-        &mut floats[..size],
-        &mut left[..size],
-        &mut right[..size],
-    )
+    Answer::from(run_words(s, memory, input, out0, out1))
 }

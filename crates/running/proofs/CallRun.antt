@@ -30,11 +30,11 @@ use Rattle.boards.specs.Board.{blank, Parsed, cells_of}
 use Rattle.sources.specs.Sources.{distinct_sources, second_source}
 use Rattle.memory.specs.Memory.{node_in, node_at, kind_at, listed}
 use Rattle.running.specs.Run.{left_start, right_start, brought_by, run_node, run_nodes}
-use Rattle.boards.specs.Read.{parsed_of, Sound}
+use Rattle.boards.specs.Read.{parsed_of}
 use Rattle.graph.specs.Listed.{SourcesBelow}
 use Rattle.memory.specs.Fine.{Fine}
 use Rattle.boards.specs.Formed.{TableAt}
-use Rattle.running.specs.Lent.{StartFits, StartsFit, Started, StartsOf, Runs}
+use Rattle.running.specs.Lent.{StartsFit, Started, StartsOf, Runs}
 use Rattle.nodes.specs.declared.node.Starts.{Starts}
 use Rattle.records.specs.declared.answer.Answer.{Answer}
 use Rattle.boards.specs.declared.board.Board.{Board}
@@ -75,7 +75,7 @@ number_below n (x ∷ l) h f (suc j) = number_below n l h (λ s e. f s (or_right
 
 -- ---- the board in arrays
 
-module _ (b : Board) (sound : Sound b) (fine : Fine (parsed_of b)) where
+module _ (b : Board) (fine : Fine (parsed_of b)) where
   abbrev p : Parsed
   p = parsed_of b
 
@@ -83,24 +83,23 @@ module _ (b : Board) (sound : Sound b) (fine : Fine (parsed_of b)) where
   N = b.size
 
   node_there : (k : ℕ) → k < b.count → k < length p.nodes
-  node_there k h = omega (arith, count_nodes b sound)
+  node_there k h = omega (arith, count_nodes b)
 
-  pub starts_fit : StartsFit b.nodes b.count
-  starts_fit k h =
-      let there = node_there k h in
+  pub starts_fit : StartsFit p.nodes (length p.nodes)
+  starts_fit k there =
       let w = samples_within N (kind_at p k) in
-      subst StartFits (node_in_lem b sound k h) (record {
+      record {
         some_channel = omega (arith, (fine.nodes k there).channels, w.some);
         few_channels = omega (arith, (fine.nodes k there).channels, w.few);
-        cell_in = omega (arith, cell_in p fine k there, sound.values_sum, sound.few_values);
-      })
+        cell_in = omega (arith, cell_in p fine k there, b.sum, b.held);
+      }
 
   source_below : SourcesBelow p.wires b.count
-  source_below k s e = omega (arith, source_there p fine k s e, count_nodes b sound)
+  source_below k s e = omega (arith, source_there p fine k s e, count_nodes b)
 
   module _ (table : (v : ℕ) → v < 64 → TableAt b v) (k : ℕ) (here : k < b.count) where
     small : k < 64
-    small = omega (arith, sound.few_nodes)
+    small = omega (arith, b.few)
 
     -- ---- the sources
 
@@ -108,7 +107,7 @@ module _ (b : Board) (sound : Sound b) (fine : Fine (parsed_of b)) where
     distinct_there s e = source_below k s (sym (mem_distinct s (sources p.wires k)) ∙ e)
 
     second_there : second_source p.wires k < b.count
-    second_there = number_below b.count (sources p.wires k) (omega (arith, fine.formed.some_nodes, count_nodes b sound)) (source_below k) 1
+    second_there = number_below b.count (sources p.wires k) (omega (arith, fine.formed.some_nodes, count_nodes b)) (source_below k) 1
 
     module _ (r : ℕ) (count_is : r ≡ get_or b.sources.counts k 0) where
       abbrev list : List ℕ
@@ -116,7 +115,7 @@ module _ (b : Board) (sound : Sound b) (fine : Fine (parsed_of b)) where
 
       list_long : length list ≡ r
       list_long =
-          length-take-le r (drop (8 * k) b.sources.lists) (omega (arith, length-drop (8 * k) b.sources.lists, sound.table.lists_long, (table k small).few))
+          length-take-le r (drop (8 * k) b.sources.lists) (omega (arith, length-drop (8 * k) b.sources.lists, b.table.lists_long, (table k small).few))
 
       list_at : (j : ℕ) → j < r → get_or list j 0 ≡ get_or b.sources.lists (8 * k + j) 0
       list_at j h = get_or-take r (drop (8 * k) b.sources.lists) j 0 h ∙ get_or-drop (8 * k) b.sources.lists j 0
@@ -150,7 +149,7 @@ module _ (b : Board) (sound : Sound b) (fine : Fine (parsed_of b)) where
         samples_in m long h j l =
             let s : ℕ = get_or list j 0 in
             let q : s < b.count = list_there j l in
-            (omega (arith, sound.few_nodes), omega (arith, start_is s q, h s (node_there s q), cell_in p fine s (node_there s q)))
+            (omega (arith, b.few), omega (arith, start_is s q, h s (node_there s q), cell_in p fine s (node_there s q)))
 
       -- ---- a turn
 
@@ -168,7 +167,7 @@ module _ (b : Board) (sound : Sound b) (fine : Fine (parsed_of b)) where
         right_starts = starts.rights
 
         second_same : second ≡ second_source p.wires k
-        second_same = second_is ∙ sound.table.second k small
+        second_same = second_is ∙ b.table.second k small
 
         second_low : second < b.count
         second_low = subst (λ (s : ℕ). s < b.count) (sym second_same) second_there
@@ -195,7 +194,7 @@ module _ (b : Board) (sound : Sound b) (fine : Fine (parsed_of b)) where
                 right = samples_same (right_start N) at₁ right_starts (words m) i j;
                 second = float_at (words m) (start_same left_start at₀ left_starts (second_source p.wires k) second_there j + i);
               } in
-              ap (λ (n : NodeRecord). node_run n.kind N n.cell (bring list second) (words m)) (sym (node_in_lem b sound k here))
+              ap (λ (n : NodeRecord). node_run n.kind N n.cell (bring list second) (words m)) (sym (node_in_lem b k here))
               ∙ ap (λ (bs : ℕ → Brought). node_run (kind_at p k) N (node_at p k).cell bs (words m)) (listed_same ∙ started-same)
 
           pub turn_ready : length m ≡ 4 * cells_of b.size p.nodes → Judged (parsed_of b) (words m)
@@ -203,7 +202,7 @@ module _ (b : Board) (sound : Sound b) (fine : Fine (parsed_of b)) where
           turn_ready long judged =
               let there = node_there k here in
               let length-same : length (distinct_sources p.wires k) ≡ length list = ap length (sym list_is) in
-              subst (λ (n : NodeRecord). Ready m n.kind N n.cell list at₀ at₁ second) (node_in_lem b sound k here) (record {
+              subst (λ (n : NodeRecord). Ready m n.kind N n.cell list at₀ at₁ second) (node_in_lem b k here) (record {
                 above = fine.least_size;
                 small = fine.most_size;
                 line = (fine.nodes k there).line;
@@ -214,7 +213,7 @@ module _ (b : Board) (sound : Sound b) (fine : Fine (parsed_of b)) where
                 rights_long = right_starts.long;
                 left_in = samples_in left_start at₀ left_starts m long left_fits;
                 right_in = samples_in (right_start N) at₁ right_starts m long right_fits;
-                second_below = omega (arith, second_low, sound.few_nodes);
+                second_below = omega (arith, second_low, b.few);
                 second_in = omega (arith, start_is left_start at₀ left_starts second second_low, left_fits second (node_there second second_low), cell_in p fine second (node_there second second_low));
               })
 
@@ -248,14 +247,14 @@ module _ (b : Board) (st : Starts) (o : Order) (m₀ : List ℕ) (runs : Runs b 
     k = get_or nodes i 0
 
     pub node_listed : get_or (listed (parsed_of b)) i 0 < b.count
-    node_listed = omega (arith, listed_there (parsed_of b) runs.fine k (mem_at nodes i more), count_nodes b runs.sound)
+    node_listed = omega (arith, listed_there (parsed_of b) runs.fine k (mem_at nodes i more), count_nodes b)
 
     pub running_more : (m m' : List ℕ) → Running b m₀ m i → length m' ≡ length m → words m' ≡ run_node (parsed_of b) (get_or (listed (parsed_of b)) i 0) (words m)
         → Running b m₀ m' (i + 1)
     unfolding run_nodes
     running_more m m' run long ran =
         let p = parsed_of b in
-        let there : k < length p.nodes = omega (arith, node_listed, count_nodes b runs.sound) in
+        let there : k < length p.nodes = omega (arith, node_listed, count_nodes b) in
         let size : length (words m) ≡ cells_of p.size p.nodes = omega (arith, length-words m, run.kept, runs.long) in
         record {
           kept = long ∙ run.kept;

@@ -2,7 +2,7 @@
 use Rattle.std.specs.Prelude.{ℕ, ◌≤◌, ◌<◌, ◌≡◌, List, map, length, take}
 use Rattle.kinds.specs.declared.kind.NodeRecord.{NodeRecord}
 use Rattle.boards.specs.Board.{memory_length}
-use Rattle.boards.specs.Read.{parsed_of, Sound}
+use Rattle.boards.specs.Read.{parsed_of}
 use Rattle.boards.specs.Formed.{TableAt}
 use Rattle.boards.specs.declared.board.Board.{Board}
 use Rattle.graph.specs.Visit.{Lists}
@@ -35,7 +35,6 @@ pub record StartsOf (nodes : List NodeRecord) (N : ℕ) (s : Starts) : Type 0 wh
 
 -- what the run of the listed nodes asks: an accepted board, the starts of its nodes' samples, its list, and memory that is judged
 pub record Runs (b : Board) (s : Starts) (o : Order) (m : List ℕ) : Type 0 where
-  pub sound : Sound b
   pub fine : Fine (parsed_of b)
   pub table : (v : ℕ) → v < 64 → TableAt b v
   pub starts : StartsOf (take b.count b.nodes) b.size s

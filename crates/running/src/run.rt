@@ -1,6 +1,6 @@
 // The stages of a block run: the memory judged, the input put into it, the listed nodes run, and node
 // 0's two channels given.
-ghost use Rattle.std.specs.Prelude.{◌≡◌, ◌+◌, ◌*◌, ◌≤◌, OnOk, length, take, drop};
+ghost use Rattle.std.specs.Prelude.{◌≡◌, ◌+◌, ◌*◌, ◌≤◌, OnOk, length, drop};
 ghost use Rattle.std.proofs.Math.Seq.{paste};
 ghost use Rattle.values.specs.Words.{words};
 ghost use Rattle.kinds.specs.Kind.{samples_from};
@@ -20,16 +20,8 @@ use memory::open::length_judged;
 use nodes::node::{Inputs, Starts, step};
 use records::answer::Answer;
 
-// The bytes of `from` from `start` on into `to` from `at` on, `count` of them.
-fn copy(from: &[u8], start: usize, to: &mut [u8], at: usize, count: usize)
-    requires { (start + count ≤ length from.now) × (at + count ≤ length to.old) }
-    ensures { to.new ≡ paste to.old at (drop start from.now) count }
-{
-    to[at..at + count].copy_from_slice(&from[start..start + count]);
-}
-
-// Check 8, and the starts of the nodes' samples. One pass over the nodes, measured: memory's
-// `cells_judged` and a loop for the starts would be two.
+// Check 8, and the starts of the nodes' samples. One pass over the nodes: memory's `cells_judged` and a
+// loop for the starts would be two.
 fn starts_judged(
     nodes: &[NodeRecord],
     size: usize,
@@ -52,17 +44,23 @@ fn starts_judged(
     Ok(())
 }
 
-// Checks 7 and 8 of a board that is read whole, with the starts.
-pub fn memory_judged(board: &Board, memory: &[u8], starts: &mut Starts) -> Result<(), Answer>
-    requires { (board.now.count ≤ 64) × (board.now.size ≤ 128) × (board.now.values ≤ 278720)
-        × StartsFit board.now.nodes board.now.count × CellsIn board.now.nodes board.now.count (4 * board.now.values) }
-    ensures answered { result ≡ checked (and_then (check_needed (4 * board.now.values) (length memory.now))
-        (check_cells (words memory.now) 0 (take board.now.count board.now.nodes))) }
-    ensures started { OnOk result (StartsOf (take board.now.count board.now.nodes) board.now.size starts.new) }
+// Checks 7 and 8 of a board's nodes, with the starts. `values` are those of all cells.
+pub fn memory_judged(
+    nodes: &[NodeRecord],
+    size: usize,
+    values: usize,
+    memory: &[u8],
+    starts: &mut Starts,
+) -> Result<(), Answer>
+    requires { (length nodes.now ≤ 64) × (size ≤ 128) × (values ≤ 278720)
+        × StartsFit nodes.now (length nodes.now) × CellsIn nodes.now (length nodes.now) (4 * values) }
+    ensures answered { result ≡ checked (and_then (check_needed (4 * values) (length memory.now))
+        (check_cells (words memory.now) 0 nodes.now)) }
+    ensures started { OnOk result (StartsOf nodes.now size starts.new) }
 {
-    let needed = 4 * board.values;
+    let needed = 4 * values;
     length_judged(memory.len(), needed, Answer::new(7, needed))?;
-    starts_judged(&board.nodes[..board.count], board.size, memory, starts)
+    starts_judged(nodes, size, memory, starts)
 }
 
 // The listed nodes, in order.
@@ -75,13 +73,10 @@ pub fn run(board: &Board, starts: &Starts, order: &Order, memory: &mut [u8])
     let mut m = [0.0f32; 128];
     let x = &mut x[..board.size];
     let m = &mut m[..board.size];
-    let listed = order.listed();
-    for node in listed {
+    for node in order.listed() {
         let k = usize::from(*node);
-        let from = 8 * k;
-        let to = from + usize::from(table.counts[k]);
         let sources = Inputs {
-            list: &table.lists[from..to],
+            list: table.of(k),
             second: usize::from(table.seconds[k]),
         };
         step(memory, board.nodes[k], sources, starts, x, m);
@@ -89,22 +84,24 @@ pub fn run(board: &Board, starts: &Starts, order: &Order, memory: &mut [u8])
 }
 
 // The input block into the samples of the input node, whose cell starts at `cell`.
-pub fn put_input(input: &[u8], cell: usize, size: usize, memory: &mut [u8])
-    requires { (4 * size ≤ length input.now) × (4 * (cell + samples_from) + 4 * size ≤ length memory.old) × (length memory.old ≤ 1114880) }
-    ensures { memory.new ≡ paste memory.old (4 * (cell + samples_from)) (drop 0 input.now) (4 * size) }
+pub fn put_input(input: &[u8], cell: usize, memory: &mut [u8])
+    requires { (4 * (cell + samples_from) + length input.now ≤ length memory.old) × (length memory.old ≤ 1114880) }
+    ensures { memory.new ≡ paste memory.old (4 * (cell + samples_from)) input.now (length input.now) }
 {
-    copy(input, 0, memory, 4 * (cell + SAMPLES), 4 * size);
+    let at = 4 * (cell + SAMPLES);
+    memory[at..at + input.len()].copy_from_slice(input);
 }
 
 // The byte at which node 0's samples start: its cell is the first.
 const FIRST: usize = 4 * SAMPLES;
 
 // Node 0's two channels out.
-pub fn give(memory: &[u8], size: usize, out0: &mut [u8], out1: &mut [u8])
-    requires { (size ≤ 128) × (4 * (samples_from + size + size) ≤ length memory.now) × (length out0.old ≡ 4 * size) × (length out1.old ≡ 4 * size) }
-    ensures { (out0.new ≡ paste out0.old 0 (drop (4 * samples_from) memory.now) (4 * size))
-        × (out1.new ≡ paste out1.old 0 (drop (4 * samples_from + 4 * size) memory.now) (4 * size)) }
+pub fn give(memory: &[u8], out0: &mut [u8], out1: &mut [u8])
+    requires { (4 * samples_from + length out0.old + length out1.old ≤ length memory.now) × (length out0.old ≤ 512) × (length out1.old ≤ 512) }
+    ensures { (out0.new ≡ paste out0.old 0 (drop (4 * samples_from) memory.now) (length out0.old))
+        × (out1.new ≡ paste out1.old 0 (drop (4 * samples_from + length out0.old) memory.now) (length out1.old)) }
 {
-    copy(memory, FIRST, out0, 0, 4 * size);
-    copy(memory, FIRST + 4 * size, out1, 0, 4 * size);
+    let next = FIRST + out0.len();
+    out0.copy_from_slice(&memory[FIRST..next]);
+    out1.copy_from_slice(&memory[next..next + out1.len()]);
 }

@@ -21,6 +21,6 @@ pub returns : goal.returns
 returns c =
     let a = c.args in
     let refusal = c.new-refusal in
-    checked_then _ (and_then (check_size a.size a.left) (check_size a.size a.right)) _ (sized a.size a.input _ refusal.ensures _ c.in_ok-length_judged.ensures)
-    (checked_then _ (check_size a.size a.right) _ (sized a.size a.left _ refusal.ensures _ c.in_ok-length_judged-2.ensures)
-    (sized a.size a.right _ refusal.ensures _ c.length_judged-3.ensures))
+    checked_then _ (and_then (check_size a.board.now.size a.left) (check_size a.board.now.size a.right)) _ (sized a.board.now.size a.input _ refusal.ensures _ c.in_ok-length_judged.ensures)
+    (checked_then _ (check_size a.board.now.size a.right) _ (sized a.board.now.size a.left _ refusal.ensures _ c.in_ok-length_judged-2.ensures)
+    (sized a.board.now.size a.right _ refusal.ensures _ c.length_judged-3.ensures))

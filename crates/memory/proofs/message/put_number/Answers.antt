@@ -9,11 +9,11 @@ use Rattle.memory.proofs.message.put_number.Goals as goal
 
 pub store-requires : goal.store-requires
 store-requires c =
-    omega (arith, cells_fit c.args.board.now c.requires.sound c.requires.fine c.args.k c.requires.k_lt_count, c.requires.memory_len)
+    omega (arith, cells_fit c.args.board.now c.requires.fine c.args.k c.requires.k_lt_count, c.requires.memory_len)
 
 pub returns : goal.returns
 returns c =
     let b = c.args.board.now in
     let m = words c.args.memory.now in
     c.store.ensures
-    ∙ ap (λ (r : NodeRecord). set_float m r.cell c.args.value) (sym (node_in_lem b c.requires.sound c.args.k c.requires.k_lt_count))
+    ∙ ap (λ (r : NodeRecord). set_float m r.cell c.args.value) (sym (node_in_lem b c.args.k c.requires.k_lt_count))

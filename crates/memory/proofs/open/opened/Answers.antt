@@ -21,8 +21,7 @@ returns c =
     let passes : Ok tt ≡ checked (check_needed (4 * b.values) c.args.lent) =
     c.in_ok-length_judged.ensures ∙ test_checked (eqb c.args.lent (4 * b.values)) _ _ c.new.ensures (omega arith) in
     record {
-      reading = held_passed (λ p. check_needed (memory_length p) c.args.lent) read.0 (passes ∙ ap (λ (v : ℕ). checked (check_needed (4 * v) c.args.lent)) read.1.values_sum);
-      sound = read.1;
+      reading = held_passed (λ p. check_needed (memory_length p) c.args.lent) read (passes ∙ ap (λ (v : ℕ). checked (check_needed (4 * v) c.args.lent)) b.sum);
       fine = accepted_fine s (λ i. omega (arith, c.type_inv.s i)) b read;
       table = table_at s b read;
       long = needed_long (4 * b.values) c.args.lent (checked_passed _ passes);

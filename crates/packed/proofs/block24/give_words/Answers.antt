@@ -1,7 +1,8 @@
 -- `packed::block24::give_words` meets its contract: after i turns the first i words stand in the packed block. Assumes nothing.
-use Prim.Native.Nat.{ℕ, ◌*◌}
+use Prim.Native.Nat.{ℕ, ◌*◌, ◌/◌}
 use mathlib.Core.Path.{◌≡◌, refl, ap, ◌∙◌}
 use native.Mathlib.Omega.{arith}
+use lib.ListN.{length}
 use lib.Seq.{sets}
 use Rattle.values.specs.Words.{words, length-words}
 use Rattle.values.specs.Bytes.{u24_bytes}
@@ -28,5 +29,6 @@ pub returns : goal.returns
 returns c =
     let floats = c.args.floats.now in
     let l = c.loop-i in
-    let all : l.i ≡ c.args.n = omega arith in
-    given_all (words floats) l.out c.args.n (omega (arith, length-words floats)) (omega arith) (rw all at l.invariant.1)
+    let n : ℕ = length c.args.floats.now / 4 in
+    let all : l.i ≡ n = omega arith in
+    given_all (words floats) l.out n (omega (arith, length-words floats)) (omega arith) (rw all at l.invariant.1)

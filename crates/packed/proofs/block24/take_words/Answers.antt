@@ -1,8 +1,9 @@
 -- `packed::block24::take_words` meets its contract: after i turns the first i samples stand in the float block. Assumes nothing.
-use Prim.Native.Nat.{ℕ}
+use Prim.Native.Nat.{ℕ, ◌/◌}
 use mathlib.Core.Path.{◌≡◌, refl, sym, ap, ◌∙◌}
 use native.Mathlib.Omega.{arith}
 use lib.Ieee.{binary32, to_bits}
+use lib.ListN.{length}
 use Rattle.values.specs.Words.{words, length-words, unwords, unwords-words}
 use Rattle.values.specs.Floats.{set_float}
 use Rattle.leaves.specs.Converter.{of_word}
@@ -36,7 +37,8 @@ pub returns : goal.returns
 returns c =
     let input = c.args.input.now in
     let l = c.loop-i in
-    let all : l.i ≡ c.args.n = omega arith in
-    unwords-words l.floats c.args.n (omega arith) l.invariant.1
-    ∙ ap unwords (taken_all pattern (triples input) (words l.floats) c.args.n (omega (arith, length-words l.floats)) (omega (arith, length-triples input))
+    let n : ℕ = length c.args.floats.now / 4 in
+    let all : l.i ≡ n = omega arith in
+    unwords-words l.floats n (omega arith) l.invariant.1
+    ∙ ap unwords (taken_all pattern (triples input) (words l.floats) n (omega (arith, length-words l.floats)) (omega (arith, length-triples input))
     (rw all at l.invariant.2))
