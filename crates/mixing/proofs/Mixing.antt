@@ -16,7 +16,7 @@ use Rattle.records.specs.Answer.{answer}
 use Rattle.boards.specs.Board.{Parsed}
 use Rattle.memory.specs.Memory.{node_in, passed, kind_at}
 use Rattle.memory.specs.Calls.{and_then}
-use Rattle.boards.specs.Read.{parsed_of, Sound}
+use Rattle.boards.specs.Read.{parsed_of}
 use Rattle.boards.specs.declared.board.Board.{Board}
 use Rattle.memory.proofs.CallCells.{node_in_lem, count_nodes}
 use Rattle.reading.proofs.Choice.{both}
@@ -25,19 +25,19 @@ use Rattle.mixing.specs.Mix.{is_mul, check_mul, check_finite, check_mix}
 
 -- ---- check 11 on the code's arrays
 
-module _ (b : Board) (sound : Sound b) (k : ℕ) where
+module _ (b : Board) (k : ℕ) where
   abbrev p : Parsed
   p = parsed_of b
 
   pub mul_missing : b.count ≤ k → check_mul p k ≡ answer 11 k
   mul_missing h =
-      let gone : ltb k (length p.nodes) ≡ false = le-ltb k (length p.nodes) (omega (arith, count_nodes b sound)) in
+      let gone : ltb k (length p.nodes) ≡ false = le-ltb k (length p.nodes) (omega (arith, count_nodes b)) in
       λ i. cond (gone i && is_mul (kind_at p k)) passed (answer 11 k)
 
   pub mul_there : k < b.count → {t : Bool} → is_mul (node_in b.nodes k).kind ≡ t → check_mul p k ≡ cond t passed (answer 11 k)
   mul_there h e =
-      let there : ltb k (length p.nodes) ≡ true = lt-ltb k (length p.nodes) (omega (arith, count_nodes b sound)) in
-      let same = ap (λ (n : NodeRecord). is_mul n.kind) (node_in_lem b sound k h) ∙ e in
+      let there : ltb k (length p.nodes) ≡ true = lt-ltb k (length p.nodes) (omega (arith, count_nodes b)) in
+      let same = ap (λ (n : NodeRecord). is_mul n.kind) (node_in_lem b k h) ∙ e in
       λ i. cond (there i && same i) passed (answer 11 k)
 
 -- ---- where the checks pass

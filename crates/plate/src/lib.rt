@@ -1,5 +1,6 @@
 // The library's calls: numbers and byte slices in, a number and a place out. None asks anything of its
-// caller, and a refusal leaves every byte as found. The crate plate_c exports them for C.
+// caller, and a refusal leaves every byte as found. The crate plate_c exports them for C. Each has the clauses
+// of the function that does the work, whole: one who calls it reads them here.
 #![tactic(auto)]
 
 ghost use Rattle.std.specs.Prelude.{◌≡◌};
@@ -136,8 +137,7 @@ pub fn plate_delay_length(ms: f32) -> Answer
 }
 
 // 0 and the length of an all-pass of so many milliseconds.
-// Ruled out: another length for 0 ms (leaves, all_pass_of_zero), a line of no sample (leaves,
-// all_pass_of_no_sample).
+// Ruled out: another length for 0 ms, a line of no sample (leaves, all_pass_of_no_sample).
 pub fn plate_allpass_length(ms: f32) -> Answer
     ensures { result ≡ length_answer (all_pass_of ms) }
 {

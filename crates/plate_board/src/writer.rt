@@ -31,8 +31,8 @@ const SWING: u32 = 0x40b0_0000;
 
 const MIDDLE: u32 = 0x41ec_0000;
 
-// Each node's type, whole number and bits of its float; those of the mix, 41, 43, 47 and 49, are put in
-// as the plate is written.
+// Each node's type, whole number and bits of its float; those of the mix are put in as the plate is
+// written.
 const NODES: [(Kind, u32, u32); 51] = [
     (Kind::Destination, 0, 0), // 0 destination
     (Kind::Pass, 0, 0), // 1 the context's input, not used
@@ -87,7 +87,8 @@ const NODES: [(Kind, u32, u32); 51] = [
     (Kind::Balance, 0, 0), // 50 balance
 ];
 
-// Each wire's source and target.
+// Each wire's source and target: a pair, as a record has them; a struct of one width would be converted where
+// the table of sources has bytes and a walk has indices.
 const WIRES: [(u16, u16); 68] = [
     (2, 3),
     (3, 4),
@@ -160,7 +161,16 @@ const WIRES: [(u16, u16); 68] = [
 ];
 
 // How long the plate's bytes are.
-const LENGTH: usize = 1270;
+pub const LENGTH: usize = 1270;
+
+// The muls by which the plate mixes its wet and its dry signal, left and right.
+pub const WET_LEFT: usize = 41;
+
+pub const WET_RIGHT: usize = 47;
+
+pub const DRY_LEFT: usize = 43;
+
+pub const DRY_RIGHT: usize = 49;
 
 // The nodes' records, behind the head.
 fn put_nodes(board: &mut [u8], mix: u32, dry: u32)
@@ -168,12 +178,12 @@ fn put_nodes(board: &mut [u8], mix: u32, dry: u32)
     ensures { board.new ≡ sets board.old 8 (nodes_bytes (plate_nodes mix dry)) }
 {
     let mut nodes = NODES;
-    nodes[41].2 = mix;
-    nodes[43].2 = dry;
-    nodes[47].2 = mix;
-    nodes[49].2 = dry;
+    nodes[WET_LEFT].2 = mix;
+    nodes[DRY_LEFT].2 = dry;
+    nodes[WET_RIGHT].2 = mix;
+    nodes[DRY_RIGHT].2 = dry;
     for (i, &(kind, whole, float)) in nodes.iter().enumerate() {
-        put_node(board, 8 + 14 * i, kind.number(), whole, float);
+        put_node(board, 8 + 14 * i, u16::from(kind), whole, float);
     }
 }
 
@@ -198,7 +208,8 @@ fn put_plate(board: &mut [u8], size: u16, mix: u32, dry: u32)
     put_end(board, 1266);
 }
 
-// The plate writer. Checks 3, 12 and 7 come first, so a refusal leaves every byte as found.
+// The plate writer. Checks 3, 12 and 7 come first, so a refusal leaves every byte as found. Each is made here
+// and returned at once, so there is nothing for `?` to hand on.
 pub fn write(n: u32, mix: f32, board: &mut [u8]) -> Answer
     ensures answered { result ≡ (write_of n mix board.old).0 }
     ensures bytes { board.new ≡ (write_of n mix board.old).1 }
@@ -207,7 +218,7 @@ pub fn write(n: u32, mix: f32, board: &mut [u8]) -> Answer
         return Answer::new(3, 0);
     }
     if !finite(mix) {
-        return Answer::new(12, 41);
+        return Answer::new(12, WET_LEFT);
     }
     if board.len() != LENGTH {
         return Answer::new(7, LENGTH);

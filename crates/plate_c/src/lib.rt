@@ -1,5 +1,5 @@
 // The calls of the crate plate, exported for C: include/plate.h declares them. Each export has the clauses of
-// the call of its name.
+// the call of its name, whole, as one who calls it reads them here.
 #![tactic(auto)]
 
 ghost use Rattle.std.specs.Prelude.{◌≡◌};

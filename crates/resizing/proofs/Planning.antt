@@ -1,6 +1,6 @@
 -- What is to be done to a board that is carried to another block size, case by case, and laws for the functions of src/resize.rt.
 --     lates_more                  the late wires of one wire more
---     lines_more                  the lines of one node more
+--     lines_sum                   the lines of the nodes are a sum
 --     last_there                  the last late wire's target is a node
 --     Tested, tested, line_view   what becomes of the late wire's target, case by case
 --     no_delay_is                 a kind that is no delay
@@ -13,13 +13,12 @@ use Prim.Native.Nat.{ℕ, ◌+◌, ◌-◌, ◌*◌, ◌≤◌, ◌<◌}
 use mathlib.Core.Path.{◌≡◌, refl, sym, ap, subst⁻¹, ◌∙◌}
 use mathlib.Core.Bool.{Bool, true, false, cond, ◌||◌, and-eq-true_iff}
 use mathlib.Core.List.{List, [], ◌∷◌, ◌++◌, append-nil}
-use native.Mathlib.Numerals.{add-one}
 use native.Mathlib.Omega.{arith}
 use lib.Dec.{eqb, leb, ltb}
-use lib.ListN.{length, get_or, take, length-append}
-use lib.Seq.{take-suc}
+use lib.ListN.{length, get_or, length-append}
 use borrow.Author.Tests.{ltb-true, ltb-false, leb-true, leb-false, le-leb, lt-leb, eqb-true, eqb-false, eq-eqb, ne_eqb}
-use Rattle.std.specs.Prelude.{Option, Some, None, Result, Ok, Err}
+use Rattle.std.proofs.lemmas.List.Sums.{sum_by-cons}
+use Rattle.std.specs.Prelude.{sum_by, Option, Some, None, Result, Ok, Err}
 use Rattle.values.specs.Words.{Bytes}
 use Rattle.kinds.specs.Kind.{line_of}
 use Rattle.kinds.specs.declared.kind.NodeKind.{NodeKind}
@@ -28,7 +27,7 @@ use Rattle.kinds.specs.declared.kind.NodeRecord.{NodeRecord}
 use Rattle.kinds.proofs.Arms.{kinds as each}
 use Rattle.reading.specs.Table.{All}
 use Rattle.reading.specs.Order.{Wire, Each, wire}
-use Rattle.boards.specs.Board.{Parsed, whole, blank, lines_of, size_fits}
+use Rattle.boards.specs.Board.{Parsed, whole, lines_of, size_fits}
 use Rattle.boards.specs.Judge.{read_board}
 use Rattle.boards.specs.Wires.{wire_of, wires_of}
 use Rattle.graph.specs.Late.{is_late, late_wires}
@@ -38,7 +37,6 @@ use Rattle.reading.proofs.Choice.{pick, both, neither}
 use Rattle.graph.proofs.Late.{late-more}
 use Rattle.boards.proofs.Round.{read_write}
 use Rattle.boards.proofs.RoundSix.{records_length}
-use Rattle.boards.proofs.Sums.{lines_snoc}
 use Rattle.memory.specs.Memory.{listed, kind_at}
 use Rattle.resizing.specs.declared.resize.Reason.{Reason}
 use Rattle.resizing.specs.declared.resize.Reason.TheVariants.{NoSize, ManyLate, NoDelay, TooShort, TooLong, TooMuch}
@@ -67,8 +65,9 @@ lates_more l ws i n g b inside e h =
 
 -- ---- the lines, node by node
 
-pub lines_more : (ns : List NodeRecord) (i : ℕ) → i < length ns → lines_of (take (i + 1) ns) ≡ lines_of (take i ns) + line_of (get_or ns i blank).kind
-lines_more ns i h = rw add-one (ap lines_of (take-suc ns i blank h) ∙ lines_snoc (take i ns) (get_or ns i blank))
+pub lines_sum : (ns : List NodeRecord) → sum_by (λ (r : NodeRecord). line_of r.kind) ns ≡ lines_of ns
+lines_sum [] = refl
+lines_sum (r ∷ ns) = sum_by-cons (λ (d : NodeRecord). line_of d.kind) r ns ∙ ap (λ (n : ℕ). line_of r.kind + n) (lines_sum ns)
 
 -- the last late wire's target is a node
 pub last_there : (m : ℕ) (l : List ℕ) (ws : List Wire) (n t : ℕ) → Each (WireObeys m) ws → Lates (late_wires l ws) n (Some t) → t < m

@@ -11,6 +11,7 @@ use Rattle.boards.specs.Board.{Parsed, Progress, going, refused, whole, lines_of
 use Rattle.boards.specs.Judge.{read_board}
 use Rattle.graph.specs.Late.{late_wires}
 use Rattle.memory.specs.Memory.{kind_at, listed}
+use Rattle.records.specs.Answer.{answer}
 use Rattle.resizing.specs.declared.resize.Reason.{Reason}
 use Rattle.resizing.specs.declared.resize.Reason.TheVariants.{Refused, NoSize, ManyLate, NoDelay, TooShort, TooLong, TooMuch}
 use Rattle.resizing.specs.declared.resize.Resized.{Resized}
@@ -43,8 +44,8 @@ unfoldable pub plan_of : Parsed → ℕ → Result Resized Reason
 plan_of p M = cond (size_fits M) (cond (eqb M p.size) (Ok Same) (late_by p M (late_wires (listed p) p.wires))) (Err NoSize)
 
 abbrev pub plan_by : ℕ → Progress → Result Resized Reason
-plan_by M (going at last p) = Err (Refused 1 at)
-plan_by M (refused n w) = Err (Refused n w)
+plan_by M (going at last p) = Err (Refused (answer 1 at))
+plan_by M (refused n w) = Err (Refused (answer n w))
 plan_by M (whole p) = plan_of p M
 
 -- of a board's bytes

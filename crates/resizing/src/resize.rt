@@ -2,8 +2,8 @@
 ghost use Rattle.std.specs.Prelude.{◌≡◌, List, ℕ, ◌≤◌, ◌<◌, Ok, length};
 ghost use Rattle.boards.specs.Board.{lines_of};
 ghost use Rattle.graph.specs.Late.{late_wires, Placed};
-ghost use Rattle.boards.specs.Read.{parsed_of, Sound};
-ghost use Rattle.boards.specs.Wires.{Joined, wires_of};
+ghost use Rattle.boards.specs.Read.{parsed_of};
+ghost use Rattle.boards.specs.Wires.{wires_of};
 ghost use Rattle.memory.specs.Memory.{kind_at, listed};
 ghost use Rattle.memory.specs.Fine.{Fine};
 ghost use Rattle.resizing.specs.declared.resize.Reason.TheVariants.{Refused};
@@ -20,8 +20,8 @@ use values::bytes::{put_u16, put_u32};
 // Why a board is not carried to another block size.
 #[derive(Clone, Copy)]
 pub enum Reason {
-    // The judge refuses it: number and place.
-    Refused(u32, u32),
+    // The judge refuses it.
+    Refused(Answer),
     // A block size is 1 to 128.
     NoSize,
     // So many wires are late, and one line corrects one.
@@ -37,10 +37,10 @@ pub enum Reason {
 }
 
 impl From<Answer> for Reason {
-    ghost from_gives = { λ a r. r ≡ Refused a.number a.place };
+    ghost from_gives = { λ a r. r ≡ Refused a };
 
     fn from(refused: Answer) -> Reason {
-        Reason::Refused(refused.number, refused.place)
+        Reason::Refused(refused)
     }
 }
 
@@ -60,11 +60,7 @@ fn lines_of(nodes: &[NodeRecord]) -> usize
     requires { length nodes.now ≤ 64 }
     ensures { result ≡ lines_of nodes.now }
 {
-    let mut sum = 0;
-    for node in nodes {
-        sum += line_of(node.kind);
-    }
-    sum
+    nodes.iter().map(|node| line_of(node.kind)).sum()
 }
 
 // The late wires: how many there are, and the last one's target.
@@ -74,9 +70,9 @@ struct Late {
     target: Option<usize>,
 }
 
-// The late wires among these, by the places of a list.
-fn late_wires(wires: &Wires, places: &Places) -> Late
-    requires { (length wires.now.list ≡ 128) × (wires.now.count ≤ 128) × Joined 64 wires.now.list wires.now.count }
+// The late wires among these, by the places of a list. Not graph's `late_count`: one pass finds the last
+// one's target too.
+fn late_among(wires: &Wires, places: &Places) -> Late
     ensures { (l : List ℕ) → length l ≡ places.now.count → Placed l places.now.at
         → Lates (late_wires l (wires_of wires.now.list wires.now.count)) result.count result.target }
 {
@@ -84,7 +80,7 @@ fn late_wires(wires: &Wires, places: &Places) -> Late
         count: 0,
         target: None,
     };
-    for &(source, target) in &wires.list[..wires.count] {
+    for &(source, target) in wires.listed() {
         let target = usize::from(target);
         if places.is_late(usize::from(source), target) {
             late = Late {
@@ -97,15 +93,15 @@ fn late_wires(wires: &Wires, places: &Places) -> Late
 }
 
 // The line of the late wire's target, node k, at blocks of the given size.
-fn corrected(board: &Board, k: usize, size: usize) -> Result<Resized, Reason>
-    requires sound { Sound board.now }
-    requires fine { Fine (parsed_of board.now) × (k < board.now.count) × (size ≤ 128) }
+fn corrected(board: &Board, k: usize, size: u32) -> Result<Resized, Reason>
+    requires { Fine (parsed_of board.now) × (k < board.now.count) }
     ensures { result ≡ line_by (parsed_of board.now) size k (delay_of (kind_at (parsed_of board.now) k)) }
 {
     let node = k as u32;
     let NodeKind::Delay(n) = board.nodes[k].kind else {
         return Err(Reason::NoDelay(node));
     };
+    let size = size as usize;
     let long = n as usize + board.size;
     if long <= size {
         return Err(Reason::TooShort(node, n));
@@ -113,7 +109,7 @@ fn corrected(board: &Board, k: usize, size: usize) -> Result<Resized, Reason>
     if 132300 + size < long {
         return Err(Reason::TooLong(node, n));
     }
-    if 262144 + size < lines_of(&board.nodes[..board.count]) + board.size {
+    if 262144 + size < lines_of(board.listed()) + board.size {
         return Err(Reason::TooMuch(node, n));
     }
     Ok(Resized::Line(node, n, (long - size) as u32))
@@ -121,25 +117,22 @@ fn corrected(board: &Board, k: usize, size: usize) -> Result<Resized, Reason>
 
 // The late wires of an accepted board.
 fn board_late(board: &Board) -> Late
-    requires sound { Sound board.now }
-    requires whole { Whole board.now }
+    requires { Whole board.now }
     ensures { Lates (late_wires (listed (parsed_of board.now)) (parsed_of board.now).wires) result.count result.target }
 {
     let order = visiting_list(&board.sources);
-    late_wires(&board.wires, &order.places())
+    late_among(&board.wires, &order.places())
 }
 
 // What is to be done to an accepted board.
 fn planned(board: &Board, size: u32) -> Result<Resized, Reason>
-    requires sound { Sound board.now }
-    requires whole { Whole board.now }
+    requires { Whole board.now }
     ensures { result ≡ plan_of (parsed_of board.now) size }
 {
     if (size < 1) | (128 < size) {
         return Err(Reason::NoSize);
     }
-    let size = size as usize;
-    if size == board.size {
+    if size as usize == board.size {
         return Ok(Resized::Same);
     }
     let late = board_late(board);
@@ -153,7 +146,7 @@ fn planned(board: &Board, size: u32) -> Result<Resized, Reason>
 }
 
 // Stores what has changed in the board's bytes.
-fn store(bytes: &mut [u8], size: u32, resized: Resized)
+fn put_resized(bytes: &mut [u8], size: u32, resized: Resized)
     requires { Room size (length bytes.old) resized }
     ensures { bytes.new ≡ bytes_after bytes.old size (Ok resized) }
 {
@@ -179,6 +172,6 @@ pub fn resize(bytes: &mut [u8], size: u32) -> Result<Resized, Reason>
 {
     let board = read_board(bytes)?;
     let resized = planned(&board, size)?;
-    store(bytes, size, resized);
+    put_resized(bytes, size, resized);
     Ok(resized)
 }

@@ -14,7 +14,7 @@ use borrow.Author.Tests.{eqb-true, ltb-true}
 use lib.Dec.{eqb, ltb}
 use lib.Ieee.{Float, nan, binary32, of_bits, to_bits}
 use lib.ListN.{length, get_or, set, drop, length-append, length-map, length-set}
-use lib.Seq.{paste, take_at, drop_at, set-append_left}
+use lib.Seq.{paste, take_at, drop_at, set-append_left, map-set}
 use Rattle.values.specs.Floats.{float_at}
 use Rattle.values.specs.Parts.{part}
 use Rattle.kinds.specs.Kind.{channels_of, cell_size, sources_fit}
@@ -125,11 +125,6 @@ module _ (p : Parsed) (fine : Fine p) (k : ℕ) where
         λ j. record { left = ls j; right = rs j; second = s j }
 
 -- ---- one sample
-
-map-set : {A : Type 0} (f : A → ℕ) (l : List A) (i : ℕ) (v : A) → map f (set l i v) ≡ set (map f l) i (f v)
-map-set f [] i v = refl
-map-set f (x ∷ l) zero v = refl
-map-set f (x ∷ l) (suc i) v = ap (λ (r : List ℕ). f x ∷ r) (map-set f l i v)
 
 -- a frame written among the samples
 put_frame_lem : (channels N i : ℕ) (f : Frame) (fs : List Frame) → length fs ≡ N → i < N

@@ -13,7 +13,7 @@ use mathlib.Core.List.{List, [], ◌∷◌, ◌++◌, map}
 use native.Mathlib.Omega.{arith}
 use lib.Dec.{eqb}
 use lib.ListN.{length, get_or, set, length-set, get_or-map}
-use lib.Seq.{sets, map-set_same, set-set, set-get_or, get_or-set_same}
+use lib.Seq.{sets, map-set, map-set_same, set-set, set-get_or, get_or-set_same}
 use borrow.Author.Tests.{eqb-true}
 use Rattle.values.specs.Bytes.{u16_bytes, u32_bytes}
 use Rattle.kinds.specs.Kind.{line_of, channels_of, cell_size}
@@ -28,6 +28,7 @@ use Rattle.boards.proofs.Round.{Accepted, write_read}
 use Rattle.memory.specs.Memory.{kind_at, kinds}
 use Rattle.resizing.specs.Resize.{delay_of}
 use Rattle.resizing.proofs.Boards.{kind_in, delay_at}
+use Rattle.sizes.proofs.Streams.{either}
 
 -- ---- the card
 
@@ -95,13 +96,9 @@ delay_by : (b : Bool) (k j : NodeKind) → delay_of (cond b k j) ≡ cond b (del
 delay_by true k j = refl
 delay_by false k j = refl
 
-same_by : (b : Bool) (x : ℕ) → cond b x x ≡ x
-same_by true x = refl
-same_by false x = refl
-
 no_delay : (d : NodeCard) → eqb d.type 7 ≡ false → delay_of (kind_of d) ≡ 0
 unfolding kind_of
-no_delay d e = simp (e, delay_by, same_by)
+no_delay d e = simp (e, delay_by, either)
 
 type_seven : (d : NodeCard) (n : ℕ) → kind_of d ≡ Delay n → 1 ≤ n → d.type ≡ 7
 type_seven d n e some = go (eqb d.type 7) refl
@@ -111,11 +108,6 @@ type_seven d n e some = go (eqb d.type 7) refl
     go false q = absurd (omega (arith, no_delay d q, ap delay_of e))
 
 -- ---- kinds, and their lines
-
-map-set : {A B : Type 0} (f : A → B) (l : List A) (i : ℕ) (y : A) → map f (set l i y) ≡ set (map f l) i (f y)
-map-set f [] i y = refl
-map-set f (x ∷ l) zero y = refl
-map-set {B = B} f (x ∷ l) (suc i) y = ap (λ (t : List B). f x ∷ t) (map-set f l i y)
 
 -- the values of the lines of a list of kinds
 abbrev lines_in : List NodeKind → ℕ

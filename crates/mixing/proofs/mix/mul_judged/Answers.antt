@@ -7,12 +7,12 @@ use Rattle.mixing.proofs.mix.mul_judged.Goals as goal
 
 pub returns-then-board-k : goal.returns-then-board-k
 returns-then-board-k c =
-    ap Err c.new.ensures ∙ ap checked (sym (mul_missing c.args.board.now c.requires.sound c.args.k c.if-board-k.true))
+    ap Err c.new.ensures ∙ ap checked (sym (mul_missing c.args.board.now c.args.k c.if-board-k.true))
 
 pub returns-then-not-is_mul : goal.returns-then-not-is_mul
 returns-then-not-is_mul c =
     ap Err c.new-then-not-is_mul.ensures
-    ∙ ap checked (sym (mul_there c.args.board.now c.requires.sound c.args.k c.if-board-k.false (sym c.is_mul.ensures ∙ c.if-not-is_mul.true)))
+    ∙ ap checked (sym (mul_there c.args.board.now c.args.k c.if-board-k.false (sym c.is_mul.ensures ∙ c.if-not-is_mul.true)))
 
 pub returns : goal.returns
-returns c = ap checked (sym (mul_there c.args.board.now c.requires.sound c.args.k c.if-board-k.false (sym c.is_mul.ensures ∙ c.if-not-is_mul.false)))
+returns c = ap checked (sym (mul_there c.args.board.now c.args.k c.if-board-k.false (sym c.is_mul.ensures ∙ c.if-not-is_mul.false)))

@@ -10,7 +10,6 @@ use Rattle.mixing.proofs.mix.put_mix.Goals as goal
 pub put_number-requires : goal.put_number-requires
 put_number-requires c =
     record {
-      sound = c.requires.sound;
       fine = c.requires.fine;
       k_lt_count = omega (arith, c.requires.lt_count);
       memory_len = c.requires.memory_len;
@@ -19,7 +18,6 @@ put_number-requires c =
 pub put_number-requires-2 : goal.put_number-requires-2
 put_number-requires-2 c =
     record {
-      sound = c.requires.sound;
       fine = c.requires.fine;
       k_lt_count = omega (arith, c.requires.lt_count);
       memory_len = c.put_number.auto.memory ∙ c.requires.memory_len;
@@ -28,7 +26,6 @@ put_number-requires-2 c =
 pub put_number-requires-3 : goal.put_number-requires-3
 put_number-requires-3 c =
     record {
-      sound = c.requires.sound;
       fine = c.requires.fine;
       k_lt_count = omega (arith, c.requires.lt_count);
       memory_len = c.put_number-2.auto.memory ∙ c.put_number.auto.memory ∙ c.requires.memory_len;
@@ -37,7 +34,6 @@ put_number-requires-3 c =
 pub put_number-requires-4 : goal.put_number-requires-4
 put_number-requires-4 c =
     record {
-      sound = c.requires.sound;
       fine = c.requires.fine;
       k_lt_count = omega (arith, c.requires.lt_count);
       memory_len = c.put_number-3.auto.memory ∙ c.put_number-2.auto.memory ∙ c.put_number.auto.memory ∙ c.requires.memory_len;

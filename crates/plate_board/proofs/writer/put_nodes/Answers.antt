@@ -32,7 +32,7 @@ loop-i-preserved c =
       omega arith,
       put.auto.board ∙ inv.1,
       one_more nodes_bytes node_bytes 14 refl (λ x xs. refl) (λ x. refl) l 8 i nodes (card_of (Pass, 0, 0)) room inv.2
-          (put.ensures ∙ ap (λ (d : NodeCard). sets m at (node_bytes d)) (node_at (rows start.mix start.dry) i c.number.result (Pass, 0, 0) c.number.ensures)),
+          (put.ensures ∙ ap (λ (d : NodeCard). sets m at (node_bytes d)) (node_at (rows start.mix start.dry) i c.from.result (Pass, 0, 0) c.from.ensures)),
     )
 
 pub returns : goal.returns

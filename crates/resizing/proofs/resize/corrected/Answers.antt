@@ -8,7 +8,7 @@ use lib.Seq.{get_or-take}
 use Rattle.std.specs.Prelude.{Result}
 use Rattle.kinds.specs.declared.kind.NodeKind.TheVariants.{Delay}
 use Rattle.kinds.specs.declared.kind.NodeRecord.{NodeRecord}
-use Rattle.boards.specs.Board.{blank}
+use Rattle.boards.specs.Board.{blank, lines_of}
 use Rattle.boards.specs.declared.board.Board.{Board}
 use Rattle.boards.specs.Read.{parsed_of}
 use Rattle.memory.specs.Memory.{kind_at}
@@ -35,26 +35,26 @@ module _ (b : Board) (k size : ℕ) (there : k < b.count) where
 
 pub returns-in_default : goal.returns-in_default
 returns-in_default c =
-    by_tests c.args.board.now _ _ c.requires.fine.1 0 (no_delay_is _ c.in_default.not-Delay) (no_delay refl)
+    by_tests c.args.board.now _ _ c.requires.1 0 (no_delay_is _ c.in_default.not-Delay) (no_delay refl)
 
 pub returns-then-long-size : goal.returns-then-long-size
 returns-then-long-size c =
-    by_tests c.args.board.now _ _ c.requires.fine.1 _ (ap delay_of c.in-Delay.is)
-    (too_short (some_line c.args.board.now _ c.args.size c.requires.fine.1 c.requires.fine.0 _ c.in-Delay.is) c.if-long-size.true)
+    by_tests c.args.board.now _ _ c.requires.1 _ (ap delay_of c.in-Delay.is)
+    (too_short (some_line c.args.board.now _ c.args.size c.requires.1 c.requires.0 _ c.in-Delay.is) c.if-long-size.true)
 
 pub returns-then-size-long : goal.returns-then-size-long
 returns-then-size-long c =
-    by_tests c.args.board.now _ _ c.requires.fine.1 _ (ap delay_of c.in-Delay.is)
-    (too_long (some_line c.args.board.now _ c.args.size c.requires.fine.1 c.requires.fine.0 _ c.in-Delay.is) c.if-long-size.false c.if-size-long.true)
+    by_tests c.args.board.now _ _ c.requires.1 _ (ap delay_of c.in-Delay.is)
+    (too_long (some_line c.args.board.now _ c.args.size c.requires.1 c.requires.0 _ c.in-Delay.is) c.if-long-size.false c.if-size-long.true)
 
 pub returns-then-size-lines_of : goal.returns-then-size-lines_of
 returns-then-size-lines_of c =
-    by_tests c.args.board.now _ _ c.requires.fine.1 _ (ap delay_of c.in-Delay.is)
-    (too_much (some_line c.args.board.now _ c.args.size c.requires.fine.1 c.requires.fine.0 _ c.in-Delay.is)
-    c.if-long-size.false c.if-size-long.false (omega (arith, c.if-size-lines_of.true, c.lines_of.ensures)))
+    by_tests c.args.board.now _ _ c.requires.1 _ (ap delay_of c.in-Delay.is)
+    (too_much (some_line c.args.board.now _ c.args.size c.requires.1 c.requires.0 _ c.in-Delay.is)
+    c.if-long-size.false c.if-size-long.false (omega (arith, c.if-size-lines_of.true, c.lines_of.ensures, ap lines_of c.listed.ensures)))
 
 pub returns : goal.returns
 returns c =
-    by_tests c.args.board.now _ _ c.requires.fine.1 _ (ap delay_of c.in-Delay.is)
-    (carried (some_line c.args.board.now _ c.args.size c.requires.fine.1 c.requires.fine.0 _ c.in-Delay.is)
-    c.if-long-size.false c.if-size-long.false (omega (arith, c.if-size-lines_of.false, c.lines_of.ensures)))
+    by_tests c.args.board.now _ _ c.requires.1 _ (ap delay_of c.in-Delay.is)
+    (carried (some_line c.args.board.now _ c.args.size c.requires.1 c.requires.0 _ c.in-Delay.is)
+    c.if-long-size.false c.if-size-long.false (omega (arith, c.if-size-lines_of.false, c.lines_of.ensures, ap lines_of c.listed.ensures)))

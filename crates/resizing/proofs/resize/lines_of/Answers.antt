@@ -1,21 +1,13 @@
--- `resizing::resize::lines_of` meets its contract. The loop's invariant: the sum is that of the nodes' lines so far. Assumes nothing.
-use mathlib.Core.Path.{◌≡◌, ap, ◌∙◌}
-use Prim.Native.Nat.{ℕ}
-use native.Mathlib.Omega.{arith}
-use lib.ListN.{length, take}
-use lib.Seq.{take-length}
-use Rattle.boards.specs.Board.{lines_of}
-use Rattle.resizing.proofs.Planning.{lines_more}
+-- `resizing::resize::lines_of` meets its contract: the chain's sum is the definition's. Assumes nothing.
+use mathlib.Core.Path.{◌≡◌, ◌∙◌}
+use Rattle.std.proofs.Common.{rules}
+use Rattle.std.specs.Prelude.{sum_by}
+use Rattle.kinds.specs.Kind.{line_of}
+use Rattle.kinds.specs.declared.kind.NodeRecord.{NodeRecord}
+use Rattle.resizing.proofs.Planning.{lines_sum}
 use Rattle.resizing.proofs.resize.lines_of.Goals as goal
-
-pub loop-node-preserved : goal.loop-node-preserved
-loop-node-preserved c =
-    let at = c.loop-node in
-    let more = lines_more c.args.nodes.now at.node-index c.loop-node-test.true in
-    (omega arith, omega (arith, more, c.line_of-sum.ensures.0))
 
 pub returns : goal.returns
 returns c =
-    let at = c.loop-node in
-    let e : at.node-index ≡ length c.args.nodes.now = omega (arith, c.loop-node-test.false, c.loop-node.auto.node-index-end) in
-    at.invariant.1 ∙ ap (λ (n : ℕ). lines_of (take n c.args.nodes.now)) e ∙ ap lines_of (take-length c.args.nodes.now)
+    let all : c.sum.result ≡ sum_by (λ (r : NodeRecord). line_of r.kind) c.args.nodes.now = search rules in
+    all ∙ lines_sum c.args.nodes.now

@@ -31,13 +31,12 @@ returns-in_default c =
     plan_size _ _ _ (another (parsed_of c.args.board.now) c.args.size c.if-size.false c.if-size-board.false) c.if-late-gt1.false
     (subst (Lates _ _) c.in_default.is c.board_late-late.ensures)
 
-pub corrected-requires-clause-fine : goal.corrected-requires-clause-fine
-corrected-requires-clause-fine c =
+pub corrected-requires : goal.corrected-requires
+corrected-requires c =
     let b = c.args.board.now in
-    let sound = c.requires.sound in
-    let fine = c.requires.whole.fine in
+    let fine = c.requires.fine in
     let there = last_there _ _ _ _ _ fine.formed.joins (subst (Lates _ _) c.in-Some.is c.board_late-late.ensures) in
-    (fine, omega (arith, there, length-take-le b.count b.nodes (omega (arith, sound.nodes_long, sound.few_nodes))), (size_right _ c.if-size.false).1)
+    (fine, omega (arith, there, length-take-le b.count b.nodes (omega (arith, b.long, b.few))))
 
 pub returns : goal.returns
 returns c =

@@ -21,7 +21,7 @@ use Rattle.resizing.proofs.resize.resize.Goals as goal
 module _ (s : List ℕ) (M : ℕ) (b : Board) (read : Read (read_board s) (Ok b)) (r : Result Resized Reason) (planned : r ≡ plan_of (parsed_of b) M) where
   told : r ≡ resized_of s M
   unfolding resized_of
-  told = planned ∙ sym (ap (plan_by M) read.0)
+  told = planned ∙ sym (ap (plan_by M) read)
 
 -- an error that `?` hands on
 error : {A : Type 0} (r : Result A Reason) (P : Reason → Type 0) → IsErr r × IsErrAnd r P → (x : Reason) × (r ≡ Err x) × P x
@@ -38,13 +38,15 @@ returns-in_err-board c =
     let h = error c.from_residual.result _ c.from_residual.ensures in
     refused_so c.args.bytes.now c.args.size c.from_residual.result h.0 h.1 (ap Err h.2 ∙ sym (ap (plan_by c.args.size) c.in_err-board.ensures.1))
 
-pub planned-requires-clause-whole : goal.planned-requires-clause-whole
-planned-requires-clause-whole c =
+pub planned-requires : goal.planned-requires
+planned-requires c =
+    let s = c.args.bytes.now in
+    let b = c.in_ok-board.board in
     let read = c.in_ok-board.ensures in
     record {
-      fine = accepted_fine c.args.bytes.now (λ i. search rules) _ read;
-      table = table _ _ read;
-      gathered = gathered _ _ read;
+      fine = accepted_fine s (λ i. search rules) b read;
+      table = table s b read;
+      gathered = gathered s b read;
     }
 
 pub returns-in_err-resized : goal.returns-in_err-resized
@@ -53,9 +55,9 @@ returns-in_err-resized c =
     refused_so c.args.bytes.now c.args.size c.from_residual-in_err-resized.result h.0 h.1
     (ap Err h.2 ∙ told c.args.bytes.now c.args.size c.in_ok-board.board c.in_ok-board.ensures _ c.in_err-resized.ensures)
 
-pub store-requires : goal.store-requires
-store-requires c =
-    plan_room c.args.bytes.now (λ i. search rules) (parsed_of c.in_ok-board.board) c.in_ok-board.ensures.0 c.args.size _ c.in_ok-resized.ensures
+pub put_resized-requires : goal.put_resized-requires
+put_resized-requires c =
+    plan_room c.args.bytes.now (λ i. search rules) (parsed_of c.in_ok-board.board) c.in_ok-board.ensures c.args.size _ c.in_ok-resized.ensures
 
 pub returns : goal.returns
-returns c = (told c.args.bytes.now c.args.size c.in_ok-board.board c.in_ok-board.ensures _ c.in_ok-resized.ensures, c.store.ensures)
+returns c = (told c.args.bytes.now c.args.size c.in_ok-board.board c.in_ok-board.ensures _ c.in_ok-resized.ensures, c.put_resized.ensures)

@@ -1,4 +1,4 @@
--- `resizing::resize::store` meets its contract: the stores are those of `bytes_after`. Assumes nothing.
+-- `resizing::resize::put_resized` meets its contract: the stores are those of `bytes_after`. Assumes nothing.
 use mathlib.Core.Path.{sym, ap, ◌∙◌}
 use mathlib.Core.List.{List}
 use Prim.Native.Nat.{ℕ, ◌+◌, ◌*◌}
@@ -7,7 +7,7 @@ use Rattle.std.specs.Prelude.{Ok}
 use Rattle.values.specs.Bytes.{u32_bytes}
 use Rattle.resizing.specs.declared.resize.Resized.{Resized}
 use Rattle.resizing.specs.Resize.{bytes_after}
-use Rattle.resizing.proofs.resize.store.Goals as goal
+use Rattle.resizing.proofs.resize.put_resized.Goals as goal
 
 pub returns-in-Same : goal.returns-in-Same
 unfolding bytes_after

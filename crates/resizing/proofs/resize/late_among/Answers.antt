@@ -1,4 +1,4 @@
--- `resizing::resize::late_wires` meets its contract. The loop's invariant: of the wires so far so many are late, and the last late one leads to
+-- `resizing::resize::late_among` meets its contract. The loop's invariant: of the wires so far so many are late, and the last late one leads to
 -- the target. Assumes nothing.
 use mathlib.Core.Path.{◌≡◌, refl, sym, ap, ◌∙◌}
 use mathlib.Core.Bool.{Bool, true, false, cond}
@@ -6,15 +6,15 @@ use mathlib.Core.List.{List}
 use Prim.Native.Nat.{ℕ, ◌+◌, ◌<◌}
 use native.Mathlib.Omega.{arith}
 use Rattle.std.proofs.lemmas.Grind.{common_steps}
-use lib.ListN.{length, get_or, take}
+use lib.ListN.{length, get_or}
 use lib.Seq.{get_or-take}
 use Rattle.std.specs.Prelude.{Some}
 use Rattle.boards.specs.Wires.{wires_of}
 use Rattle.graph.specs.Late.{late_wires, Placed}
 use Rattle.resizing.specs.Planning.{Lates}
 use Rattle.resizing.proofs.Planning.{lates_more}
-use Rattle.resizing.proofs.resize.late_wires.Goals as goal
-use Rattle.resizing.proofs.resize.late_wires.Goals.{then-is_late, else-is_late}
+use Rattle.resizing.proofs.resize.late_among.Goals as goal
+use Rattle.resizing.proofs.resize.late_among.Goals.{then-is_late, else-is_late}
 
 pub loop-source-init : goal.loop-source-init
 unfolding late_wires
@@ -28,7 +28,8 @@ loop-source-preserved c =
     let ws = a.wires.now.list in
     let inside : i < length ws = grind (arith, common_steps) in
     let in_count : i < a.wires.now.count = grind (arith, common_steps) in
-    let is : get_or (take a.wires.now.count ws) i (0, 0) ≡ get_or ws i (0, 0) = get_or-take a.wires.now.count ws i (0, 0) in_count in
+    let is : get_or c.listed-source-items.result.now i (0, 0) ≡ get_or ws i (0, 0) =
+    ap (λ (l : List (ℕ × ℕ)). get_or l i (0, 0)) c.listed-source-items.ensures ∙ get_or-take a.wires.now.count ws i (0, 0) in_count in
     let is_s : c.from.result ≡ (get_or ws i (0, 0)).0 = c.from.ensures ∙ ap (λ (p : ℕ × ℕ). p.0) is in
     let is_t : c.from-target.result ≡ (get_or ws i (0, 0)).1 = c.from-target.ensures ∙ ap (λ (p : ℕ × ℕ). p.1) is in
     let more : (l : List ℕ) → length l ≡ a.places.now.count → Placed l a.places.now.at → (b : Bool) → c.is_late.result ≡ b
