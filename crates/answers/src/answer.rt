@@ -5,17 +5,18 @@ use crate::fault::{
     Fault, board_end, ends_at, fields_at, node_count, node_fault, source_fault, wire_fault,
 };
 use crate::kind::push_kind;
-use card_lines::labels::{bare, body_of, mark_length};
+use card_lines::labels::{bare, body_of, unmarked};
 use card_lines::names::{Name, named};
 use card_lines::reason::Reason;
 use cards::board::Wrong;
 use kinds::types::Kind;
 use records::answer::Answer;
-use text::words::{Lines, next_word, word_at};
+use text::words::{Lines, is_space, word_at};
 use text::written::Text;
 use values::float::of_bits;
 
-// What is wrong with a line, in words.
+// What is wrong with a line, in words. Not `Display`: a `Formatter` says nothing of how much it wrote, and
+// what follows the words has to fit the same 512 bytes.
 fn reason_words(reason: Reason) -> &'static [u8]
     ensures { length result.now ≤ 90 }
 {
@@ -63,6 +64,9 @@ impl From<Answer> for Refused {
     }
 }
 
+// Each of the next functions says in its contract the most bytes that it adds: each adds another number of
+// them, so no type can say it for all.
+
 // The rule that a board breaks, in words.
 fn push_fault(out: &mut Text<512>, fault: Fault)
     requires { length out.old + 140 ≤ 512 }
@@ -83,11 +87,11 @@ fn push_fault(out: &mut Text<512>, fault: Fault)
 }
 
 // The number of the node whose record stands at an offset, or of the wire behind so many nodes.
-fn node_at(at: u32) -> u32 {
+fn node_index(at: u32) -> u32 {
     at.saturating_sub(8) / 14
 }
 
-fn wire_at(at: u32, count: usize) -> usize
+fn wire_index(at: u32, count: usize) -> usize
     requires { count ≤ 65 }
 {
     (at as usize).saturating_sub(8 + 14 * count) / 8
@@ -100,10 +104,15 @@ fn fault_of(s: &[u8], refused: Refused) -> Fault {
         Refused::Order { at: 0 } => Fault::NoHead,
         Refused::Order { .. } => Fault::Order,
         Refused::Head => Fault::Size,
-        Refused::Node { at } => node_fault(fields_at(s, at as usize), node_at(at) as usize),
+        Refused::Node { at } => fields_at(s, at as usize).map_or(
+            Fault::Type,
+            |node| node_fault(node, node_index(at) as usize),
+        ),
         Refused::Wire { at } => {
             let count = node_count(s);
-            wire_fault(ends_at(s, at as usize), count, wire_at(at, count))
+            ends_at(s, at as usize).map_or(Fault::Record, |ends| {
+                wire_fault(ends, count, wire_index(at, count))
+            })
         }
         Refused::Sources { node } => source_fault(s, node as usize),
     }
@@ -114,24 +123,27 @@ fn push_node(out: &mut Text<512>, s: &[u8], at: usize, i: u32)
     requires { length out.old + 100 ≤ 512 }
     ensures { length out.new ≤ length out.old + 100 }
 {
-    let node = fields_at(s, at);
+    let Some(node) = fields_at(s, at) else {
+        return;
+    };
     out.push_word(b"node ");
     out.push_number(i);
     out.push_word(b": ");
-    match Kind::from_number(node.t) {
-        Some(kind) => push_kind(out, kind, node.n, of_bits(node.f)),
-        None => out.push_word(b"no type"),
+    match Kind::try_from(node.t) {
+        Ok(kind) => push_kind(out, kind, node.n, of_bits(node.f)),
+        Err(_) => out.push_word(b"no type"),
     }
     out.push_word(b": ");
 }
 
-// Two numbers with a word before each, and a colon.
-fn push_ends(out: &mut Text<512>, first: &[u8], ends: (u16, u16), between: &[u8])
+// The two numbers of a head or of a wire with a word before each, and a colon.
+fn push_ends(out: &mut Text<512>, first: &[u8], ends: Option<(u16, u16)>, between: &[u8])
     requires { (length first.now ≤ 10) × (length between.now ≤ 10) × (length out.old + 100 ≤ 512) }
     ensures { length out.new ≤ length out.old + 100 }
 {
-    let (a, b) = ends;
-    out.push_pair(first, u32::from(a), between, u32::from(b), b": ");
+    if let Some((a, b)) = ends {
+        out.push_pair(first, u32::from(a), between, u32::from(b), b": ");
+    }
 }
 
 // What a refusal is about: the head, a node or a wire.
@@ -141,7 +153,7 @@ fn push_subject(out: &mut Text<512>, s: &[u8], refused: Refused)
 {
     match refused {
         Refused::Head => push_ends(out, b"block ", ends_at(s, 0), b" input "),
-        Refused::Node { at } => push_node(out, s, at as usize, node_at(at)),
+        Refused::Node { at } => push_node(out, s, at as usize, node_index(at)),
         Refused::Wire { at } => push_ends(out, b"wire ", ends_at(s, at as usize), b" "),
         Refused::Sources { node } => {
             if (node as usize) < node_count(s) {
@@ -163,22 +175,14 @@ struct Spot<'a> {
 fn spot_of<'a, F: Fn(Name) -> bool>(text: &'a [u8], k: usize, asked: F) -> Option<Spot<'a>>
     requires { F.IsAlwaysCallable asked }
 {
-    let mut left = k;
-    for (i, line) in Lines::new(text).enumerate() {
-        let Some(name) = named(word_at(body_of(bare(line)), 0)) else {
-            continue;
-        };
-        if asked(name) {
-            if left == 0 {
-                return Some(Spot {
-                    number: i.saturating_add(1),
-                    line,
-                });
-            }
-            left -= 1;
-        }
-    }
-    None
+    let (i, line) = Lines::new(text)
+        .enumerate()
+        .filter(|(_, line)| named(word_at(body_of(bare(line)), 0)).is_some_and(|name| asked(name)))
+        .nth(k)?;
+    Some(Spot {
+        number: i.saturating_add(1),
+        line,
+    })
 }
 
 // The line of a card that a refusal is about.
@@ -186,10 +190,11 @@ fn spot_by<'a>(text: &'a [u8], board: &[u8], refused: Refused) -> Option<Spot<'a
     let is_node = |name| matches!(name, Name::Node(_));
     let count = node_count(board);
     match refused {
-        Refused::Node { at } => spot_of(text, node_at(at) as usize, is_node),
-        Refused::Wire { at } => spot_of(text, wire_at(at, count), |name| name == Name::Wire),
+        Refused::Node { at } => spot_of(text, node_index(at) as usize, is_node),
+        Refused::Wire { at } => spot_of(text, wire_index(at, count), |name| name == Name::Wire),
         Refused::Sources { node }
-            if (node as usize) < count && u32::from(ends_at(board, 0).1) != node => {
+            if (node as usize) < count
+                && ends_at(board, 0).is_some_and(|(_, input)| u32::from(input) != node) => {
             spot_of(text, node as usize, is_node)
         }
         _ => spot_of(text, 0, |name| name == Name::Head),
@@ -202,21 +207,16 @@ fn push_words(out: &mut Text<512>, line: &[u8])
     ensures { length out.new ≤ length out.old + 64 }
 {
     let mut room = 60;
-    let mut rest = line;
-    // A `while`: a turn passes a word.
-    while !rest.is_empty() {
-        let word = next_word(rest, 0);
-        let size = word.len();
-        if size == 0 {
-            return;
-        }
-        if room <= size {
+    let words = line
+        .split(|byte| is_space(*byte))
+        .filter(|word| !word.is_empty());
+    for word in words {
+        if room <= word.len() {
             return out.push_word(b" ..");
         }
         out.push(b' ');
-        out.push_word(&rest[word.start..word.end]);
-        room -= size + 1;
-        rest = &rest[word.end..];
+        out.push_word(word);
+        room -= word.len() + 1;
     }
 }
 
@@ -254,9 +254,8 @@ fn bad_text(line: usize, reason: Reason) -> Text<512> {
 // A refusal of a card's board.
 fn refused_text(text: &[u8], board: &[u8], refusal: Answer) -> Text<512> {
     let refused = Refused::from(refusal);
-    let card = &text[mark_length(text)..];
     let mut out = Text::new();
-    if let Some(spot) = spot_by(card, board, refused) {
+    if let Some(spot) = spot_by(unmarked(text), board, refused) {
         push_spot(&mut out, spot);
     }
     push_fault(&mut out, fault_of(&board[..board_end(board)], refused));

@@ -37,7 +37,8 @@ pub enum Fault {
 }
 
 impl Fault {
-    // The rule in words; a number follows where the fault has one.
+    // The rule in words; a number follows where the fault has one. Not `Display`: a `Formatter` says nothing of
+    // how much it wrote, and what follows the words has to fit the same 512 bytes.
     pub fn words(self) -> &'static [u8]
         ensures { length result.now ≤ 90 }
     {
@@ -82,7 +83,7 @@ fn record_at<const N: usize>(s: &[u8], at: usize) -> Option<&[u8; N]> {
     s.get(at..)?.first_chunk()
 }
 
-// A node record's fields.
+// A node record's fields. The type is a number: a refused board's may be one that no type has.
 #[derive(Clone, Copy)]
 pub struct Fields {
     pub t: u16,
@@ -90,24 +91,20 @@ pub struct Fields {
     pub f: u32,
 }
 
-// The node record at `at`; zeros where there is none.
-pub fn fields_at(s: &[u8], at: usize) -> Fields {
-    let Some(record) = record_at::<14>(s, at) else {
-        return Fields { t: 0, n: 0, f: 0 };
-    };
-    Fields {
+// The node record at `at`.
+pub fn fields_at(s: &[u8], at: usize) -> Option<Fields> {
+    let record = record_at::<14>(s, at)?;
+    Some(Fields {
         t: u16_at(record, 4),
         n: u32_at(record, 6),
         f: u32_at(record, 10),
-    }
+    })
 }
 
-// The two numbers of the head at 0 or of the wire record at `at`; zeros where there is none.
-pub fn ends_at(s: &[u8], at: usize) -> (u16, u16) {
-    let Some(record) = record_at::<8>(s, at) else {
-        return (0, 0);
-    };
-    (u16_at(record, 4), u16_at(record, 6))
+// The two numbers of the head at 0 or of the wire record at `at`.
+pub fn ends_at(s: &[u8], at: usize) -> Option<(u16, u16)> {
+    let record = record_at::<8>(s, at)?;
+    Some((u16_at(record, 4), u16_at(record, 6)))
 }
 
 // The bytes after the records of N bytes that start so, of which each follows the one before.
@@ -116,6 +113,7 @@ fn after_records<const N: usize>(s: &[u8], start: [u8; 4]) -> &[u8]
     ensures { length result.now ≤ length s.now }
 {
     let mut rest = s;
+    // A `while let`: a turn passes a record, and the first that starts otherwise ends it.
     while let Some((record, behind)) = rest.split_first_chunk::<N>() {
         if !record.starts_with(&start) {
             return rest;
@@ -183,7 +181,7 @@ fn float_fits(kind: Kind, f: u32) -> bool {
 
 // What is wrong with node i, refusal 4.
 pub fn node_fault(node: Fields, i: usize) -> Fault {
-    let Some(kind) = Kind::from_number(node.t) else {
+    let Ok(kind) = Kind::try_from(node.t) else {
         return Fault::Type;
     };
     if !kind.has_whole() && node.n != 0 {
@@ -216,12 +214,10 @@ pub fn wire_fault(ends: (u16, u16), count: usize, w: usize) -> Fault {
 // How many distinct sources node i has.
 fn sources_of(s: &[u8], i: usize) -> u32 {
     let mut seen = [false; 64];
-    let mut rest = after_nodes(s);
-    while let Some((record, behind)) = rest.split_first_chunk::<8>() {
+    for record in after_nodes(s).chunks_exact(8) {
         if record.starts_with(&WIRE) && usize::from(u16_at(record, 6)) == i {
             seen[usize::from(record[4] % 64)] = true;
         }
-        rest = behind;
     }
     seen.iter().filter(|new| **new).count() as u32
 }
@@ -231,7 +227,8 @@ fn input_fault(s: &[u8], count: usize, input: u16) -> Fault {
     if count <= usize::from(input) {
         return Fault::NoInput(u32::from(input));
     }
-    if fields_at(s, 8 + 14 * usize::from(input)).t == Kind::Pass.number() {
+    let node = fields_at(s, 8 + 14 * usize::from(input));
+    if node.is_some_and(|node| node.t == u16::from(Kind::Pass)) {
         Fault::InputWired
     } else {
         Fault::InputKind
@@ -241,24 +238,28 @@ fn input_fault(s: &[u8], count: usize, input: u16) -> Fault {
 // What is wrong with node i, or the input node, refusal 6.
 pub fn source_fault(s: &[u8], i: usize) -> Fault {
     let count = node_count(s);
-    let (_, input) = ends_at(s, 0);
     if count == 0 {
         return Fault::NoNodes;
     }
+    let Some((_, input)) = ends_at(s, 0) else {
+        return Fault::NoNodes;
+    };
     if i == usize::from(input) {
         return input_fault(s, count, input);
     }
     if count <= i {
         return Fault::Record;
     }
-    let node = fields_at(s, 8 + 14 * i);
+    let Some(node) = fields_at(s, 8 + 14 * i) else {
+        return Fault::Record;
+    };
     let Some(kind) = rule_of(node.t, node.n, node.f) else {
         return Fault::Record;
     };
-    let bounds = u32::from(bounds_of(kind));
+    let bounds = bounds_of(kind);
     Fault::Sources {
         has: sources_of(s, i),
-        few: bounds / 16,
-        many: bounds % 16,
+        few: u32::from(bounds.few),
+        many: u32::from(bounds.many),
     }
 }

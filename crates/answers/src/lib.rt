@@ -3,5 +3,6 @@
 #![tactic(auto)]
 
 pub mod answer;
+pub mod card;
 pub mod fault;
 pub mod kind;

@@ -1,29 +1,48 @@
 -- The names of nodes: bytes of a name, and the first node with a name. Assumes nothing.
-use mathlib.Core.Path.{◌≡◌}
-use mathlib.Core.Bool.{true, false}
+use mathlib.Core.Path.{◌≡◌, refl, sym, ap, ◌∙◌}
+use mathlib.Core.Bool.{Bool, true, false, cond, ◌&&◌}
 use mathlib.Core.List.{List, [], ◌∷◌}
-use Prim.Native.Nat.{ℕ, ◌+◌, ◌<◌, ◌≤◌}
-use native.Mathlib.Numerals.{add-one}
-use lib.ListN.{length, drop, get_or, drop_of_length-le}
-use lib.Seq.{drop-cons}
-use Rattle.std.specs.Prelude.{Some, None}
+use Prim.Native.Nat.{ℕ, ◌+◌}
+use Rattle.std.specs.List.{list_all}
+use Rattle.std.specs.Prelude.{Option, Some, None, MatchOption, unwrap_or, is_some, not, take, drop}
+use Rattle.std.specs.Option.{UnwrapsOrElse}
+use Rattle.text.specs.Words.{word_at}
 use Rattle.card_lines.specs.Names.{alike}
-use Rattle.card_lines.specs.Labels.{is_inner, all_inner, bare, label_of, nodes_in, node_named}
+use Rattle.card_lines.specs.Labels.{is_inner, all_inner, bare, is_label, label_of, nodes_in, node_named, mark, unmarked}
 
 -- ---- the bytes of a name
 
-module _ (s : List ℕ) (i : ℕ) where
-  pub inner_stop : i < length s → is_inner (get_or s i 0) ≡ false → all_inner (drop i s) ≡ false
-  unfolding all_inner
-  inner_stop h e = rw (drop-cons s i 0 h, e)
+pub all_inside : (s : List ℕ) → list_all is_inner s ≡ all_inner s
+unfolding all_inner
+all_inside [] = refl
+all_inside (c ∷ s) = pick (is_inner c) (all_inside s)
+  where
+    pick : (b : Bool) → list_all is_inner s ≡ all_inner s → (b && list_all is_inner s) ≡ cond b (all_inner s) false
+    pick true e = e
+    pick false e = refl
 
-  pub inner_on : i < length s → is_inner (get_or s i 0) ≡ true → all_inner (drop (i + 1) s) ≡ all_inner (drop i s)
-  unfolding all_inner
-  inner_on h e = rw (add-one, drop-cons s i 0 h, e)
+-- ---- the name that a line gives, or none
 
-  pub inner_end : length s ≤ i → all_inner (drop i s) ≡ true
-  unfolding all_inner
-  inner_end h = rw (drop_of_length-le s {i = i} h)
+pub labelled : {A : Type 0} (P : A → Type 0) (r : Option A) (b none : Bool) → is_some r ≡ not none → MatchOption r (b ≡ false) (λ x. (b ≡ true) × P x) → b ≡ not none
+labelled P None b none e m = m ∙ e
+labelled P (Some x) b none e m = m.0 ∙ e
+
+unlabelled : (s : List ℕ) → is_label (word_at 0 s) ≡ false → label_of s ≡ []
+unfolding label_of
+unlabelled s e = rw e
+
+-- the name, or an empty one
+pub label_now : {A : Type 0} (now : A → List ℕ) (r : Option A) (name : A) (s : List ℕ)
+    → MatchOption r (is_label (word_at 0 s) ≡ false) (λ x. (is_label (word_at 0 s) ≡ true) × (now x ≡ label_of s)) → UnwrapsOrElse r (λ x. now x ≡ []) name → now name ≡ label_of s
+label_now now None name s m u = u ∙ sym (unlabelled s m)
+label_now now (Some x) name s m u = ap now u ∙ m.1
+
+-- ---- a text without its mark: what is behind it, or all
+
+pub without_mark : {A : Type 0} (now : A → List ℕ) (P : A → Type 0) (r : Option A) (result all : A) (text : List ℕ) → result ≡ unwrap_or r all → now all ≡ text
+    → MatchOption r (alike (take 3 text) mark ≡ false) (λ x. (alike (take 3 text) mark ≡ true) × (now x ≡ drop 3 text) × P x) → now result ≡ unmarked text
+without_mark now P None result all text e is m = ap now e ∙ is ∙ sym (ap (λ (b : Bool). drop (cond b 3 0) text) m)
+without_mark now P (Some x) result all text e is m = ap now e ∙ m.1 ∙ sym (ap (λ (b : Bool). drop (cond b 3 0) text) m.0)
 
 -- ---- the first node with a name
 

@@ -20,16 +20,16 @@ abbrev pub in_ms : List ℕ → Bool
 in_ms word = alike (drop (length word - 2) word) ms_name
 
 -- document 01's lengths: of a delay, and of an all-pass, for milliseconds by their bits
-abbrev pub samples_of : Kind → ℕ → Option ℕ
-samples_of kind.Delay ms = delay_of (of_bits binary32 ms)
-samples_of _ ms = all_pass_of (of_bits binary32 ms)
+abbrev pub length_for : Kind → ℕ → Option ℕ
+length_for kind.Delay ms = delay_of (of_bits binary32 ms)
+length_for _ ms = all_pass_of (of_bits binary32 ms)
 
 abbrev pub length_by : Option ℕ → Result ℕ Reason
 length_by (Some n) = Ok n
 length_by None = Err reason.Range
 
 abbrev pub ms_length : Kind → Result ℕ FloatError → Result ℕ Reason
-ms_length k (Ok ms) = length_by (samples_of k ms)
+ms_length k (Ok ms) = length_by (length_for k ms)
 ms_length k (Err e) = Err (float_reason e)
 
 abbrev pub whole_length : Option ℕ → Result ℕ Reason

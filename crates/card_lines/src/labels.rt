@@ -1,9 +1,8 @@
 // The names that a card gives its nodes, as `echo: delay 300ms`. A name is found by reading the text's
 // lines again: there is no table of names.
-ghost use Rattle.std.specs.Prelude.{◌≡◌, cond, ◌≤◌, length, take};
-ghost use Rattle.text.specs.Words.{lines_of};
-ghost use Rattle.card_lines.specs.Labels.{is_letter, is_inner, all_inner, starts_name, good_name, bare, is_label, label_of, body_of, is_node, nodes_in, node_of, end_of, mark};
-ghost use Rattle.card_lines.specs.Names.{alike};
+ghost use Rattle.std.specs.Prelude.{◌≡◌, true, false, ◌≤◌, MatchOption};
+ghost use Rattle.text.specs.Words.{word_at, lines_of};
+ghost use Rattle.card_lines.specs.Labels.{is_letter, is_inner, all_inner, starts_name, good_name, bare, is_label, label_of, body_of, is_node, nodes_in, node_of, end_of, unmarked};
 
 use crate::names::{Name, named};
 use decimals::number::whole_of;
@@ -35,12 +34,7 @@ pub fn starts_name(word: &[u8]) -> bool
 fn all_inner(name: &[u8]) -> bool
     ensures { result ≡ all_inner name.now }
 {
-    for byte in name {
-        if !is_inner(*byte) {
-            return false;
-        }
-    }
-    true
+    name.iter().all(|byte| is_inner(*byte))
 }
 
 pub fn good_name(name: &[u8]) -> bool
@@ -57,32 +51,18 @@ pub fn bare(line: &[u8]) -> &[u8]
     &line[..end]
 }
 
-// Whether a line's first word is a name with its colon.
-pub fn is_label(word: &[u8]) -> bool
-    ensures { result ≡ is_label word.now }
+// The name that a line gives its node: its first word, up to the colon that ends it.
+pub fn label_of(line: &[u8]) -> Option<&[u8]>
+    ensures { MatchOption result (is_label (word_at 0 line.now) ≡ false) (λ name. (is_label (word_at 0 line.now) ≡ true) × (name.now ≡ label_of line.now)) }
 {
-    match word {
-        [] => false,
-        [.., last] => *last == b':',
-    }
-}
-
-// The name that a line gives; an empty one where it gives none.
-pub fn label_of(line: &[u8]) -> &[u8]
-    ensures { result.now ≡ label_of line.now }
-{
-    let word = word_at(line, 0);
-    if !is_label(word) {
-        return &[];
-    }
-    &word[..word.len() - 1]
+    word_at(line, 0).strip_suffix(b":")
 }
 
 // A line without the name before it.
 pub fn body_of(line: &[u8]) -> &[u8]
     ensures { result.now ≡ body_of line.now }
 {
-    if !is_label(word_at(line, 0)) {
+    if label_of(line).is_none() {
         return line;
     }
     let passed = next_word(line, 0);
@@ -110,7 +90,8 @@ pub fn node_named(text: &[u8], name: &[u8]) -> Option<u16>
     let mut k: usize = 0;
     for line in Lines::new(text) {
         let line = bare(line);
-        if label_of(line) == name {
+        // A line that gives no name counts as one with the empty name, as the definition has it.
+        if label_of(line).unwrap_or_default() == name {
             return u16::try_from(k).ok();
         }
         k += nodes_in(line);
@@ -129,13 +110,10 @@ pub fn end_of(text: &[u8], word: &[u8]) -> Option<u16>
     Some(number as u16)
 }
 
-// How many bytes a byte-order mark takes at the start of a text.
-pub fn mark_length(text: &[u8]) -> usize
-    ensures { (result ≤ length text.now) × (result ≡ cond (alike (take 3 text.now) mark) 3 0) }
+// A text without a byte-order mark at its start. Ruled out, and tried by a must-fail edit: two of the mark's
+// three bytes taken for it (mark_half_taken).
+pub fn unmarked(text: &[u8]) -> &[u8]
+    ensures { result.now ≡ unmarked text.now }
 {
-    if text.starts_with(b"\xef\xbb\xbf") {
-        3
-    } else {
-        0
-    }
+    text.strip_prefix(b"\xef\xbb\xbf").unwrap_or(text)
 }

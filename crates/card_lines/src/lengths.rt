@@ -1,6 +1,6 @@
 // The length of a line, in samples or in milliseconds: `delay 300ms`.
 ghost use Rattle.std.specs.Prelude.{◌≡◌};
-ghost use Rattle.card_lines.specs.Lengths.{samples_of, length_of};
+ghost use Rattle.card_lines.specs.Lengths.{length_for, length_of};
 
 use crate::reason::Reason;
 use decimals::number::{float_of, whole_of};
@@ -9,8 +9,8 @@ use leaves::lengths::{all_pass_length, delay_length};
 use values::float::of_bits;
 
 // The line of a delay, or of an all-pass, for milliseconds by their bits.
-fn samples_of(kind: Kind, ms: u32) -> Option<u32>
-    ensures { result ≡ samples_of kind ms }
+fn length_for(kind: Kind, ms: u32) -> Option<u32>
+    ensures { result ≡ length_for kind ms }
 {
     match kind {
         Kind::Delay => delay_length(of_bits(ms)),
@@ -24,10 +24,8 @@ pub fn length_of(kind: Kind, word: &[u8]) -> Result<u32, Reason>
 {
     if let Some(number) = word.strip_suffix(b"ms") {
         let ms = float_of(number)?;
-        return samples_of(kind, ms).ok_or(Reason::Range);
+        return length_for(kind, ms).ok_or(Reason::Range);
     }
-    let Some(samples) = whole_of(word, 4294967295) else {
-        return Err(Reason::Whole);
-    };
+    let samples = whole_of(word, 4294967295).ok_or(Reason::Whole)?;
     Ok(samples as u32)
 }

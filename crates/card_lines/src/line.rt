@@ -2,13 +2,11 @@
 ghost use Rattle.std.specs.Prelude.{◌≡◌};
 ghost use Rattle.decimals.specs.Number.{whole_of};
 ghost use Rattle.text.specs.Words.{word_at, lines_of};
-ghost use Rattle.card_lines.specs.Labels.{label_of, body_of, end_of};
+ghost use Rattle.card_lines.specs.Labels.{end_of};
 ghost use Rattle.card_lines.specs.Line.{no_end, ended, head_line, wire_line, float_line, node_line, record_line, plain_line, is_other, labelled_line, line_of, said_of};
 ghost use Rattle.card_lines.specs.Names.{named};
 
-use crate::labels::{
-    bare, body_of, end_of, good_name, is_label, label_of, node_named, starts_name,
-};
+use crate::labels::{bare, body_of, end_of, good_name, label_of, node_named, starts_name};
 use crate::lengths::length_of;
 use crate::names::{Name, named};
 use crate::reason::Reason;
@@ -40,10 +38,7 @@ fn no_end(word: &[u8]) -> Reason
 fn ended(text: &[u8], word: &[u8]) -> Result<u16, Reason>
     ensures { result ≡ ended (end_of (lines_of text.now) word.now) word.now }
 {
-    match end_of(text, word) {
-        Some(node) => Ok(node),
-        None => Err(no_end(word)),
-    }
+    end_of(text, word).ok_or_else(|| no_end(word))
 }
 
 // The word between the head's numbers.
@@ -53,9 +48,7 @@ const INPUT: &[u8] = b"input";
 fn head_line(text: &[u8], line: &[u8]) -> Result<Line, Reason>
     ensures { result ≡ head_line (whole_of (word_at 1 line.now) 65535) (word_at 2 line.now) (ended (end_of (lines_of text.now) (word_at 3 line.now)) (word_at 3 line.now)) }
 {
-    let Some(size) = whole_of(word_at(line, 1), 65535) else {
-        return Err(Reason::Whole);
-    };
+    let size = whole_of(word_at(line, 1), 65535).ok_or(Reason::Whole)?;
     if word_at(line, 2) != INPUT {
         return Err(Reason::Name);
     }
@@ -113,9 +106,7 @@ fn plain_line(text: &[u8], line: &[u8]) -> Result<Line, Reason>
     if word.is_empty() {
         return Ok(Line::Blank);
     }
-    let Some(name) = named(word) else {
-        return Err(Reason::Name);
-    };
+    let name = named(word).ok_or(Reason::Name)?;
     if word_count(line) != name.words_wanted() {
         return Err(Reason::Fields);
     }
@@ -129,13 +120,10 @@ fn is_other(word: &[u8]) -> bool
     word.is_empty() || matches!(named(word), Some(Name::Head | Name::Wire))
 }
 
-// What a line says that has a name before it, after `nodes` nodes. The name is this node's if no node
-// before has it.
-fn labelled_line(text: &[u8], nodes: usize, line: &[u8]) -> Result<Line, Reason>
-    ensures { result ≡ labelled_line (lines_of text.now) nodes (label_of line.now) (body_of line.now) }
+// What `body` says behind a name, after `nodes` nodes. The name is this node's if no node before has it.
+fn labelled_line(text: &[u8], nodes: usize, name: &[u8], body: &[u8]) -> Result<Line, Reason>
+    ensures { result ≡ labelled_line (lines_of text.now) nodes name.now body.now }
 {
-    let name = label_of(line);
-    let body = body_of(line);
     if !good_name(name) {
         return Err(Reason::Label);
     }
@@ -153,11 +141,10 @@ fn labelled_line(text: &[u8], nodes: usize, line: &[u8]) -> Result<Line, Reason>
 fn line_of(text: &[u8], nodes: usize, line: &[u8]) -> Result<Line, Reason>
     ensures { result ≡ line_of (lines_of text.now) nodes line.now }
 {
-    if is_label(word_at(line, 0)) {
-        labelled_line(text, nodes, line)
-    } else {
-        plain_line(text, line)
-    }
+    let Some(name) = label_of(line) else {
+        return plain_line(text, line);
+    };
+    labelled_line(text, nodes, name, body_of(line))
 }
 
 // What a line of a text says, after `nodes` nodes.

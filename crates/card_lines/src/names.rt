@@ -76,10 +76,5 @@ impl Name {
 pub fn named(word: &[u8]) -> Option<Name>
     ensures { result ≡ named word.now }
 {
-    for name in NAMES {
-        if word == name.word() {
-            return Some(name);
-        }
-    }
-    None
+    NAMES.iter().copied().find(|name| word == name.word())
 }

@@ -32,6 +32,10 @@ sets_front l at vs h = wrote_sets vs l at h
 pub adds-line : {w : Written} {o o' : List ℕ} {r : Result Written Reason} (l l' : Result Line Reason) → l ≡ l' → Adds w (step_of w l') (record_bytes l') o o' r → Adds w (step_of w l) (record_bytes l) o o' r
 adds-line {w} {o} {o'} {r} l l' e h = subst (λ (x : Result Line Reason). Adds w (step_of w x) (record_bytes x) o o' r) (sym e) h
 
+-- a record that is refused is not stored
+pub refuses : {w : Written} {s : Result Written Reason} {bytes o : List ℕ} {reason : Reason} → s ≡ Err reason → Adds w s bytes o o (Err reason)
+refuses {w} {s} {bytes} {o} {reason} e = subst (λ (x : Result Written Reason). Adds w x bytes o o (Err reason)) (sym e) (record { steps = refl; room = tt; grown = tt; puts = refl })
+
 -- ---- the judge's answer
 
 abbrev made_of : ℕ → Result (Unit {0}) Answer → Result ℕ Wrong

@@ -9,7 +9,7 @@ ghost use Rattle.cards.specs.Board.{record_bytes, head_step, node_step, wire_ste
 ghost use Rattle.text.specs.Words.{lines_of};
 
 use boards::judge::judge;
-use card_lines::labels::mark_length;
+use card_lines::labels::unmarked;
 use card_lines::line::{Line, said};
 use card_lines::reason::Reason;
 use kinds::types::Kind;
@@ -17,7 +17,10 @@ use records::answer::Answer;
 use records::writer::{put_end, put_head, put_node, put_wire};
 use text::words::Lines;
 
-// How far a board is written: its bytes, its nodes and its wires.
+// How far a board is written: its bytes, its nodes and its wires. `Room` of it stands in the contracts, not in
+// ghost fields: the definitions (`node_step`, `card_from`) make such values by a test alone, and would each have
+// to prove the room of what they make. Not one struct with `out`: what a bad line leaves in `out` is promised too
+// (`bytes` of `board_of`), and is read off the slice itself.
 #[derive(Clone, Copy)]
 pub struct Written {
     pub at: usize,
@@ -63,7 +66,7 @@ impl Written {
         if self.nodes == 64 {
             return Err(Reason::Many);
         }
-        put_node(out, self.at, kind.number(), n, f);
+        put_node(out, self.at, u16::from(kind), n, f);
         Ok(Written {
             at: self.at + 14,
             nodes: self.nodes + 1,
@@ -104,8 +107,8 @@ impl Written {
     }
 }
 
-// The judge's answer to a board of `at` bytes and its end.
-fn judged(out: &mut [u8], at: usize) -> Result<usize, Wrong>
+// A board of `at` bytes with its end record: how long it is, if the judge accepts it.
+fn finished(out: &mut [u8], at: usize) -> Result<usize, Wrong>
     requires { at + 4 ≤ length out.old }
     ensures within { Within out.new result }
     ensures answered { result ≡ (judged_of (take at out.old ++ end_bytes)).made }
@@ -113,10 +116,8 @@ fn judged(out: &mut [u8], at: usize) -> Result<usize, Wrong>
 {
     put_end(out, at);
     let end = at + 4;
-    match judge(&out[..end]).checked() {
-        Ok(()) => Ok(end),
-        Err(refusal) => Err(Wrong::Refused(refusal)),
-    }
+    judge(&out[..end]).checked().map_err(Wrong::Refused)?;
+    Ok(end)
 }
 
 // The board of a card without a byte-order mark.
@@ -132,24 +133,23 @@ fn lines_board(text: &[u8], out: &mut [u8]) -> Result<usize, Wrong>
         wires: 0,
     };
     for (i, line) in Lines::new(text).enumerate() {
-        match done.add_line(out, said(text, done.nodes, line)) {
-            Ok(next) => done = next,
-            Err(reason) => return Err(Wrong::Bad(i + 1, reason)),
-        }
+        done = done
+            .add_line(out, said(text, done.nodes, line))
+            .map_err(|reason| Wrong::Bad(i + 1, reason))?;
     }
-    judged(out, done.at)
+    finished(out, done.at)
 }
 
 // The board of a card, in the first bytes of `out`: how many, if the judge accepts it. Ruled out, and tried
 // by must-fail edits: every card refused (refuses_all), a bad line passed over (bad_line_passed), a second
 // node with the same name passed over (card_lines, first_name_wins), a name that stands for the node behind
-// it (card_lines, name_one_off).
+// it (card_lines, name_one_off). A length, not the slice, though `Within` then stands in three contracts: the
+// answer to a card that gives no board reads `out` too.
 pub fn board_of(text: &[u8], out: &mut [u8]) -> Result<usize, Wrong>
     requires { 1932 ≤ length out.old }
     ensures within { Within out.new result }
     ensures answered { result ≡ (card_of text.now).made }
     ensures bytes { out.new ≡ sets out.old 0 (card_of text.now).bytes }
 {
-    let from = mark_length(text);
-    lines_board(&text[from..], out)
+    lines_board(unmarked(text), out)
 }

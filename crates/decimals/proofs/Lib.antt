@@ -4,4 +4,5 @@ pub mod Tens
 pub mod Sums
 pub mod Rounding
 pub mod Reading
+pub mod Question
 pub mod Worked

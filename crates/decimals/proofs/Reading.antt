@@ -2,23 +2,22 @@
 use mathlib.Core.Path.{◌≡◌, refl, sym, ap, subst, ◌∙◌}
 use mathlib.Core.Bool.{Bool, true, false, cond}
 use mathlib.Core.List.{List, [], ◌∷◌}
-use Prim.Native.Nat.{ℕ, zero, suc, ◌+◌, ◌-◌, ◌*◌, ◌^◌, ◌<◌, ◌≤◌}
+use Prim.Native.Nat.{ℕ, zero, suc, ◌+◌, ◌*◌, ◌^◌, ◌<◌, ◌≤◌}
 use native.Mathlib.Decide.{dec_lt}
-use native.Mathlib.Nat.{le_trans, le_of_eq, mul_assoc, mul-one, mul-le-mul_left, mul-le-mul_right, pow-succ', pow-le-pow_right, one-le-pow}
+use native.Mathlib.Nat.{le_trans, le_of_eq, mul_assoc, mul-one, mul-le-mul_left, mul-le-mul_right, pow-succ', one-le-pow}
 use native.Mathlib.Numerals.{add-one}
 use native.Mathlib.Omega.{arith}
 use borrow.Author.Tests.{lt-ltb, le-ltb, ltb-true, eq-eqb, ne_eqb}
 use lib.Dec.{ltb}
 use lib.Ieee as ieee
-use lib.ListN.{length, take, drop, get_or, drop_of_length-le, length-take, length-drop}
-use lib.Seq.{drop-cons, get_or-take, take_all}
+use lib.ListN.{length, drop, get_or, drop_of_length-le, length-take}
+use lib.Seq.{drop-cons, get_or-take}
 use Rattle.std.proofs.lemmas.Bool.Decides.{nat_tests}
 use Rattle.std.specs.Prelude.{SomeIff, MatchOption, Option, Some, None, Ok, Err, ◌⊎◌}
 use Rattle.std.specs.Char.{digit_value}
 use Rattle.decimals.specs.declared.number.FloatError.TheVariants.{Bad}
-use Rattle.decimals.specs.declared.number.Digits.{Digits}
 use Rattle.decimals.specs.declared.number.Run.{Run}
-use Rattle.decimals.specs.Number.{digit_of, more, digits_from, read_from, upto, whole_of, hex_from, bits_of, ending, Decimals, part, number_from, count_of, digits_of, power_of, signed, powered, decimal_by, decimal_at, float_of}
+use Rattle.decimals.specs.Number.{digit_of, more, digits_from, read_from, upto, whole_of, hex_from, bits_of, first_digits, Decimals, number_from, parts, digits_of, power_of, signed, powered, decimal_by, decimal, float_of}
 
 -- ---- a digit, as the library reads it
 
@@ -140,17 +139,13 @@ module _ (s : List ℕ) (i v : ℕ) where
   unfolding hex_from
   hex_end h = ap (λ (l : List ℕ). hex_from l v) (drop_of_length-le s h)
 
-pub bits_long : (s : List ℕ) → length s ≡ 9 → hex_from (drop 1 s) 0 ≡ bits_of s
+pub bits_long : (s : List ℕ) → length s ≡ 8 → hex_from s 0 ≡ bits_of s
 unfolding bits_of
-bits_long s e = sym (ap (λ (b : Bool). cond b (hex_from (drop 1 s) 0) (Err Bad)) (eq-eqb (length s) 9 e))
+bits_long s e = sym (ap (λ (b : Bool). cond b (hex_from s 0) (Err Bad)) (eq-eqb (length s) 8 e))
 
-pub bits_short : (s : List ℕ) → (length s ≡ 9 → ⊥) → Err Bad ≡ bits_of s
+pub bits_short : (s : List ℕ) → (length s ≡ 8 → ⊥) → Err Bad ≡ bits_of s
 unfolding bits_of
-bits_short s n = sym (ap (λ (b : Bool). cond b (hex_from (drop 1 s) 0) (Err Bad)) (ne_eqb (length s) 9 n))
-
--- 8 digits have 32 bits
-pub hex_room : (k : ℕ) → k ≤ 8 → 16 ^ k ≤ 4294967296
-hex_room k h = pow-le-pow_right {n = 16} (omega arith) {i = k} {j = 8} h
+bits_short s n = sym (ap (λ (b : Bool). cond b (hex_from s 0) (Err Bad)) (ne_eqb (length s) 8 n))
 
 -- ---- decimals
 
@@ -167,14 +162,11 @@ run-digits (c ∷ s) v i k h = pick k (ltb (digit_of c) 10) (ltb-true (digit_of 
     pick (suc k) true t on h = on k (omega arith)
     pick k false t on h = absurd (omega arith)
 
-pub part-digits : (word : List ℕ) (at next : ℕ) → next ≡ ending word at → Decimals (part word at next)
-part-digits word at next e k h =
-    let short : k < next - at = omega (arith, length-take (next - at) (drop at word)) in
-    subst (λ (c : ℕ). digit_of c < 10) (sym (get_or-take (next - at) (drop at word) k 0 short))
-    (run-digits (drop at word) 0 at k (omega (arith, e)))
-
-pub no_digits : (word : List ℕ) (at : ℕ) → Decimals (part word at at)
-no_digits word at k h = absurd (omega (arith, length-take (at - at) (drop at word)))
+pub first_decimals : (s : List ℕ) → Decimals (first_digits s)
+first_decimals s k h =
+    let n = (digits_from s 0 0).next in
+    let short : k < n = omega (arith, length-take n s) in
+    subst (λ (c : ℕ). digit_of c < 10) (sym (get_or-take n s k 0 short)) (run-digits s 0 0 k (omega (arith, short)))
 
 -- the number of digits, one after the other
 module _ (s : List ℕ) (i v : ℕ) where
@@ -197,19 +189,15 @@ pub room_now : (v d n w : ℕ) → d < 10 → (v + 1) * 10 ^ suc n ≤ w → v *
 room_now v d n w h r =
     le_trans (omega (arith, mul-one ((v * 10 + d + 1)))) (le_trans (mul-le-mul_left (v * 10 + d + 1) (one-le-pow n 10 (omega arith))) (room_step v d n w h r))
 
--- the bytes behind a place, as a part up to the end
-pub tail : (n : ℕ) (s : List ℕ) → take (length s - n) (drop n s) ≡ drop n s
-tail n s = take_all (length s - n) (drop n s) (le_of_eq (length-drop n s))
+-- a decimal, by its parts: no digit; or a power of ten behind the digits
+module _ (minus : Bool) (word whole fraction rest : List ℕ) (found : parts whole fraction rest ≡ digits_of word) where
+  pub decimal_none : length whole + length fraction ≡ 0 → Err Bad ≡ decimal minus word
+  unfolding decimal
+  decimal_none e = rw (eq-eqb (length whole + length fraction) 0 e) at (ap (decimal_by minus) found)
 
--- a decimal, by its digits d: none; no power of ten behind them; or both
-module _ (word : List ℕ) (at : ℕ) (minus : Bool) (d : Digits) (found : d ≡ digits_of word at) where
-  pub decimal_none : count_of at d ≡ 0 → Err Bad ≡ decimal_at word at minus
-  unfolding decimal_at
-  decimal_none e = rw (eq-eqb (count_of at d) 0 e) at (ap (decimal_by word at minus) found)
-
-  pub decimal_some : (count_of at d ≡ 0 → ⊥) → powered word at minus d (power_of word d.next) ≡ decimal_at word at minus
-  unfolding decimal_at
-  decimal_some n = rw (ne_eqb (count_of at d) 0 n) at (ap (decimal_by word at minus) found)
+  pub decimal_some : (length whole + length fraction ≡ 0 → ⊥) → powered minus (parts whole fraction rest) (power_of rest) ≡ decimal minus word
+  unfolding decimal
+  decimal_some n = rw (ne_eqb (length whole + length fraction) 0 n) at (ap (decimal_by minus) found)
 
 -- a sign in front of the bits
 pub signed_is : (minus : Bool) (x : ieee.Float) (bits : ℕ) → bits ≡ ieee.to_bits ieee.binary32 x → ieee.to_bits ieee.binary32 (ieee.neg x) ≡ 2147483648 + ieee.to_bits ieee.binary32 x
@@ -219,6 +207,6 @@ signed_is false x bits e n = ap Ok e
 
 -- an empty word is no float
 pub float_empty : (word : List ℕ) → length word ≡ 0 → Err Bad ≡ float_of word
-unfolding float_of decimal_at digits_of digits_from
+unfolding float_of decimal digits_of digits_from
 float_empty [] e = refl
 float_empty (c ∷ word) e = absurd (omega arith)

@@ -36,14 +36,8 @@ value_bits (fin s m e) n v =
 
 -- the digits that are dropped of a number with 24 + k digits; at k = 0 of one with fewer too
 dropped : (n k : ℕ) → n < 2 ^ (24 + k) → (0 < k → 2 ^ (23 + k) ≤ n) → size n - 24 ≡ k
-dropped n zero h l = less (size n) (size-le n 24 h)
-  where
-    less : (z : ℕ) → z ≤ 24 → z - 24 ≡ 0
-    less z g = omega arith
-dropped n (suc k) h l = exact (size n) (size-le n (24 + suc k) h) (size-gt n (23 + suc k) (l (omega arith)))
-  where
-    exact : (z : ℕ) → z ≤ 24 + suc k → 23 + suc k < z → z - 24 ≡ suc k
-    exact z g f = omega arith
+dropped n zero h l = omega (arith, size-le n 24 h)
+dropped n (suc k) h l = omega (arith, size-le n (24 + suc k) h, size-gt n (23 + suc k) (l (omega arith)))
 
 -- q of 24 digits, or of fewer at k = 0
 kept_bits : (q k : ℕ) → q < 2 ^ 24 → (0 < k → 2 ^ 23 ≤ q) → (size (q * 2 ^ k) - 24) * 8388608 + q * 2 ^ k / 2 ^ (size (q * 2 ^ k) - 24) ≡ k * 8388608 + q
@@ -55,16 +49,12 @@ kept_bits q k h l =
 -- 2^24, which has a digit more
 carried_bits : (k : ℕ) → (size (2 ^ 24 * 2 ^ k) - 24) * 8388608 + 2 ^ 24 * 2 ^ k / 2 ^ (size (2 ^ 24 * 2 ^ k) - 24) ≡ k * 8388608 + 2 ^ 24
 carried_bits k =
-    let same : 2 ^ 24 * 2 ^ k ≡ 2 ^ 23 * 2 ^ (1 + k) = sym (pow-add 2 24 k) ∙ ap (λ (z : ℕ). 2 ^ z) (one_more k) ∙ pow-add 2 23 (1 + k) in
+    let one_more : 24 + k ≡ 23 + (1 + k) = omega arith in
+    let sums : (1 + k) * 8388608 + 2 ^ 23 ≡ k * 8388608 + 2 ^ 24 = omega arith in
+    let same : 2 ^ 24 * 2 ^ k ≡ 2 ^ 23 * 2 ^ (1 + k) = sym (pow-add 2 24 k) ∙ ap (λ (z : ℕ). 2 ^ z) one_more ∙ pow-add 2 23 (1 + k) in
     ap (λ (n : ℕ). (size n - 24) * 8388608 + n / 2 ^ (size n - 24)) same
     ∙ kept_bits (2 ^ 23) (1 + k) (omega arith) (λ p. omega arith)
-    ∙ sums k
-  where
-    one_more : (k : ℕ) → 24 + k ≡ 23 + (1 + k)
-    one_more k = omega arith
-
-    sums : (k : ℕ) → (1 + k) * 8388608 + 2 ^ 23 ≡ k * 8388608 + 2 ^ 24
-    sums k = omega arith
+    ∙ sums
 
 finite_bits_lem : (q k j : ℕ) → q < 2 ^ j → j + k ≤ 277 → to_bits binary32 (units binary32 false q k) ≡ (size (q * 2 ^ k) - 24) * 8388608 + q * 2 ^ k / 2 ^ (size (q * 2 ^ k) - 24)
 finite_bits_lem q k j h l = value_bits (units binary32 false q k) (q * 2 ^ k) (units_val binary32 false q k (lt_of_lt_of_le (shl_lt j k h) (pow_mono l)))

@@ -5,9 +5,9 @@ use Prim.Native.Nat.{ℕ, zero, suc, ◌*◌, ◌^◌, ◌<◌}
 use native.Mathlib.Nat.{mul_assoc, mul_comm, mul-one, mul-pos, zero-lt-suc, le_of_lt, one-le-pow}
 use native.Mathlib.Omega.{arith}
 use borrow.Author.Tests.{ne_eqb}
-use lib.Dec.{T, eqb, le→leb}
+use lib.Dec.{eqb}
 use lib.IntN.{pos}
-use lib.Ieee.{Float, nan, inf, fin, binary32, up, down, unlike, round, div, of_int, in_float}
+use lib.Ieee.{Float, nan, inf, fin, binary32, up, down, unlike, round, div, of_int}
 use lib.Ieee.Fits.{up_pos, down_pos}
 use lib.Ieee.Exact.{HasValue}
 use lib.Ieee.Back.{round_whole}
@@ -31,11 +31,6 @@ over_at (fin s m e) (fin t (suc p) d) n k h v w =
     ∙ ap (λ (r : Bool). round binary32 (unlike false r) (m * up e * down d) (suc p * up d * down e)) w.0
     ∙ round_same binary32 false (m * up e * down d) (suc p * up d * down e) n k (mul-pos (mul-pos (zero-lt-suc p) (up_pos d)) (down_pos e)) h
     (cross_over (m * up e) (suc p * up d) n k (down e) (down d) (sym (mul-one _) ∙ v.1) (sym (mul-one _) ∙ w.1))
-
--- digits below 2^24 are a float exactly
-pub digits_fit : (n : ℕ) → n < 2 ^ 24 → T (in_float binary32 (pos n))
-unfolding in_float
-digits_fit n h = le→leb n (2 ^ 24) (le_of_lt h)
 
 digits_value : (n : ℕ) → n < 2 ^ 24 → HasValue (of_int binary32 (pos n)) false n 1
 unfolding of_int

@@ -5,7 +5,7 @@ use lib.Ieee.{neg, round, to_bits}
 use Rattle.std.specs.Prelude.{Ok, Err}
 use Rattle.decimals.specs.declared.number.FloatError.TheVariants.{Bad, Long}
 use Rattle.decimals.specs.Decimal.{nearest_to}
-use Rattle.decimals.specs.Number.{digit_of, digits_from, read_from, whole_of, hex_from, bits_of, digits_of, number_from, all_of, power_of, scaled, decimal_at, float_of}
+use Rattle.decimals.specs.Number.{digit_of, digits_from, read_from, whole_of, hex_from, bits_of, digits_of, number_from, all_of, power_of, scaled, decimal, float_of}
 
 pub record Worked : Type 0 where
   -- 0.1
@@ -44,7 +44,7 @@ pub record Worked : Type 0 where
   pub two_points : float_of (49 ∷ 46 ∷ 50 ∷ 46 ∷ 51 ∷ []) ≡ Err Bad
 
 pub worked : Worked
-unfolding float_of decimal_at digits_of digits_from digit_of power_of whole_of read_from scaled all_of number_from nearest_to round neg to_bits bits_of hex_from
+unfolding float_of decimal digits_of digits_from digit_of power_of whole_of read_from scaled all_of number_from nearest_to round neg to_bits bits_of hex_from
 worked = record {
   tenth = refl;
   root_half = refl;

@@ -1,5 +1,5 @@
 -- Decimals: the floats that they give. Definitions only.
-use Rattle.std.specs.Prelude.{◌≡◌, false, Option, Some, None, ℕ, ◌*◌, ◌^◌, ◌≤◌, Float}
+use Rattle.std.specs.Prelude.{◌≡◌, false, ℕ, ◌*◌, ◌^◌, ◌≤◌, Float}
 use Rattle.std.specs.Float.{binary32}
 use Rattle.std.specs.Float.Ieee.{round, to_bits}
 
@@ -12,6 +12,5 @@ unfoldable pub nearest_to : ℕ → ℕ → ℕ → Float
 nearest_to d up down = round binary32 false (d * 10 ^ up) (10 ^ down)
 
 -- a decimal that is found for a float has at most 10 places and gives its bits
-abbrev pub Prints : ℕ → Option (ℕ × ℕ) → Type 0
-Prints bits None = Unit {0}
-Prints bits (Some d) = (d.1 ≤ 10) × (to_bits binary32 (over d.0 d.1) ≡ bits)
+abbrev pub Prints : ℕ → ℕ → ℕ → Type 0
+Prints bits digits places = (places ≤ 10) × (to_bits binary32 (over digits places) ≡ bits)

@@ -1,8 +1,7 @@
 -- Numbers of a text: what a word says as a whole number, and as a float. Definitions only.
-use Rattle.std.specs.Prelude.{Bool, true, false, cond, ◌&&◌, ◌||◌, Option, Some, None, Result, Ok, Err, List, [], ◌∷◌, ℕ, ◌+◌, ◌-◌, ◌*◌, ◌<◌, ◌≤◌, min, ltb, leb, eqb, length, take, drop, get_or}
+use Rattle.std.specs.Prelude.{Bool, true, false, cond, ◌&&◌, ◌||◌, Option, Some, None, Result, Ok, Err, List, [], ◌∷◌, ℕ, ◌+◌, ◌-◌, ◌*◌, ◌<◌, min, ltb, leb, eqb, length, take, drop, get_or}
 use Rattle.std.specs.Float.Ieee as ieee
 use Rattle.decimals.specs.Decimal.{nearest_to}
-use Rattle.decimals.specs.declared.number.Digits.{Digits}
 use Rattle.decimals.specs.declared.number.FloatError.{FloatError}
 use Rattle.decimals.specs.declared.number.FloatError.TheVariants.{Bad, Long}
 use Rattle.decimals.specs.declared.number.Power.{Power}
@@ -44,45 +43,38 @@ unfoldable pub hex_from : List ℕ → ℕ → Result ℕ FloatError
 hex_from [] v = Ok v
 hex_from (c ∷ s) v = cond (ltb (digit_of c) 16) (hex_from s (v * 16 + digit_of c)) (Err Bad)
 
--- a float's bits: 8 digits of base 16 behind the first byte
+-- a float's bits: 8 digits of base 16
 unfoldable pub bits_of : List ℕ → Result ℕ FloatError
-bits_of word = cond (eqb (length word) 9) (hex_from (drop 1 word) 0) (Err Bad)
+bits_of digits = cond (eqb (length digits) 8) (hex_from digits 0) (Err Bad)
 
 -- ---- decimals: 43 is `+`, 45 `-`, 46 the point, 69 `E`, 101 `e`
 
--- the place behind the decimal digits from a place of a word on
-abbrev pub ending : List ℕ → ℕ → ℕ
-ending word at = (digits_from (drop at word) 0 at).next
+-- the decimal digits that a text starts with, and what follows them
+abbrev pub first_digits : List ℕ → List ℕ
+first_digits s = take (digits_from s 0 0).next s
 
--- the digits of a decimal from a place on: those up to `point`, and those from `after` up to `next`, with a point between if one stands there
-abbrev pub pointed : List ℕ → ℕ → Digits
-pointed word end =
-    cond (eqb (get_or word end 0) 46) (record { point = end; after = end + 1; next = ending word (end + 1) })
-    (record { point = end; after = end; next = end })
+abbrev pub behind_digits : List ℕ → List ℕ
+behind_digits s = drop (digits_from s 0 0).next s
 
-unfoldable pub digits_of : List ℕ → ℕ → Digits
-digits_of word at = pointed word (ending word at)
+-- the parts of a decimal: its digits before the point, those behind it, and what follows them
+pub record Parts : Type 0 where
+  pub whole : List ℕ
+  pub fraction : List ℕ
+  pub rest : List ℕ
 
--- how many they are
-abbrev pub count_of : ℕ → Digits → ℕ
-count_of at d = d.point - at + (d.next - d.after)
+abbrev pub parts : List ℕ → List ℕ → List ℕ → Parts
+parts whole fraction rest = record { whole = whole; fraction = fraction; rest = rest }
+
+abbrev pub pointed : List ℕ → List ℕ → Parts
+pointed whole s =
+    cond (eqb (get_or s 0 0) 46) (parts whole (first_digits (drop 1 s)) (behind_digits (drop 1 s))) (parts whole [] s)
+
+unfoldable pub digits_of : List ℕ → Parts
+digits_of word = pointed (first_digits word) (behind_digits word)
 
 -- decimal digits only
 abbrev pub Decimals : List ℕ → Type 0
 Decimals s = (k : ℕ) → k < length s → digit_of (get_or s k 0) < 10
-
--- a word from one place up to another
-abbrev pub part : List ℕ → ℕ → ℕ → List ℕ
-part word from to = take (to - from) (drop from word)
-
--- where a decimal's digits stand
-pub record Placed (word : List ℕ) (at : ℕ) (d : Digits) : Type 0 where
-  pub whole : at ≤ d.point
-  pub between : d.point ≤ d.after
-  pub places : d.after ≤ d.next
-  pub fits : d.next ≤ length word
-  pub first : Decimals (part word at d.point)
-  pub rest : Decimals (part word d.after d.next)
 
 -- the number that digits say, read after the number v
 unfoldable pub number_from : List ℕ → ℕ → ℕ
@@ -90,10 +82,10 @@ number_from [] v = v
 number_from (c ∷ s) v = number_from s (v * 10 + digit_of c)
 
 -- the number that all digits of a decimal say, its point left out
-unfoldable pub all_of : List ℕ → ℕ → Digits → ℕ
-all_of word at d = number_from (part word d.after d.next) (number_from (part word at d.point) 0)
+unfoldable pub all_of : List ℕ → List ℕ → ℕ
+all_of whole fraction = number_from fraction (number_from whole 0)
 
--- the power of ten from a place of a word on: none at the end; or an `e` and a whole number, perhaps with a sign
+-- the power of ten behind the digits: none at the end; or an `e` and a whole number, perhaps with a sign
 abbrev pub power : ℕ → ℕ → Power
 power up down = record { up = up; down = down }
 
@@ -110,34 +102,34 @@ exponent_of s =
     cond (eqb (get_or s 0 0) 45) (downward (whole_of (drop 1 s) 42949672960))
     (upward (whole_of (cond (eqb (get_or s 0 0) 43) (drop 1 s) s) 42949672960))
 
-unfoldable pub power_of : List ℕ → ℕ → Option Power
-power_of word at =
-    cond (eqb at (length word)) (Some (power 0 0))
-    (cond (eqb (get_or word at 0) 101 || eqb (get_or word at 0) 69) (exponent_of (drop (at + 1) word)) None)
+unfoldable pub power_of : List ℕ → Option Power
+power_of s =
+    cond (eqb (length s) 0) (Some (power 0 0))
+    (cond (eqb (get_or s 0 0) 101 || eqb (get_or s 0 0) 69) (exponent_of (drop 1 s)) None)
 
 -- a float with a sign in front
 abbrev pub signed : Bool → ieee.Float → Result ℕ FloatError
 signed minus x = Ok (ieee.to_bits ieee.binary32 (cond minus (ieee.neg x) x))
 
 -- the float nearest to a decimal; with more than 40 digits, or a power of ten that is not from -60 to 60, it is too long
-unfoldable pub scaled : List ℕ → ℕ → Bool → Digits → Power → Result ℕ FloatError
-scaled word at minus d p =
-    cond (ltb 40 (count_of at d) || ltb 60 p.up || ltb 60 p.down) (Err Long)
-    (signed minus (nearest_to (all_of word at d) p.up (d.next - d.after + p.down)))
+unfoldable pub scaled : Bool → List ℕ → List ℕ → Power → Result ℕ FloatError
+scaled minus whole fraction p =
+    cond (ltb 40 (length whole + length fraction) || ltb 60 p.up || ltb 60 p.down) (Err Long)
+    (signed minus (nearest_to (all_of whole fraction) p.up (length fraction + p.down)))
 
--- the float of the decimal from a place of a word on, by the power of ten that it ends with
-abbrev pub powered : List ℕ → ℕ → Bool → Digits → Option Power → Result ℕ FloatError
-powered word at minus d None = Err Bad
-powered word at minus d (Some p) = scaled word at minus d p
+-- the float of a decimal whose sign stood before it, by its parts and the power of ten that it ends with
+abbrev pub powered : Bool → Parts → Option Power → Result ℕ FloatError
+powered minus d None = Err Bad
+powered minus d (Some p) = scaled minus d.whole d.fraction p
 
-abbrev pub decimal_by : List ℕ → ℕ → Bool → Digits → Result ℕ FloatError
-decimal_by word at minus d = cond (eqb (count_of at d) 0) (Err Bad) (powered word at minus d (power_of word d.next))
+abbrev pub decimal_by : Bool → Parts → Result ℕ FloatError
+decimal_by minus d = cond (eqb (length d.whole + length d.fraction) 0) (Err Bad) (powered minus d (power_of d.rest))
 
-unfoldable pub decimal_at : List ℕ → ℕ → Bool → Result ℕ FloatError
-decimal_at word at minus = decimal_by word at minus (digits_of word at)
+unfoldable pub decimal : Bool → List ℕ → Result ℕ FloatError
+decimal minus word = decimal_by minus (digits_of word)
 
 -- the float that a word says: an `x` and its bits; or a decimal, perhaps with a sign
 unfoldable pub float_of : List ℕ → Result ℕ FloatError
 float_of word =
-    cond (eqb (get_or word 0 0) 120 || eqb (get_or word 0 0) 88) (bits_of word)
-    (cond (eqb (get_or word 0 0) 45) (decimal_at word 1 true) (cond (eqb (get_or word 0 0) 43) (decimal_at word 1 false) (decimal_at word 0 false)))
+    cond (eqb (get_or word 0 0) 120 || eqb (get_or word 0 0) 88) (bits_of (drop 1 word))
+    (cond (eqb (get_or word 0 0) 45) (decimal true (drop 1 word)) (cond (eqb (get_or word 0 0) 43) (decimal false (drop 1 word)) (decimal false word)))

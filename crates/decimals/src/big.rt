@@ -2,7 +2,7 @@
 ghost use Rattle.std.specs.Prelude.{◌≡◌, ◌+◌, ◌*◌, ◌^◌, ◌<◌, MatchOption};
 ghost use Rattle.decimals.specs.Big.{value_of, limit};
 
-// A number in words of 32 bits, the lowest first.
+// A number in words of 32 bits, the lowest first: an array of fixed length, since libraries have no heap.
 #[derive(Clone, Copy)]
 pub struct Big {
     pub words: [u32; 16],
@@ -24,7 +24,8 @@ pub fn times(a: Big, m: u32, c: u32) -> Big
 {
     let mut words = [0u32; 16];
     let mut carry = u64::from(c);
-    // An index: the word read and the word written stand at the same place.
+    // An index: a word's place is its weight, which the invariant speaks of. Tried with `iter_mut().zip`, which
+    // gives the invariant no place: it stayed open.
     for i in 0..16 {
         let sum = u64::from(a.words[i]) * u64::from(m) + carry;
         words[i] = (sum % 0x1_0000_0000) as u32;
@@ -39,7 +40,7 @@ pub fn minus(a: Big, b: Big) -> Option<Big>
 {
     let mut words = [0u32; 16];
     let mut borrow: u64 = 0;
-    // An index: both words read and the word written stand at the same place.
+    // An index: as in `times`.
     for i in 0..16 {
         let left = u64::from(a.words[i]) + 0x1_0000_0000 - u64::from(b.words[i]) - borrow;
         words[i] = (left % 0x1_0000_0000) as u32;

@@ -1,12 +1,23 @@
 // Floats as decimals: digits below 2^24 over a power of ten up to 10^10. Both are floats exactly, so
 // one division gives the nearest float.
-ghost use Rattle.std.specs.Prelude.{◌≡◌, false, ◌^◌, ◌<◌, ◌≤◌};
+ghost use Rattle.std.specs.Prelude.{◌≡◌, false, ◌^◌, ◌<◌, ◌≤◌, IfSome};
 ghost use Rattle.std.specs.Float.Ieee.Exact.{HasValue};
 ghost use Rattle.decimals.specs.Decimal.{over, Prints};
 
 use std::num::nearest_u64_to_f32;
 use values::float::to_bits;
 
+// digits / 10^places.
+#[derive(Clone, Copy)]
+pub struct Decimal {
+    pub digits: u32,
+    pub places: u32,
+    pub ghost few: { digits < 2 ^ 24 },
+    pub ghost near: { places ≤ 10 },
+}
+
+// Ten to k. `k ≤ 10` stands in three contracts: a number of places is tried (`decimal_of`) before there is a
+// `Decimal` that could hold it.
 pub fn power(k: u32) -> u64
     requires { k ≤ 10 }
     ensures { (result ≡ 10 ^ k) × (1 ≤ result) × (result ≤ 10000000000) }
@@ -22,12 +33,11 @@ fn ten(k: u32) -> f32
     nearest_u64_to_f32(power(k))
 }
 
-// The float nearest to digits / 10^k.
-pub fn quotient(digits: u32, k: u32) -> f32
-    requires { (digits < 2 ^ 24) × (k ≤ 10) }
-    ensures { result ≡ over digits k }
+// The float nearest to a decimal.
+pub fn quotient(decimal: Decimal) -> f32
+    ensures { result ≡ over decimal.digits decimal.places }
 {
-    digits as f32 / ten(k)
+    decimal.digits as f32 / ten(decimal.places)
 }
 
 // The whole number nearest to a positive float, by its bits, times `tens`: 2^24 if the float is
@@ -47,33 +57,25 @@ fn rounded(bits: u32, tens: u64) -> u64
     (((2 * digits * tens) >> down) + 1) / 2
 }
 
-// A decimal with k places that gives the positive float of these bits: its digits as a whole number, and k.
-fn with_places(bits: u32, k: u32) -> Option<(u32, u32)>
-    requires { k ≤ 10 }
-    ensures { Prints bits result }
+// A decimal with so many places that gives the positive float of these bits.
+fn with_places(bits: u32, places: u32) -> Option<Decimal>
+    requires { places ≤ 10 }
+    ensures { IfSome result (λ d. Prints bits d.digits d.places) }
 {
-    let nearest = rounded(bits, power(k));
+    let nearest = rounded(bits, power(places));
     if 0x100_0000 <= nearest {
         return None;
     }
-    let digits = nearest as u32;
-    if to_bits(quotient(digits, k)) == bits {
-        Some((digits, k))
-    } else {
-        None
-    }
+    let decimal = Decimal {
+        digits: nearest as u32,
+        places,
+    };
+    (to_bits(quotient(decimal)) == bits).then_some(decimal)
 }
 
-// The decimal with the fewest places that gives the positive float of these bits, if there is one: its
-// digits as a whole number, and its places.
-pub fn decimal_of(bits: u32) -> Option<(u32, u32)>
-    ensures { Prints bits result }
+// The decimal with the fewest places that gives the positive float of these bits, if there is one.
+pub fn decimal_of(bits: u32) -> Option<Decimal>
+    ensures { IfSome result (λ d. Prints bits d.digits d.places) }
 {
-    for k in 0..=10 {
-        let found = with_places(bits, k);
-        if found.is_some() {
-            return found;
-        }
-    }
-    None
+    (0..=10).find_map(|places| with_places(bits, places))
 }

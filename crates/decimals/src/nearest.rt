@@ -18,11 +18,54 @@ struct Scale {
     k: u32,
 }
 
-// The whole part of a quotient, and what is left.
+// A quotient by a unit: its whole part, and what is left.
 #[derive(Clone, Copy)]
 struct Quotient {
     whole: u32,
     rest: Big,
+    unit: Big,
+    ghost less: { value_of rest < value_of unit },
+    ghost fits: { value_of unit * 2 < limit },
+}
+
+impl Quotient {
+    // One digit of base 2 more.
+    fn lengthened(self) -> Quotient
+        requires { self.whole < 2 ^ 24 }
+        ensures { (result.whole ≤ self.whole * 2 + 1) × (result.unit ≡ self.unit) × (result.whole * value_of result.unit + value_of result.rest ≡ (self.whole * value_of self.unit + value_of self.rest) * 2) }
+    {
+        let whole = self.whole * 2;
+        let unit = self.unit;
+        let twice = times(self.rest, 2, 0);
+        let Some(rest) = minus(twice, unit) else {
+            return Quotient {
+                whole,
+                rest: twice,
+                unit,
+            };
+        };
+        Quotient {
+            whole: whole + 1,
+            rest,
+            unit,
+        }
+    }
+
+    // The whole number nearest to it; at a tie the even one.
+    fn rounded(self) -> u32
+        requires { self.whole < 2 ^ 24 }
+        ensures { (result ≤ 2 ^ 24) × (result ≡ nearest self.whole (compare (value_of self.rest * 2) (value_of self.unit))) }
+    {
+        let Quotient { whole, rest, unit } = self;
+        let twice = times(rest, 2, 0);
+        if minus(twice, unit).is_none() {
+            return whole;
+        }
+        if minus(unit, twice).is_none() {
+            return whole + 1;
+        }
+        whole + whole % 2
+    }
 }
 
 // The first of unit, 2 unit, 4 unit .. that is above n.
@@ -40,48 +83,20 @@ fn scaled(n: Big, unit: Big) -> Scale
     Scale { unit: large, k }
 }
 
-// One digit of base 2 more of a quotient by unit.
-fn lengthened(q: Quotient, unit: Big) -> Quotient
-    requires { (q.whole < 2 ^ 24) × (value_of q.rest < value_of unit) × (value_of unit * 2 < limit) }
-    ensures { (result.whole ≤ q.whole * 2 + 1) × (value_of result.rest < value_of unit) × (result.whole * value_of unit + value_of result.rest ≡ (q.whole * value_of unit + value_of q.rest) * 2) }
-{
-    let whole = q.whole * 2;
-    let twice = times(q.rest, 2, 0);
-    match minus(twice, unit) {
-        None => Quotient { whole, rest: twice },
-        Some(rest) => Quotient {
-            whole: whole + 1,
-            rest,
-        },
-    }
-}
-
 // 2^24 n over unit, for an n below unit.
 fn divided(n: Big, unit: Big) -> Quotient
     requires { (value_of n < value_of unit) × (value_of unit * 2 < limit) }
-    ensures { (result.whole < 2 ^ 24) × (value_of result.rest < value_of unit) × (result.whole * value_of unit + value_of result.rest ≡ value_of n * 2 ^ 24) }
+    ensures { (result.whole < 2 ^ 24) × (result.unit ≡ unit) × (result.whole * value_of result.unit + value_of result.rest ≡ value_of n * 2 ^ 24) }
 {
-    let mut q = Quotient { whole: 0, rest: n };
+    let mut q = Quotient {
+        whole: 0,
+        rest: n,
+        unit,
+    };
     for _ in 0..24u32 {
-        q = lengthened(q, unit);
+        q = q.lengthened();
     }
     q
-}
-
-// The whole number nearest to a quotient by unit; at a tie the even one.
-fn rounded(q: Quotient, unit: Big) -> u32
-    requires { (q.whole < 2 ^ 24) × (value_of q.rest * 2 < limit) }
-    ensures { (result ≤ 2 ^ 24) × (result ≡ nearest q.whole (compare (value_of q.rest * 2) (value_of unit))) }
-{
-    let whole = q.whole;
-    let twice = times(q.rest, 2, 0);
-    if minus(twice, unit).is_none() {
-        return whole;
-    }
-    if minus(unit, twice).is_none() {
-        return whole + 1;
-    }
-    whole + whole % 2
 }
 
 // The bits of the float nearest to digits × 10^up / 10^down; infinity's where that is too large. Where
@@ -97,5 +112,5 @@ pub fn nearest(digits: Big, up: u32, down: u32) -> u32
     if 253 < k {
         return 0x7f80_0000;
     }
-    k * 0x80_0000 + rounded(divided(n, unit), unit)
+    k * 0x80_0000 + divided(n, unit).rounded()
 }

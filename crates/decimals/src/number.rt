@@ -1,28 +1,32 @@
 // Numbers of a text: whole numbers, and floats as decimals or as bits.
-ghost use Rattle.std.specs.Prelude.{◌≡◌, cond, ◌+◌, ◌*◌, ◌^◌, ◌<◌, ◌≤◌, length, drop, IfSome, MatchOption};
+ghost use Rattle.std.specs.Prelude.{◌≡◌, cond, ◌+◌, ◌*◌, ◌^◌, ◌<◌, ◌≤◌, length, IfSome, MatchOption};
 ghost use Rattle.decimals.specs.Big.{value_of};
-ghost use Rattle.decimals.specs.Number.{digit_of, more, digits_from, whole_of, Placed, Decimals, count_of, number_from, digits_of, all_of, exponent_of, power_of, scaled, decimal_at, bits_of, float_of};
+ghost use Rattle.decimals.specs.Number.{digit_of, more, digits_from, whole_of, Decimals, first_digits, behind_digits, parts, number_from, digits_of, all_of, exponent_of, power_of, scaled, decimal, bits_of, float_of};
 
 use crate::big::{Big, small, times};
 use crate::nearest::nearest;
+use std::error::Error;
+use std::fmt;
 
-// A run of digits: its value, and the place after it.
+// The digits that a text starts with: their value, and the place after them.
 #[derive(Clone, Copy)]
 pub struct Run {
     pub value: u64,
     pub next: usize,
 }
 
-// The digits of a decimal: those up to `point`, and those from `after` up to `next`, with a point
-// between if there is one.
+// The parts of a decimal: its digits before the point, those behind it, and what follows them.
 #[derive(Clone, Copy)]
-pub struct Digits {
-    pub point: usize,
-    pub after: usize,
-    pub next: usize,
+struct Digits<'a> {
+    whole: &'a [u8],
+    fraction: &'a [u8],
+    rest: &'a [u8],
+    ghost before: { Decimals whole.now },
+    ghost behind: { Decimals fraction.now },
 }
 
-// The power of ten at the end of a decimal: times ten to `up`, or over ten to `down`.
+// The power of ten at the end of a decimal: times ten to `up`, or over ten to `down`. One of the two is 0, but
+// no enum: `nearest` takes both, so `scaled`, its one reader, would take the enum apart into them again.
 #[derive(Clone, Copy)]
 pub struct Power {
     pub up: u64,
@@ -35,6 +39,20 @@ pub enum FloatError {
     Bad,
     Long,
 }
+
+impl fmt::Display for FloatError {
+    fn fmt<W: fmt::Write>(&self, f: &mut fmt::Formatter<W>) -> fmt::Result {
+        match self {
+            FloatError::Bad => write!(f, "no float"),
+            FloatError::Long => write!(
+                f,
+                "decimal too long: write its bits, x and 8 hexadecimal digits"
+            ),
+        }
+    }
+}
+
+impl Error for FloatError {}
 
 // The value of a digit of the base, if the byte is one.
 fn digit_of(byte: u8, base: u32) -> Option<u32>
@@ -59,14 +77,13 @@ fn appended(value: u64, digit: u32) -> u64
     }
 }
 
-// The decimal digits from `at` on.
-fn digits_from(s: &[u8], at: usize) -> Run
-    requires { at ≤ length s.now }
-    ensures { (at ≤ result.next) × (result.next ≤ length s.now) × (result.value ≤ 42949672960) × (result ≡ digits_from (drop at s.now) 0 at) }
+// The decimal digits that a text starts with.
+fn digits_from(s: &[u8]) -> Run
+    ensures { (result.next ≤ length s.now) × (result.value ≤ 42949672960) × (result ≡ digits_from s.now 0 0) }
 {
     let mut value = 0;
-    for i in at..s.len() {
-        let Some(digit) = digit_of(s[i], 10) else {
+    for (i, byte) in s.iter().enumerate() {
+        let Some(digit) = digit_of(*byte, 10) else {
             return Run { value, next: i };
         };
         value = appended(value, digit);
@@ -77,11 +94,11 @@ fn digits_from(s: &[u8], at: usize) -> Run
     }
 }
 
-// A whole number up to `most`.
+// A whole number up to `most`; callers narrow it to their own types, which differ.
 pub fn whole_of(word: &[u8], most: u64) -> Option<u64>
     ensures { IfSome result (λ value. value ≤ most) × (result ≡ whole_of word.now most) }
 {
-    let run = digits_from(word, 0);
+    let run = digits_from(word);
     if run.next == 0 {
         return None;
     }
@@ -94,24 +111,30 @@ pub fn whole_of(word: &[u8], most: u64) -> Option<u64>
     Some(run.value)
 }
 
-// The digits of a decimal from `at` on: some, and perhaps a point and more.
-fn digits_of(word: &[u8], at: usize) -> Digits
-    requires { at ≤ length word.now }
-    ensures { Placed word.now at result × (result ≡ digits_of word.now at) }
+// The decimal digits that a text starts with, and what follows them.
+fn split_digits(s: &[u8]) -> (&[u8], &[u8])
+    ensures { Decimals result.0.now × (result.0.now ≡ first_digits s.now) × (result.1.now ≡ behind_digits s.now) }
 {
-    let end = digits_from(word, at).next;
-    if end == word.len() || word[end] != b'.' {
+    s.split_at(digits_from(s).next)
+}
+
+// The parts of a decimal: digits, and perhaps a point and more.
+fn digits_of(word: &[u8]) -> Digits
+    ensures { parts result.whole.now result.fraction.now result.rest.now ≡ digits_of word.now }
+{
+    let (whole, rest) = split_digits(word);
+    let [b'.', behind @ ..] = rest else {
         return Digits {
-            point: end,
-            after: end,
-            next: end,
+            whole,
+            fraction: &[],
+            rest,
         };
-    }
-    let after = end + 1;
+    };
+    let (fraction, rest) = split_digits(behind);
     Digits {
-        point: end,
-        after,
-        next: digits_from(word, after).next,
+        whole,
+        fraction,
+        rest,
     }
 }
 
@@ -128,13 +151,12 @@ fn number_from(start: Big, digits: &[u8]) -> Big
 }
 
 // The number that all digits of a decimal say.
-fn all_of(word: &[u8], at: usize, d: Digits) -> Big
-    requires { Placed word.now at d × (count_of at d ≤ 40) }
-    ensures { (value_of result < 10 ^ 40) × (value_of result ≡ all_of word.now at d) }
+fn all_of(d: Digits) -> Big
+    requires { length d.whole.now + length d.fraction.now ≤ 40 }
+    ensures { (value_of result < 10 ^ 40) × (value_of result ≡ all_of d.entry.whole.now d.entry.fraction.now) }
 {
-    let Digits { point, after, next } = d;
-    let whole = number_from(small(0), &word[at..point]);
-    number_from(whole, &word[after..next])
+    let whole = number_from(small(0), d.whole);
+    number_from(whole, d.fraction)
 }
 
 // The exponent of a power of ten: a whole number, perhaps with a sign.
@@ -154,11 +176,10 @@ fn exponent_of(s: &[u8]) -> Option<Power>
 }
 
 // The power of ten that a decimal ends with: none, or `e` and an exponent.
-fn power_of(word: &[u8], at: usize) -> Option<Power>
-    requires { at ≤ length word.now }
-    ensures { result ≡ power_of word.now at }
+fn power_of(s: &[u8]) -> Option<Power>
+    ensures { result ≡ power_of s.now }
 {
-    match &word[at..] {
+    match s {
         [] => Some(Power { up: 0, down: 0 }),
         [b'e' | b'E', exponent @ ..] => exponent_of(exponent),
         _ => None,
@@ -174,12 +195,11 @@ fn signed(minus: bool, bits: u32) -> u32
 }
 
 // The float nearest to a decimal, if it has at most 40 digits and a power of ten from -60 to 60.
-fn scaled(word: &[u8], at: usize, minus: bool, d: Digits, power: Power) -> Result<u32, FloatError>
-    requires { Placed word.now at d }
-    ensures { result ≡ scaled word.now at minus d power }
+fn scaled(minus: bool, d: Digits, power: Power) -> Result<u32, FloatError>
+    ensures { result ≡ scaled minus d.entry.whole.now d.entry.fraction.now power }
 {
-    let places = d.next - d.after;
-    if 40 < d.point - at + places {
+    let places = d.fraction.len();
+    if 40 < d.whole.len() + places {
         return Err(FloatError::Long);
     }
     if 60 < power.up {
@@ -188,38 +208,33 @@ fn scaled(word: &[u8], at: usize, minus: bool, d: Digits, power: Power) -> Resul
     if 60 < power.down {
         return Err(FloatError::Long);
     }
-    let digits = all_of(word, at, d);
+    let digits = all_of(d);
     let down = places as u64 + power.down;
     Ok(signed(minus, nearest(digits, power.up as u32, down as u32)))
 }
 
-// The float of the decimal from `at` on.
-fn decimal_at(word: &[u8], at: usize, minus: bool) -> Result<u32, FloatError>
-    requires { at ≤ length word.now }
-    ensures { result ≡ decimal_at word.now at minus }
+// The float of a decimal whose sign stood before it.
+fn decimal(minus: bool, word: &[u8]) -> Result<u32, FloatError>
+    ensures { result ≡ decimal minus word.now }
 {
-    let d = digits_of(word, at);
-    if d.point - at + (d.next - d.after) == 0 {
+    let d = digits_of(word);
+    if d.whole.len() + d.fraction.len() == 0 {
         return Err(FloatError::Bad);
     }
-    let Some(power) = power_of(word, d.next) else {
-        return Err(FloatError::Bad);
-    };
-    scaled(word, at, minus, d, power)
+    let power = power_of(d.rest).ok_or(FloatError::Bad)?;
+    scaled(minus, d, power)
 }
 
-// The bits that 8 digits of base 16 after an `x` give.
-fn bits_of(word: &[u8]) -> Result<u32, FloatError>
-    ensures { result ≡ bits_of word.now }
+// The bits that 8 digits of base 16 give.
+fn bits_of(digits: &[u8]) -> Result<u32, FloatError>
+    ensures { result ≡ bits_of digits.now }
 {
-    if word.len() != 9 {
+    if digits.len() != 8 {
         return Err(FloatError::Bad);
     }
     let mut bits = 0;
-    for byte in &word[1..] {
-        let Some(digit) = digit_of(*byte, 16) else {
-            return Err(FloatError::Bad);
-        };
+    for byte in digits {
+        let digit = digit_of(*byte, 16).ok_or(FloatError::Bad)?;
         bits = bits * 16 + digit;
     }
     Ok(bits)
@@ -233,9 +248,9 @@ pub fn float_of(word: &[u8]) -> Result<u32, FloatError>
 {
     match word {
         [] => Err(FloatError::Bad),
-        [b'x' | b'X', ..] => bits_of(word),
-        [b'-', ..] => decimal_at(word, 1, true),
-        [b'+', ..] => decimal_at(word, 1, false),
-        _ => decimal_at(word, 0, false),
+        [b'x' | b'X', rest @ ..] => bits_of(rest),
+        [b'-', rest @ ..] => decimal(true, rest),
+        [b'+', rest @ ..] => decimal(false, rest),
+        _ => decimal(false, word),
     }
 }

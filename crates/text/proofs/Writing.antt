@@ -1,11 +1,10 @@
 -- How written texts join. Assumes nothing.
 use mathlib.Core.Path.{◌≡◌, sym, ap, ◌∙◌}
-use mathlib.Core.List.{List, [], ◌∷◌, ◌++◌, append_assoc, append-nil}
-use Prim.Native.Nat.{ℕ, ◌+◌, ◌<◌, ◌≤◌}
-use native.Mathlib.Numerals.{add-one}
+use mathlib.Core.List.{List, [], ◌++◌, append_assoc, append-nil}
+use Prim.Native.Nat.{ℕ, ◌+◌, ◌≤◌}
 use native.Mathlib.Omega.{arith}
-use lib.ListN.{length, get_or, take, drop, length-append}
-use lib.Seq.{take-suc, take_at, length-take-le, sets, sets-eq}
+use lib.ListN.{length, take, drop, length-append}
+use lib.Seq.{take_at, length-take-le, sets, sets-eq}
 use Rattle.text.specs.Written.{Appends, number, pair}
 
 -- some bytes, and then others
@@ -27,10 +26,6 @@ pub wrote_sets : (text o : List ℕ) (at : ℕ) → at + length text ≤ length 
 wrote_sets text o at h =
     let long : length (take at o ++ text) ≡ at + length text = length-append (take at o) text ∙ ap (λ (n : ℕ). n + length text) (length-take-le at o (omega arith)) in
     ap (take (at + length text)) (sets-eq text o at h) ∙ take_at (take at o ++ text) (drop (at + length text) o) (at + length text) long
-
--- one element more of a list
-pub take_snoc : (l : List ℕ) (i : ℕ) → i < length l → take (i + 1) l ≡ take i l ++ (get_or l i 0 ∷ [])
-take_snoc l i h = rw add-one (take-suc l i 0 h)
 
 pub pair-length : (first : List ℕ) (a : ℕ) (between : List ℕ) (b : ℕ) (last : List ℕ)
     → length (pair first a between b last) ≡ length first + length (number a) + length between + length (number b) + length last

@@ -1,11 +1,11 @@
-// Floats written as `number::float_of` reads them.
+// Floats written as `decimals::number::float_of` reads them.
 ghost use Rattle.std.specs.Prelude.{◌≡◌, ◌+◌, ◌<◌, ◌≤◌, length};
 
 use crate::written::Text;
-use decimals::decimal::{decimal_of, power};
+use decimals::decimal::{Decimal, decimal_of, power};
 use values::float::to_bits;
 
-// A digit of base 16.
+// A digit of base 16. `char::from_digit` gives an Option of a char, to be unwrapped and narrowed to a byte.
 fn glyph(digit: u32) -> u8
     requires { digit < 16 }
 {
@@ -25,18 +25,19 @@ impl<const N: usize> Text<N> {
         self.push(glyph(v % base));
     }
 
-    // digits / 10^k, with k digits after the point.
-    fn push_decimal(&mut self, digits: u32, k: u32)
-        requires { (length self.old + 21 ≤ N) × (k ≤ 10) }
+    // A decimal, with as many digits after the point as it has places.
+    fn push_decimal(&mut self, decimal: Decimal)
+        requires { length self.old + 21 ≤ N }
         ensures { length self.new ≤ length self.old + 21 }
     {
-        let whole = u64::from(digits) / power(k);
+        let Decimal { digits, places } = decimal;
+        let whole = u64::from(digits) / power(places);
         self.push_number(whole as u32);
-        if k == 0 {
+        if places == 0 {
             return;
         }
         self.push(b'.');
-        self.push_digits(digits, 10, k as usize);
+        self.push_digits(digits, 10, places as usize);
     }
 
     // The bits of a float, in base 16 after an `x`.
@@ -54,12 +55,12 @@ impl<const N: usize> Text<N> {
         ensures { length self.new ≤ length self.old + 22 }
     {
         let bits = to_bits(x);
-        let Some((digits, k)) = decimal_of(bits % 0x8000_0000) else {
+        let Some(decimal) = decimal_of(bits % 0x8000_0000) else {
             return self.push_bits(bits);
         };
         if 0x8000_0000 <= bits {
             self.push(b'-');
         }
-        self.push_decimal(digits, k);
+        self.push_decimal(decimal);
     }
 }

@@ -1,4 +1,4 @@
-// Text in lent bytes: the words of a line, numbers and floats written.
+// Text: its lines and their words found, and a text of fixed room that words, numbers and floats are written to.
 #![tactic(auto)]
 
 pub mod float;

@@ -1,11 +1,11 @@
-// Lines and words: places in a text.
+// The lines of a text and the words of a line, as slices of it.
 ghost use Rattle.std.specs.Prelude.{◌≡◌, Bool, ℕ, ◌+◌, ◌≤◌, length, drop};
 ghost use Rattle.std.specs.Iterator.{YieldsFirstRef, item_count};
 ghost use Rattle.text.specs.Words.{Tests, is_byte, is_space, ahead, next_word, word_at, begins, word_count, lines_of};
 
 use std::ops::Range;
 
-fn is_space(byte: u8) -> bool
+pub fn is_space(byte: u8) -> bool
     ensures { result ≡ is_space byte }
 {
     matches!(byte, b' ' | b'\t' | b'\r')
@@ -24,7 +24,8 @@ pub fn find<F: Fn(u8) -> bool>(s: &[u8], at: usize, stop: F) -> usize
         .map_or(s.len(), |k| at + k)
 }
 
-// The first word from `at` on; an empty one where there is none.
+// The first word from `at` on; an empty one where there is none. No Option here and in `word_at`: an empty
+// word is no name, no number and no float, so each reader would turn None into the empty word again.
 pub fn next_word(s: &[u8], at: usize) -> Range<usize>
     requires { at ≤ length s.now }
     ensures { (at ≤ result.start) × (result.start ≤ result.end) × (result.end ≤ length s.now) × (result ≡ next_word s.now at) }
@@ -54,7 +55,8 @@ fn begins(inside: bool, space: bool) -> usize
     usize::from(!(inside | space))
 }
 
-// How many words a line has.
+// How many words a line has. A loop, not `split` and `filter`: the definition counts where words begin, byte
+// by byte, and has no pieces of a line.
 pub fn word_count(line: &[u8]) -> usize
     ensures { result ≡ word_count line.now }
 {

@@ -4,7 +4,9 @@ ghost use Rattle.text.specs.Written.{Appends, number, spaced, pair};
 
 use std::marker::Model;
 
-// A text of at most N bytes, which lie in the value itself.
+// A text of at most N bytes, which lie in the value itself, since libraries have no heap. Words and numbers
+// are pushed by functions, not by `write!`: a `Formatter` says nothing of what it wrote, and the clauses
+// here say each byte. The kit's `ArrayVec<u8, N>` inside would leave them all, and each call as it is.
 #[derive(Drop)]
 pub struct Text<const N: usize> {
     bytes: [u8; N],

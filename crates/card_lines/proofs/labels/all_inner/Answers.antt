@@ -1,15 +1,12 @@
--- `card_lines::labels::all_inner` meets its contract. The loop's invariant: what is left to read decides. Assumes nothing.
-use Rattle.std.proofs.Common.{sym, ◌∙◌, arith}
-use Rattle.card_lines.proofs.Labelling.{inner_stop, inner_on, inner_end}
+-- `card_lines::labels::all_inner` meets its contract: the library's `all`. Assumes nothing.
+use Rattle.std.proofs.Common.{◌∙◌, rules, tests}
+use Rattle.std.proofs.lemmas.Iterator.{YieldsList-from_slice}
+use Rattle.std.proofs.lemmas.Iterator.Search.{all_from_yields_List}
+use Rattle.card_lines.specs.Labels.{is_inner}
+use Rattle.card_lines.proofs.Labelling.{all_inside}
 use Rattle.card_lines.proofs.labels.all_inner.Goals as goal
 
-pub returns-then-not-is_inner : goal.returns-then-not-is_inner
-returns-then-not-is_inner c =
-    sym (inner_stop c.args.name.now c.loop-byte.byte-index (omega arith) (sym c.is_inner.ensures ∙ c.if-not-is_inner.true)) ∙ c.loop-byte.invariant
-
-pub loop-byte-preserved : goal.loop-byte-preserved
-loop-byte-preserved c =
-    inner_on c.args.name.now c.loop-byte.byte-index (omega arith) (sym c.is_inner.ensures ∙ c.if-not-is_inner.false) ∙ c.loop-byte.invariant
-
 pub returns : goal.returns
-returns c = sym (inner_end c.args.name.now c.loop-byte.byte-index (omega arith)) ∙ c.loop-byte.invariant
+returns c =
+    all_from_yields_List is_inner _ _ c.all.result c.all.ensures.ran (YieldsList-from_slice c.args.name.now cc) (λ x b q k. search (rules, tests))
+    ∙ all_inside c.args.name.now

@@ -1,27 +1,19 @@
--- `card_lines::names::named` meets its contract. The loop's invariant: what is found among the names that are left is found among all.
--- Assumes nothing.
-use Rattle.std.proofs.Common.{◌≡◌, sym, ap, ◌∙◌, Bool, true, ℕ, ◌<◌, ◌≤◌, List, length, drop, get_or, Some, None, arith}
-use Rattle.std.proofs.lemmas.List.{drop_more}
-use Rattle.std.proofs.Math.ListN.{drop_of_length-le}
-use Rattle.std.specs.List.{find}
-use Rattle.card_lines.specs.declared.names.Name.{Name}
-use Rattle.card_lines.specs.declared.names.Name.TheVariants.{Head}
-use Rattle.card_lines.specs.Names.{names, named, is_named, alike}
+-- `card_lines::names::named` meets its contract: the library's `find`. Assumes nothing.
+use Rattle.std.proofs.Common.{◌≡◌, refl, ◌∙◌, rules, tests}
+use Rattle.std.specs.Prelude.{Option, Some, None, option_map}
+use Rattle.std.proofs.lemmas.Iterator.{YieldsList-from_slice}
+use Rattle.std.proofs.lemmas.Iterator.Consumers.{YieldsList-from_copied}
+use Rattle.std.proofs.lemmas.Iterator.Search.{find_from_yields_List}
+use Rattle.card_lines.specs.Names.{named, names, is_named}
 use Rattle.card_lines.proofs.names.named.Goals as goal
 
-found : (p : Name → Bool) (xs : List Name) (i : ℕ) (d : Name) → i < length xs → p (get_or xs i d) ≡ true → Some (get_or xs i d) ≡ find p (drop i xs)
-found p xs i d h t = rw (drop_more xs i d h, t)
-
-ended : (p : Name → Bool) (xs : List Name) (i : ℕ) → length xs ≤ i → None ≡ find p (drop i xs)
-ended p xs i h = rw (drop_of_length-le xs h)
-
-pub returns-then-eq : goal.returns-then-eq
-unfolding named
-returns-then-eq c =
-    let word = c.args.word.now in
-    let same = ap (alike word) (sym c.word.ensures) ∙ sym c.eq.ensures ∙ c.if-eq.true in
-    found (is_named word) names c.loop-name.name-index Head (omega arith) same ∙ c.loop-name.invariant
+-- what is found is told as it is
+same : {A : Type 0} (r : Option A) → r ≡ option_map (λ x. x) r
+same None = refl
+same (Some x) = refl
 
 pub returns : goal.returns
 unfolding named
-returns c = ended (is_named c.args.word.now) names c.loop-name.name-index (omega arith) ∙ c.loop-name.invariant
+returns c =
+    same c.find.result
+    ∙ find_from_yields_List (is_named c.args.word.now) _ _ c.find.result c.find.ensures.ran (YieldsList-from_copied (YieldsList-from_slice names cc)) (λ x b q k. search (rules, tests))

@@ -10,6 +10,7 @@ use Rattle.std.specs.Prelude.{Err}
 use Rattle.cards.specs.declared.board.Wrong.TheVariants.{Bad}
 use lib.ListN.{length}
 use Rattle.text.specs.Words.{lines_of}
+use Rattle.decimals.proofs.Question.{mapped_on, mapped_back}
 use Rattle.text.proofs.Finding.{lines_few}
 use Rattle.card_lines.specs.Line.{said_of}
 use Rattle.cards.specs.Adding.{Stepped}
@@ -38,29 +39,41 @@ loop-i-preserved c =
     let steps = c.in-Some.ensures.steps in
     let text = c.args.text.now in
     let added = adds-line (said_of (lines_of text) at.done.nodes c.in-Some.line.now) _ (sym c.said.ensures) c.add_line.ensures in
-    let on = partly_on at.invariant.5 c.in-Some.line.now _ steps.0 added _ c.in-Ok.is in
+    let ok = mapped_on _ (Bad (c.in-Some.i + 1)) (λ e d k. search rules) c.add_line.result c.map_err.result c.map_err.ensures.cases c.in_ok-done.was in
+    let on = partly_on at.invariant.5 c.in-Some.line.now _ steps.0 added _ ok in
     let size = ap (λ (ls : List (List ℕ)). length ls) steps.0 in (
       (tt, tt, inl (omega (arith, size, steps.2, at.invariant.2, lines_few text))),
       tt,
       omega (arith, size, steps.2, at.invariant.2),
       search rules,
-      subst Stepped c.in-Ok.is added.room,
-      subst (λ (n : ℕ). Partly text c.args.out.now c.add_line.new.out c.in-Ok.next n (lines_of c.next.new.self.iter.rest.now)) (sym steps.2) on,
+      subst Stepped ok added.room,
+      subst (λ (n : ℕ). Partly text c.args.out.now c.add_line.new.out c.in_ok-done.done n (lines_of c.next.new.self.iter.rest.now)) (sym steps.2) on,
     )
 
-pub returns-in-Err : goal.returns-in-Err
-returns-in-Err c =
+pub returns-in_err-done-clause-answered : goal.returns-in_err-done-clause-answered
+returns-in_err-done-clause-answered c =
     let at = c.loop-i in
     let steps = c.in-Some.ensures.steps in
     let text = c.args.text.now in
     let added = adds-line (said_of (lines_of text) at.done.nodes c.in-Some.line.now) _ (sym c.said.ensures) c.add_line.ensures in
-    let bad = partly_bad at.invariant.5 c.in-Some.line.now _ steps.0 added _ c.in-Err.is in
-    record { within = tt; answered = ap (λ (i : ℕ). Err (Bad (i + 1) c.in-Err.reason)) steps.1 ∙ bad.0; bytes = bad.1 }
+    let err = mapped_back _ (Bad (c.in-Some.i + 1)) (λ e d k. search rules) c.add_line.result c.map_err.result c.map_err.ensures.cases c.from_residual.result c.in_err-done.was c.from_residual.ensures in
+    let bad = partly_bad at.invariant.5 c.in-Some.line.now _ steps.0 added _ err.1 in
+    err.2 ∙ ap (λ (i : ℕ). Err (Bad (i + 1) err.0)) steps.1 ∙ bad.0
+
+pub returns-in_err-done-clause-bytes : goal.returns-in_err-done-clause-bytes
+returns-in_err-done-clause-bytes c =
+    let at = c.loop-i in
+    let steps = c.in-Some.ensures.steps in
+    let text = c.args.text.now in
+    let added = adds-line (said_of (lines_of text) at.done.nodes c.in-Some.line.now) _ (sym c.said.ensures) c.add_line.ensures in
+    let err = mapped_back _ (Bad (c.in-Some.i + 1)) (λ e d k. search rules) c.add_line.result c.map_err.result c.map_err.ensures.cases c.from_residual.result c.in_err-done.was c.from_residual.ensures in
+    let bad = partly_bad at.invariant.5 c.in-Some.line.now _ steps.0 added _ err.1 in
+    bad.1
 
 pub returns : goal.returns
 returns c =
     let at = c.loop-i in
-    let judged = c.judged.ensures in
+    let judged = c.finished.ensures in
     let past = c.in-None.ensures.steps in
     let fits : at.done.at ≤ length c.args.out.now = omega (arith, at.invariant.4.few_nodes, at.invariant.4.few_wires, at.invariant.4.sum) in
     record {

@@ -3,4 +3,4 @@ use Rattle.decimals.proofs.Scaling.{quotient_at}
 use Rattle.decimals.proofs.decimal.quotient.Goals as goal
 
 pub returns : goal.returns
-returns c = quotient_at _ _ _ c.requires.0 c.ten.ensures
+returns c = quotient_at _ _ _ c.args.decimal.few c.ten.ensures

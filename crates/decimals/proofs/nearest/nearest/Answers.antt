@@ -55,9 +55,11 @@ returns c =
     let a = c.args in
     let made = c.scaled-scale.ensures in
     let k = c.scaled-scale.result.k in
-    let q = c.divided in (
+    let q = c.divided in
+    let same = q.ensures.1 in
+    let by_unit = ap value_of same ∙ unit _ _ c.args.down k made.4 (first_unit _ _ c.args.down c.raised-2.ensures c.small.ensures) in (
       omega (arith, c.rounded.ensures.0, c.if-k-gt253.false),
       ap (λ (z : ℕ). k * 8388608 + z) c.rounded.ensures.1
-          ∙ sym (nearest_bits (value_of a.digits) a.up a.down _ k _ q.result.whole (value_of q.result.rest) (in_units _ _ _ c.args.up c.raised-n.ensures c.raised.ensures) (unit _ _ c.args.down c.scaled-scale.result.k c.scaled-scale.ensures.4 (first_unit _ _ c.args.down c.raised-2.ensures c.small.ensures)) made.1 made.3 q.ensures.2 q.ensures.1
+          ∙ sym (nearest_bits (value_of a.digits) a.up a.down _ k (value_of q.result.unit) q.result.whole (value_of q.result.rest) (in_units _ _ _ c.args.up c.raised-n.ensures c.raised.ensures) by_unit (rw (← same) at made.1) (rw (← same) at made.3) q.ensures.2 q.result.less
           ∙ (rw (le-ltb 253 k c.if-k-gt253.false))),
     )

@@ -16,7 +16,7 @@ use Rattle.decimals.proofs.number.digits_from.Goals as goal
 pub returns-in_default : goal.returns-in_default
 returns-in_default c =
     let stop = le-ltb _ 10 c.in_default.ensures in
-    (search rules, search rules, search rules, sym (run_stop c.args.s.now c.loop-i.i c.loop-i.value (omega arith) stop) ∙ c.loop-i.invariant.1)
+    (search rules, search rules, sym (run_stop c.args.s.now c.loop-i.i c.loop-i.value (omega arith) stop) ∙ c.loop-i.invariant.1)
 
 pub loop-i-preserved : goal.loop-i-preserved
 loop-i-preserved c =
@@ -34,4 +34,4 @@ returns c =
     let v = c.loop-i.value in
     let end : i ≡ length s = omega arith in
     let run : ℕ → Run = λ n. record { value = v; next = n } in
-    (search rules, search rules, search rules, ap run (sym end) ∙ sym (run_end s i v (omega arith)) ∙ c.loop-i.invariant.1)
+    (search rules, search rules, ap run (sym end) ∙ sym (run_end s i v (omega arith)) ∙ c.loop-i.invariant.1)

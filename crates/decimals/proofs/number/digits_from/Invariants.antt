@@ -6,4 +6,4 @@ use Rattle.decimals.proofs.number.digits_from.Given as goal
 
 abbrev pub invariant-loop-i : goal.invariant-loop-i
 invariant-loop-i l =
-    (l.value ≤ 42949672960) × (digits_from (drop l.i l.s) l.value l.i ≡ digits_from (drop l.at l.s) 0 l.at)
+    (l.value ≤ 42949672960) × (digits_from (drop l.i l.s) l.value l.i ≡ digits_from l.s 0 0)

@@ -1,51 +1,45 @@
 -- `decimals::number::digits_of` meets its contract: a run of digits, and one more behind a point. Assumes nothing.
-use mathlib.Core.List.{List}
+use mathlib.Core.List.{List, []}
 use mathlib.Core.Path.{◌≡◌, ap, ◌∙◌}
 use native.Mathlib.Omega.{arith}
 use borrow.Author.Tests.{eq-eqb, ne_eqb}
-use Prim.Native.Nat.{ℕ, ◌+◌, ◌≤◌}
-use lib.ListN.{length, get_or, get_or-eq_default}
-use Rattle.decimals.specs.declared.number.Run.{Run}
-use Rattle.decimals.specs.Number.{Placed, ending, digits_of, pointed}
-use Rattle.decimals.proofs.Reading.{part-digits, no_digits}
-use borrow.Author.Rules.{rules}
+use Prim.Native.Nat.{ℕ}
+use lib.ListN.{drop, get_or, get_or-eq_default}
+use Rattle.std.proofs.lemmas.Bool.Decides.{nat_tests}
+use Rattle.std.proofs.lemmas.Grind.{common_steps}
+use Rattle.std.proofs.lemmas.List.{take_rest}
+use Rattle.decimals.specs.Number.{first_digits, behind_digits, parts, pointed, digits_of}
 use Rattle.decimals.proofs.number.digits_of.Goals as goal
-use Rattle.decimals.proofs.number.digits_of.Goals.{then-end-word-via-then-end-word, then-end-word-via-else-end-word+then-word-end-ne46}
+use Rattle.decimals.proofs.number.digits_of.Goals.{in_default-via-then-rest-lt1, in_default-via-else-rest-lt1+in_default-1}
 
--- the place behind the first run
-behind : {s t : Run} → s ≡ t → s.next ≡ t.next
-behind e = ap (λ (r : Run). r.next) e
+-- the parts, by whether a point follows the first digits
+module _ (word whole rest : List ℕ) (first : whole ≡ first_digits word) (behind : rest ≡ behind_digits word) where
+  by_point : pointed whole rest ≡ digits_of word
+  unfolding digits_of
+  by_point = ap (λ (w : List ℕ). pointed w rest) first ∙ ap (pointed (first_digits word)) behind
 
--- a run with no point behind it
-unpointed : (word : List ℕ) (at n : ℕ) → at ≤ n → n ≤ length word → n ≡ ending word at → (get_or word n 0 ≡ 46 → ⊥)
-    → Placed word at (record { point = n; after = n; next = n }) × (record { point = n; after = n; next = n } ≡ digits_of word at)
-unfolding digits_of
-unpointed word at n least most end none = (
-  record { whole = least; between = search rules; places = search rules; fits = most; first = part-digits word at n end; rest = no_digits word n },
-  rw (ne_eqb _ 46 none) at (ap (pointed word) end),
-)
+  unpointed : (get_or rest 0 0 ≡ 46 → ⊥) → parts whole [] rest ≡ digits_of word
+  unpointed n = rw (ne_eqb (get_or rest 0 0) 46 n) at by_point
 
-pub returns-then-end-word : goal.returns-then-end-word
-returns-then-end-word c =
-    let run = c.digits_from-end in
-    let word = c.args.word.now in
-    let n = run.result.next in
-    let none : get_or word n 0 ≡ 46 → ⊥ =
-    elim c.then-end-word.branch [
-      | then-end-word-via-then-end-word w ↦ λ e. let past = get_or-eq_default word 0 {n = n} (omega arith) in omega (arith, past, e)
-      | then-end-word-via-else-end-word+then-word-end-ne46 w ↦ w.if-word-end-ne46.true
+  with_point : (f r : List ℕ) → get_or rest 0 0 ≡ 46 → f ≡ first_digits (drop 1 rest) → r ≡ behind_digits (drop 1 rest) → parts whole f r ≡ digits_of word
+  with_point f r e p q =
+      ap (λ (x : List ℕ). parts whole x r) p ∙ ap (parts whole (first_digits (drop 1 rest))) q ∙ (rw (eq-eqb (get_or rest 0 0) 46 e) at by_point)
+
+pub returns-in_default : goal.returns-in_default
+returns-in_default c =
+    let split = c.split_digits.ensures in
+    let rest = c.split_digits.result.1.now in
+    let none : get_or rest 0 0 ≡ 46 → ⊥ =
+    elim c.in_default.branch [
+      | in_default-via-then-rest-lt1 w ↦ λ e. let past = get_or-eq_default rest 0 {n = 0} in grind (arith, nat_tests, common_steps)
+      | in_default-via-else-rest-lt1+in_default-1 w ↦ λ e. grind (arith, nat_tests)
     ] in
-    unpointed word c.args.at n run.ensures.0 run.ensures.1 (behind run.ensures.3) none
+    unpointed _ _ rest split.1 split.2 none
 
 pub returns : goal.returns
-unfolding digits_of
 returns c =
-    let run = c.digits_from-end in
-    let more = c.digits_from in
-    let a = c.args in
-    let n = run.result.next in
-    let end = behind run.ensures.3 in
-    let last = behind more.ensures.3 in (
-      record { whole = search rules; between = search rules; places = search rules; fits = search rules; first = part-digits a.word.now a.at n end; rest = part-digits a.word.now (n + 1) more.result.next last },
-      ap (λ (z : ℕ). record { point = n; after = n + 1; next = z }) last ∙ (rw (eq-eqb _ 46 c.if-word-end-ne46.false) at (ap (pointed a.word.now) end)),
-    )
+    let split = c.split_digits.ensures in
+    let rest = c.split_digits.result.1.now in
+    let more = c.split_digits-2.ensures in
+    let point : get_or rest 0 0 ≡ 46 = grind arith in
+    with_point _ _ rest split.1 split.2 _ _ point (more.1 ∙ ap first_digits (take_rest rest 1)) (more.2 ∙ ap behind_digits (take_rest rest 1))

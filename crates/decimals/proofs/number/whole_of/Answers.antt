@@ -7,19 +7,19 @@ use Rattle.decimals.proofs.number.whole_of.Goals as goal
 pub returns-then-run-eq0 : goal.returns-then-run-eq0
 returns-then-run-eq0 c =
     let run = c.digits_from-run in
-    (search rules, whole_stopped _ _ run.result run.ensures.3 c.if-run-eq0.true)
+    (search rules, whole_stopped _ _ run.result run.ensures.2 c.if-run-eq0.true)
 
 pub returns-then-run-word : goal.returns-then-run-word
 returns-then-run-word c =
     let run = c.digits_from-run in
-    (search rules, whole_cut _ _ run.result run.ensures.3 c.if-run-word.true)
+    (search rules, whole_cut _ _ run.result run.ensures.2 c.if-run-word.true)
 
 pub returns-then-most-run : goal.returns-then-most-run
 returns-then-most-run c =
     let run = c.digits_from-run in
-    (search rules, whole_large _ _ run.result run.ensures.3 (omega arith) (omega arith) c.if-most-run.true)
+    (search rules, whole_large _ _ run.result run.ensures.2 (omega arith) (omega arith) c.if-most-run.true)
 
 pub returns : goal.returns
 returns c =
     let run = c.digits_from-run in
-    (search rules, whole_fits _ _ run.result run.ensures.3 (omega arith) (omega arith) c.if-most-run.false)
+    (search rules, whole_fits _ _ run.result run.ensures.2 (omega arith) (omega arith) c.if-most-run.false)

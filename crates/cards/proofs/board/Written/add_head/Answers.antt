@@ -5,10 +5,11 @@ use Prim.Native.Nat.{ℕ}
 use lib.Seq.{sets}
 use borrow.Author.Tests.{eq-eqb, ne_eqb}
 use Rattle.records.specs.Write.{head_bytes}
+use Rattle.cards.proofs.Making.{refuses}
 use Rattle.cards.proofs.board.Written.add_head.Goals as goal
 
 pub returns-then-self-ne0 : goal.returns-then-self-ne0
-returns-then-self-ne0 c = record { steps = rw (ne_eqb _ 0 c.if-self-ne0.true); room = tt; grown = tt; puts = rw (ne_eqb _ 0 c.if-self-ne0.true) }
+returns-then-self-ne0 c = refuses (rw (ne_eqb _ 0 c.if-self-ne0.true))
 
 pub returns : goal.returns
 returns c =

@@ -1,5 +1,5 @@
 -- `cards::board::Written::add_line` meets its contract, by what the line says. Assumes nothing.
-use mathlib.Core.Path.{◌≡◌, refl, sym, ap, subst, ◌∙◌}
+use mathlib.Core.Path.{◌≡◌, refl, sym, ap, ◌∙◌}
 use mathlib.Core.List.{List, []}
 use Prim.Native.Nat.{ℕ}
 use native.Mathlib.Omega.{arith}
@@ -8,14 +8,13 @@ use Rattle.card_lines.specs.declared.reason.Reason.{Reason}
 use Rattle.cards.specs.declared.board.Written.{Written}
 use Rattle.cards.specs.Adding.{Adds}
 use Rattle.cards.specs.Board.{step_of}
-use Rattle.cards.proofs.Making.{adds-line}
+use Rattle.cards.proofs.Making.{adds-line, refuses}
 use Rattle.cards.proofs.board.Written.add_line.Goals as goal
 
 -- a bad line is handed on, and stores nothing
 refused : (w : Written) (o : List ℕ) (r : Result Written Reason) (reason : Reason) → IsErr r × IsErrAnd r (λ x. x ≡ reason) → Adds w (Err reason) [] o o r
 refused w o (Ok next) reason h = absurd (cc)
-refused w o (Err other) reason h =
-    subst (λ (x : Reason). Adds w (Err reason) [] o o (Err x)) (sym h.1) (record { steps = refl; room = tt; grown = tt; puts = refl })
+refused w o (Err other) reason h = refuses (ap Err (sym h.1))
 
 pub returns-in_err-line : goal.returns-in_err-line
 unfolding step_of
