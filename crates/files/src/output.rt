@@ -1,7 +1,7 @@
 // The output file. What is written to a regular file is written beside it first, as OUT.part, and takes
 // its name when all is written: what stood there before stays as it was until then. Links are followed,
 // so that a link stays one and what it leads to is replaced in the same way.
-ghost use Rattle.std.specs.Prelude.{◌+◌, ◌≤◌, length, IfOk, IfSome};
+ghost use Rattle.std.specs.Prelude.{◌≡◌, ◌+◌, ◌≤◌, length, IfOk, IfSome};
 ghost use Rattle.io.specs.Counts.{IsPrefixLen};
 
 use crate::is_open_file;
@@ -24,17 +24,19 @@ fn put(from: &[u8], to: &mut [u8], at: usize)
     to[at..at + from.len()].copy_from_slice(from);
 }
 
-// `OUT.part`, and its length; none where it is too long for a path.
-pub fn part_name(output: &[u8], name: &mut [u8; 4096]) -> Option<usize>
-    ensures { IfSome result (λ n. IsPrefixLen n name.new) }
+// `OUT.part`, put into the place; none where it is too long for a path. Ruled out, and tried by a must-fail
+// edit: a name without its last letter (part_cut).
+pub fn part_name<'a>(output: &[u8], place: &'a mut [u8; 4096]) -> Option<&'a [u8]>
+    ensures long { IfSome result (λ part. length part.now ≡ length output.now + 5) }
+    ensures fits { IfSome result (λ part. length part.now ≤ length place.old) }
 {
     let n = output.len();
     if 4090 < n {
         return None;
     }
-    put(output, name, 0);
-    put(b".part", name, n);
-    Some(n + 5)
+    put(output, place, 0);
+    put(b".part", place, n);
+    Some(&place[..n + 5])
 }
 
 // The length of a name's folder, the last slash included.
@@ -81,7 +83,8 @@ fn no_target(error: io::Error) -> Unfollowed {
 }
 
 // Follows the link that has the name in the first n bytes: its target stands there instead. A target
-// that does not begin at the root begins in the link's folder.
+// that does not begin at the root begins in the link's folder. `name, n`: a target is put over the name that
+// it is read by.
 fn follow<R: Files + Alloc>(rt: &R, name: &mut [u8], n: usize) -> Result<usize, Unfollowed>
     requires { n ≤ length name.old }
     ensures { IfOk result (λ n. IsPrefixLen n name.new) }
@@ -95,16 +98,16 @@ fn follow<R: Files + Alloc>(rt: &R, name: &mut [u8], n: usize) -> Result<usize, 
     put_target(target.as_str().as_bytes(), name, at)
 }
 
-// The name of the file that a path leads to, its links followed, and its length; none where it is empty
-// or too long, or where the links are more than 40.
-pub fn led_to<R: Files + Alloc>(rt: &R, output: &[u8], name: &mut [u8]) -> Option<usize>
-    ensures { IfSome result (λ n. IsPrefixLen n name.new) }
+// The name of the file that a path leads to, its links followed, put into the place; none where it is
+// empty or too long, or where the links are more than 40.
+pub fn led_to<'a, R: Files + Alloc>(rt: &R, output: &[u8], name: &'a mut [u8]) -> Option<&'a [u8]>
+    ensures { IfSome result (λ file. length file.now ≤ length name.old) }
 {
     let mut n = put_target(output, name, 0).ok()?;
     for _ in 0..40 {
         match follow(rt, name, n) {
             Ok(next) => n = next,
-            Err(Unfollowed::NoLink) if 0 < n => return Some(n),
+            Err(Unfollowed::NoLink) if 0 < n => return Some(&name[..n]),
             Err(_) => return None,
         }
     }

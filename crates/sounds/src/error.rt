@@ -9,7 +9,7 @@ pub enum SoundError {
     Format(FormatError),
     NoFormat,
     NoData,
-    // More chunks than a file has; nothing is told of it.
+    // More chunks than a file has: `say::no_sound` writes no line for it.
     Endless,
     TooLong,
     // Bytes that are no whole frames.

@@ -3,6 +3,5 @@
 #![tactic(auto)]
 
 pub mod error;
-pub mod file;
 pub mod say;
 pub mod source;

@@ -7,7 +7,8 @@ use std::{fmt, io};
 use wav::format::FormatError;
 use wav::level::Count;
 
-// Both streams, and whether the lines go to standard output.
+// Both streams, and whether the lines go to standard output. A flag, not an enum: it only picks the stream,
+// and no other field depends on it.
 #[derive(Clone, Copy)]
 pub struct To {
     pub error: Stderr,

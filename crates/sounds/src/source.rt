@@ -3,10 +3,10 @@
 ghost use Rattle.std.specs.Prelude.{◌≤◌, ◌<◌, IfOk};
 
 use crate::error::SoundError;
-use crate::file::{read_full, read_some};
+use input::fill;
 use std::io::{Read, Seek, SeekFrom};
 use wav::block::first_bad;
-use wav::chunk::{Chunk, Kind, chunk_of, is_wave, passed};
+use wav::chunk::{Chunk, ChunkKind, chunk_of, is_wave, passed};
 use wav::format::{Channels, Format, Taken, format_of, frame_size};
 
 // The data chunk: what its samples are, and its bytes.
@@ -28,7 +28,7 @@ pub struct Sound {
 // Whether the file begins as a WAV file does.
 fn begins<R: Read>(input: &mut R) -> bool {
     let mut head = [0u8; 12];
-    read_full(input, &mut head) == 12 && is_wave(&head)
+    fill(input, &mut head).0 == 12 && is_wave(&head)
 }
 
 // Passes over bytes of the file.
@@ -45,7 +45,7 @@ const LONGEST: usize = 40;
 fn read_format<R: Read + Seek>(input: &mut R, length: u32) -> Result<Format, SoundError> {
     let mut body = [0u8; LONGEST];
     let want = LONGEST.min(length as usize);
-    let n = read_some(input, &mut body, want);
+    let (n, _) = fill(input, &mut body[..want]);
     let format = format_of(&body[..n])?;
     pass_over(input, passed(length) - want as u64);
     Ok(format)
@@ -72,9 +72,7 @@ fn data_length<R: Seek>(input: &mut R, length: u32) -> u64 {
 fn data_of<R: Seek>(input: &mut R, known: Option<Format>, length: u32) -> Result<Data, SoundError> {
     let format = known.ok_or(SoundError::NoFormat)?;
     let bytes = data_length(input, length);
-    let Ok(length) = u32::try_from(bytes) else {
-        return Err(SoundError::TooLong);
-    };
+    let length = u32::try_from(bytes).map_err(|_| SoundError::TooLong)?;
     if length as usize % frame_size(format) != 0 {
         return Err(SoundError::PartFrame(bytes));
     }
@@ -84,7 +82,7 @@ fn data_of<R: Seek>(input: &mut R, known: Option<Format>, length: u32) -> Result
 // The next chunk.
 fn next_chunk<R: Read>(input: &mut R) -> Result<Chunk, SoundError> {
     let mut head = [0u8; 8];
-    if read_full(input, &mut head) < 8 {
+    if fill(input, &mut head).0 < 8 {
         return Err(SoundError::NoData);
     }
     Ok(chunk_of(&head))
@@ -97,9 +95,9 @@ fn find_data<R: Read + Seek>(input: &mut R) -> Result<Data, SoundError> {
     for _ in 0..u32::MAX {
         let chunk = next_chunk(input)?;
         match chunk.kind {
-            Kind::Format => known = Some(read_format(input, chunk.length)?),
-            Kind::Data => return data_of(input, known, chunk.length),
-            Kind::Other => pass_over(input, passed(chunk.length)),
+            ChunkKind::Format => known = Some(read_format(input, chunk.length)?),
+            ChunkKind::Data => return data_of(input, known, chunk.length),
+            ChunkKind::Other => pass_over(input, passed(chunk.length)),
         }
     }
     Err(SoundError::Endless)
@@ -120,15 +118,14 @@ fn part_fine<R: Read>(
     let mut bytes = [0u8; 4096];
     let size = frame_size(format);
     let want = (PART * size).min(all - start);
-    let n = read_some(input, &mut bytes, want);
+    let (n, _) = fill(input, &mut bytes[..want]);
     if n < want {
         return Err(SoundError::Cut {
             there: start + n,
             all,
         });
     }
-    let bad = first_bad(&bytes[..n], format);
-    if bad < n / size {
+    if let Some(bad) = first_bad(&bytes[..n], format) {
         return Err(SoundError::NotFinite(start / size + bad));
     }
     Ok(())

@@ -1,13 +1,14 @@
 -- What the loops over samples have written: the first so many values, and one or two more. Assumes nothing.
 use mathlib.Core.Path.{◌≡◌, refl, sym, ap, ◌∙◌}
 use mathlib.Core.List.{List, [], ◌∷◌, ◌++◌, append_assoc}
-use Prim.Native.Nat.{ℕ, zero, suc, ◌+◌, ◌-◌, ◌*◌, ◌<◌}
+use Prim.Native.Nat.{ℕ, zero, suc, ◌+◌, ◌-◌, ◌*◌, ◌≤◌, ◌<◌}
 use mathlib.Core.Bool.{true, false}
-use native.Mathlib.Nat.{le_of_eq}
+use native.Mathlib.Nat.{le_of_eq, sub-zero}
 use native.Mathlib.Numerals.{add-one}
 use native.Mathlib.Omega.{arith}
 use lib.ListN.{length, get_or, set, take, length-set}
 use lib.Seq.{take-suc-set, take_all}
+use Rattle.std.specs.Prelude.{Option, None, Some, MatchOption}
 use Rattle.values.specs.Floors.{finite_f}
 use Rattle.wav.specs.Frames.{sample_in, first_bad, listed, interleaved}
 use Rattle.wav.specs.declared.format.Format.{Format}
@@ -58,14 +59,28 @@ module _ (f : Format) (s : List ℕ) (i n : ℕ) (h : i < n) where
   left_over : n - i ≡ suc (n - (i + 1))
   left_over = omega arith
 
-  pub bad_later : finite_f (sample_in f s i) ≡ true → first_bad f s (i + 1) (n - (i + 1)) ≡ first_bad f s i (n - i)
+  bad_later : finite_f (sample_in f s i) ≡ true → first_bad f s (i + 1) (n - (i + 1)) ≡ first_bad f s i (n - i)
   unfolding first_bad
   bad_later fine = rw (left_over, fine, add-one i) refl
 
-  pub bad_here : finite_f (sample_in f s i) ≡ false → i ≡ first_bad f s i (n - i)
+  bad_here : finite_f (sample_in f s i) ≡ false → Some i ≡ first_bad f s i (n - i)
   unfolding first_bad
   bad_here bad = rw (left_over, bad) refl
 
-pub bad_none : (f : Format) (s : List ℕ) (i n : ℕ) → i ≡ n → n ≡ first_bad f s i (n - i)
+bad_none : (f : Format) (s : List ℕ) (i n : ℕ) → i ≡ n → None ≡ first_bad f s i (n - i)
 unfolding first_bad
-bad_none f s i n e = let none : n - i ≡ 0 = omega arith in rw none (sym e)
+bad_none f s i n e = let none : n - i ≡ 0 = omega arith in rw none refl
+
+-- those before i are fine
+bad_past : (f : Format) (s : List ℕ) (i n : ℕ) → i ≤ n → ((k : ℕ) → k < i → finite_f (sample_in f s k) ≡ true) → first_bad f s i (n - i) ≡ first_bad f s 0 n
+bad_past f s zero n h fine = ap (first_bad f s 0) (sub-zero n)
+bad_past f s (suc i) n h fine =
+    ap (λ (k : ℕ). first_bad f s k (n - k)) (sym (add-one i)) ∙ bad_later f s i n (omega arith) (fine i (omega arith))
+    ∙ bad_past f s i n (omega arith) (λ k b. fine k (omega arith))
+
+pub bad_found : (f : Format) (s : List ℕ) (n : ℕ) (r : Option ℕ)
+    → MatchOption r ((k : ℕ) → 0 ≤ k → k < n → finite_f (sample_in f s k) ≡ true)
+    (λ i. (0 ≤ i) × (i < n) × (finite_f (sample_in f s i) ≡ false) × ((k : ℕ) → 0 ≤ k → k < i → finite_f (sample_in f s k) ≡ true))
+    → r ≡ first_bad f s 0 n
+bad_found f s n None fine = bad_none f s n n refl ∙ bad_past f s n n (omega arith) (λ k b. fine k (omega arith) b)
+bad_found f s n (Some i) h = bad_here f s i n h.1 h.2 ∙ bad_past f s i n (omega (arith, h.1)) (λ k b. h.3 k (omega arith) b)

@@ -7,7 +7,7 @@ use native.Mathlib.Nat.{mul_assoc, mul-pos, lt_of_lt_of_le}
 use native.Mathlib.Omega.{arith}
 use borrow.Author.Tests.{ltb-true, ltb-false, lt-ltb, le-ltb}
 use lib.Dec.{ltb, lit<, lit≤}
-use lib.IntN.{pos}
+use lib.IntN.{pos, neg_ℤ}
 use lib.Pow.{shl_lt, pow_pos}
 use lib.Ieee.{Float, Format, nan, inf, fin, binary32, up, down, neg, add, div, of_int, sum, odd, units, round, low, prec, emax}
 use lib.Ieee.Exact.{HasValue, round_exact}
@@ -16,6 +16,7 @@ use lib.Ieee.Fits.{down_pos, round_is}
 use lib.Ieee.Scale.{round_same}
 use Rattle.values.specs.Floors.{whole}
 use Rattle.leaves.specs.Sine.{over23}
+use Rattle.leaves.specs.Converter.{of_word}
 use Rattle.values.proofs.Floors.{plain_sign}
 use Rattle.wav.specs.Frames.{whole_of, byte_of, long_of}
 use Rattle.wav.proofs.Exact.{size_of, minus, negated}
@@ -100,6 +101,19 @@ long_nearest w = go (ltb w (2 ^ 31))
     go : (b : Bool) → cond b (round binary32 false w (2 ^ 31)) (neg (round binary32 false (2 ^ 32 - w) (2 ^ 31))) ≡ round binary32 (not b) (cond b w (2 ^ 32 - w)) (2 ^ 31)
     go true = refl
     go false = neg-round binary32 false (2 ^ 32 - w) (2 ^ 31)
+
+-- a word of 24 bits as a converter takes it stands for the same
+pub word_whole : (w : ℕ) → w < 2 ^ 24 → of_word w ≡ whole_of w
+unfolding of_word whole_of over23
+word_whole w h = go (ltb w (2 ^ 23)) refl
+  where
+    below : (n : ℕ) → 0 < n → over23 (neg_ℤ (pos n)) ≡ neg (over23 (pos n))
+    below zero h = absurd (omega arith)
+    below (suc n) h = sym (neg-round binary32 false (suc n) (2 ^ 23))
+
+    go : (b : Bool) → ltb w (2 ^ 23) ≡ b → over23 (cond b (pos w) (neg_ℤ (pos (2 ^ 24 - w)))) ≡ cond b (over23 (pos w)) (neg (over23 (pos (2 ^ 24 - w))))
+    go true e = refl
+    go false e = below (2 ^ 24 - w) (omega arith)
 
 -- so a number of 24 bits that is written in 32 is what it was
 pub long_whole : (w : ℕ) → w < 2 ^ 24 → long_of (w * 256) ≡ whole_of w

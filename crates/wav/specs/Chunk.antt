@@ -3,8 +3,8 @@ use Rattle.std.specs.Prelude.{ℕ, ◌+◌, ◌%◌, Bool, cond, ◌&&◌, List,
 use Rattle.values.specs.Words.{word}
 use Rattle.values.specs.Bytes.{u32_at}
 use Rattle.wav.specs.declared.chunk.Chunk.{Chunk}
-use Rattle.wav.specs.declared.chunk.Kind.{Kind}
-use Rattle.wav.specs.declared.chunk.Kind.TheVariants.{Format, Data, Other}
+use Rattle.wav.specs.declared.chunk.ChunkKind.{ChunkKind}
+use Rattle.wav.specs.declared.chunk.ChunkKind.TheVariants.{Format, Data, Other}
 
 -- the names, letter by letter
 abbrev pub RIFF : ℕ
@@ -27,7 +27,7 @@ abbrev pub is_wave : List ℕ → Bool
 is_wave s = eqb (u32_at s 0) RIFF && eqb (u32_at s 8) WAVE
 
 -- a chunk by its name, with its length
-abbrev pub kind_of : ℕ → Kind
+abbrev pub kind_of : ℕ → ChunkKind
 kind_of name = cond (eqb name fmt) Format (cond (eqb name data') Data Other)
 
 abbrev pub chunk_of : List ℕ → Chunk

@@ -1,6 +1,6 @@
 -- Samples, frames and blocks: the float of a sample's bytes, the one that a frame becomes, the block of 4-byte values that a board takes, and the frames
 -- that are made of the two blocks that it gives. Definitions only.
-use Rattle.std.specs.Prelude.{ℕ, zero, suc, ◌+◌, ◌-◌, ◌*◌, ◌/◌, ◌^◌, false, cond, List, [], ◌∷◌, ◌++◌, length, get_or, ltb, pos, negsuc, Float}
+use Rattle.std.specs.Prelude.{ℕ, zero, suc, ◌+◌, ◌-◌, ◌*◌, ◌/◌, ◌^◌, false, cond, List, [], ◌∷◌, ◌++◌, length, get_or, ltb, pos, negsuc, Float, Option, None, Some}
 use Rattle.std.specs.Float.{fin, binary32}
 use Rattle.std.specs.Float.Ieee.{of_bits, to_bits, round, add, mul, neg}
 use Rattle.values.specs.Bytes.{u16_at, u24_at, u32_at}
@@ -62,10 +62,10 @@ frame_at f s at = sample_as f.channels f.coding s at
 abbrev pub sample_in : Format → List ℕ → ℕ → Float
 sample_in f s i = cond (ltb i (length s / frame_of f)) (frame_at f s (i * frame_of f)) zero_f
 
--- of n samples from i on, the first that is infinite or NaN; the place after them if none is
-unfoldable pub first_bad : Format → List ℕ → ℕ → ℕ → ℕ
-first_bad f s i zero = i
-first_bad f s i (suc n) = cond (finite_f (sample_in f s i)) (first_bad f s (suc i) n) i
+-- of n samples from i on, the first that is infinite or NaN
+unfoldable pub first_bad : Format → List ℕ → ℕ → ℕ → Option ℕ
+first_bad f s i zero = None
+first_bad f s i (suc n) = cond (finite_f (sample_in f s i)) (first_bad f s (suc i) n) (Some i)
 
 -- the values f 0, f 1, .. f (n - 1)
 unfoldable pub listed : (ℕ → ℕ) → ℕ → List ℕ

@@ -16,7 +16,7 @@ const DATA: u32 = 0x6174_6164;
 
 // What a chunk's body is, by its name.
 #[derive(Clone, Copy, Debug, PartialEq, Eq)]
-pub enum Kind {
+pub enum ChunkKind {
     Format,
     Data,
     Other,
@@ -25,7 +25,7 @@ pub enum Kind {
 // A chunk, and the length of its body.
 #[derive(Clone, Copy, Debug, PartialEq, Eq)]
 pub struct Chunk {
-    pub kind: Kind,
+    pub kind: ChunkKind,
     pub length: u32,
 }
 
@@ -41,9 +41,9 @@ pub fn chunk_of(head: &[u8; 8]) -> Chunk
     ensures { result ≡ chunk_of head.now }
 {
     let kind = match u32_at(head, 0) {
-        FMT => Kind::Format,
-        DATA => Kind::Data,
-        _ => Kind::Other,
+        FMT => ChunkKind::Format,
+        DATA => ChunkKind::Data,
+        _ => ChunkKind::Other,
     };
     Chunk {
         kind,

@@ -86,7 +86,8 @@ pub fn width(coding: Coding) -> usize
     }
 }
 
-// The bytes of a frame.
+// The bytes of a frame. That a width and a frame have a byte at least is said of both numbers: a type for a
+// number of bytes would be taken off where samples are read.
 pub fn frame_size(format: Format) -> usize
     ensures { (result ≡ frame_of format) × (1 ≤ result) × (result ≤ 8) }
 {

@@ -73,6 +73,7 @@ pub fn count_faults<F: Fn(f32) -> bool>(
     ensures few { result.count ≤ from + length values.now / 4 }
 {
     let mut c = before;
+    // An index: it is told where a fault is the first, and `load` takes it for the value.
     for i in 0..values.len() / 4 {
         if is_fault(load(values, i)) {
             c = c.with(from + i);

@@ -1,25 +1,14 @@
 // Samples and frames: the float that stands in a sample's bytes, and the one that a frame becomes.
-ghost use Rattle.std.specs.Prelude.{◌≡◌, ◌+◌, ◌<◌, ◌≤◌, ◌^◌, false, length};
+ghost use Rattle.std.specs.Prelude.{◌≡◌, ◌+◌, ◌≤◌, ◌^◌, false, length};
 ghost use Rattle.std.specs.Float.{binary32};
 ghost use Rattle.std.specs.Float.Ieee.{round};
 ghost use Rattle.wav.specs.Format.{width_of, frame_of};
-ghost use Rattle.wav.specs.Frames.{whole_of, byte_of, long_of, sample_of, halved, taken_of, frame_at};
+ghost use Rattle.wav.specs.Frames.{byte_of, long_of, sample_of, halved, taken_of, frame_at};
 
 use crate::format::{Channels, Coding, Format, Taken, width};
+use leaves::converter::of_word;
 use values::bytes::{u16_at, u24_at, u32_at};
 use values::float::of_bits;
-
-// A whole number of 24 bits, negative from 2^23 on, over 2^23: nothing is lost.
-fn whole(w: u32) -> f32
-    requires { w < 2 ^ 24 }
-    ensures { result ≡ whole_of w }
-{
-    if w < 0x80_0000 {
-        w as f32 / 8388608.0
-    } else {
-        -((0x100_0000 - w) as f32 / 8388608.0)
-    }
-}
 
 // A byte, in which 128 is zero, over 128: nothing is lost.
 fn eight(byte: u8) -> f32
@@ -55,14 +44,15 @@ fn long(w: u32) -> f32
 
 // The sample at byte `at`. One of 16 bits is the upper 16 of 24. Ruled out: a negative number whose sign
 // is lost; a byte that is read as one with a sign.
+#[tactic(auto, using(crate::proofs::Nearest::word_whole))]
 pub fn sample_at(s: &[u8], at: usize, coding: Coding) -> f32
     requires { at + width_of coding ≤ length s.now }
     ensures { result ≡ sample_of coding s.now at }
 {
     match coding {
         Coding::Whole8 => eight(s[at]),
-        Coding::Whole16 => whole(u32::from(u16_at(s, at)) * 256),
-        Coding::Whole24 => whole(u24_at(s, at)),
+        Coding::Whole16 => of_word(u32::from(u16_at(s, at)) * 256),
+        Coding::Whole24 => of_word(u24_at(s, at)),
         Coding::Whole32 => long(u32_at(s, at)),
         Coding::Float32 => of_bits(u32_at(s, at)),
     }

@@ -1,24 +1,16 @@
--- `wav::block::first_bad` meets its contract: the first bad sample from i on is the first of all. Assumes nothing.
-use Rattle.std.proofs.Common.{ℕ, ◌/◌, length, sym, ap, ◌∙◌, arith}
-use native.Mathlib.Nat.{sub-zero}
+-- `wav::block::first_bad` meets its contract: what `find` passed is fine, and what it stopped at is not. Assumes nothing.
+use Rattle.std.proofs.Common.{rules, tests, ◌≡◌, ◌/◌, length, ℕ, true, false, ap, ◌∙◌}
+use Rattle.std.proofs.lemmas.Iterator.{first_from_Range}
 use Rattle.values.specs.Floors.{finite_f}
-use Rattle.wav.specs.Frames.{first_bad}
-use Rattle.wav.proofs.Lists.{bad_later, bad_here, bad_none}
+use Rattle.wav.specs.Frames.{sample_in, first_bad}
+use Rattle.wav.proofs.Lists.{bad_found}
 use Rattle.wav.proofs.block.first_bad.Goals as goal
 
-pub loop-i-init : goal.loop-i-init
-loop-i-init c = ap (first_bad _ _ 0) (sub-zero _)
-
-pub loop-i-preserved : goal.loop-i-preserved
-loop-i-preserved c =
-    bad_later _ _ _ _ c.loop-i-test.true (sym (ap finite_f c.sample_in.ensures) ∙ sym c.finite.ensures ∙ c.if-not-finite.false) ∙ c.loop-i.invariant
-
-pub returns-then-not-finite : goal.returns-then-not-finite
-returns-then-not-finite c =
-    bad_here _ _ _ _ c.loop-i-test.true (sym (ap finite_f c.sample_in.ensures) ∙ sym c.finite.ensures ∙ c.if-not-finite.true) ∙ c.loop-i.invariant
-    ∙ ap (λ (d : ℕ). first_bad c.args.format c.args.frames.now 0 (length c.args.frames.now / d)) c.frame_size.ensures.0
-
-pub returns : goal.returns
-returns c =
-    bad_none c.args.format c.args.frames.now c.loop-i.i _ (omega arith) ∙ c.loop-i.invariant
-    ∙ ap (λ (d : ℕ). first_bad c.args.format c.args.frames.now 0 (length c.args.frames.now / d)) c.frame_size.ensures.0
+pub returns-clause-first : goal.returns-clause-first
+returns-clause-first c =
+    let f = c.args.format in
+    let s = c.args.frames.now in
+    bad_found f s (length s / c.frame_size.result) c.find.result
+    (first_from_Range _ _ _ _ (λ i. finite_f (sample_in f s i) ≡ false) (λ i. finite_f (sample_in f s i) ≡ true) c.find.ensures.ran
+    (λ x q e. search (rules, tests)) (λ x q e. search (rules, tests)))
+    ∙ ap (λ (d : ℕ). first_bad f s 0 (length s / d)) c.frame_size.ensures.0
