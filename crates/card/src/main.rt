@@ -17,17 +17,16 @@ mod size;
 mod write;
 
 use answers::answer::{answer_text, refusal_text};
+use answers::card::{MOST, board_of_card};
 use answers::fault::board_end;
 use boards::judge::read_board;
 use cards::board::{Wrong, board_of};
 use decimals::number::whole_of;
-use input::read_full;
-use records::answer::Answer;
+use input::{read_full, word};
 use resizing::resize::{Reason, Resized, resize};
 use size::show_resized;
 use std::io;
 use std::io::{Stderr, Stdout};
-use std::rt::Env;
 use write::{Form, text_of};
 
 // Where the answers go, and what is told beside them.
@@ -122,20 +121,12 @@ fn check_cards(to: &Streams, cards: &[u8]) -> io::Result<()> {
     Ok(())
 }
 
-// The input is cut at this length. No board is so long that the rest could change an answer.
-const MOST: usize = 69632;
-
-// Card to board, unless the text was cut.
+// Card to board: of it the bytes are shown; `order` shows the list and the late wires.
 fn show_bytes(to: &Streams, card: &[u8]) -> io::Result<()> {
-    if card.len() == MOST {
-        return to.err.write_all(b"text too long: at most 69631 bytes\n");
-    }
     let mut board = [0u8; 2048];
-    match board_of(card, &mut board) {
+    match board_of_card(card, &mut board) {
         Ok(n) => to.out.write_all(&board[..n]),
-        Err(wrong) => to
-            .err
-            .write_all(answer_text(card, &board, wrong).as_bytes()),
+        Err(answer) => to.err.write_all(answer.as_bytes()),
     }
 }
 
@@ -143,9 +134,8 @@ fn show_bytes(to: &Streams, card: &[u8]) -> io::Result<()> {
 // that the other modes have for them.
 fn show_size(to: &Streams, s: &mut [u8], size: u32) -> io::Result<()> {
     let resized = resize(s, size);
-    if let Err(Reason::Refused(number, place)) = resized {
+    if let Err(Reason::Refused(refusal)) = resized {
         to.err.write_all(b"not carried: ")?;
-        let refusal = Answer { number, place };
         return to.err.write_all(refusal_text(s, refusal).as_bytes());
     }
     show_resized(&to.err, size, resized)?;
@@ -155,9 +145,9 @@ fn show_size(to: &Streams, s: &mut [u8], size: u32) -> io::Result<()> {
     Ok(())
 }
 
-// The block size that a word says; 0, which is none, where it says no number.
-fn size_of(word: &[u8]) -> u32 {
-    whole_of(word, 128).map_or(0, |size| size as u32)
+// The block size that a word says.
+fn size_of(word: &[u8]) -> Option<u32> {
+    Some(whole_of(word, 128)? as u32)
 }
 
 fn show_use(err: &impl Print) -> io::Result<()> {
@@ -172,28 +162,26 @@ fn show_use(err: &impl Print) -> io::Result<()> {
     )
 }
 
-// A word of the command; an empty one where there is none, or one that is too long.
-fn word<'a>(rt: &impl Env, i: usize, place: &'a mut [u8; 8]) -> &'a [u8] {
-    let n = rt.arg(i, place).unwrap_or(0);
-    &place[..n]
-}
-
 fn main(rt: HostRuntime) -> io::Result<()> {
     let to = Streams {
         out: rt.stdout(),
         err: rt.stderr(),
     };
-    let mut place = [0u8; 8];
-    let Some(mode) = mode_of(word(&rt, 1, &mut place)) else {
+    let Some(mode) = mode_of(word(&rt, 1, &mut [0; 8])) else {
         return show_use(&to.err);
     };
     let mut input = [0u8; MOST];
     let n = read_full(&mut rt.stdin(), &mut input)?;
     let input = &mut input[..n];
+    // A match: each mode's function takes other arguments.
     match mode {
         Mode::Bytes => show_bytes(&to, input),
         Mode::Show(form) => show_form(&to, input, form),
-        Mode::Size => show_size(&to, input, size_of(word(&rt, 2, &mut [0; 8]))),
+        // A word that says no number is refused as the size 0 is: by `resize`, and after the board.
+        Mode::Size => {
+            let size = size_of(word(&rt, 2, &mut [0; 8]));
+            show_size(&to, input, size.unwrap_or(0))
+        }
         Mode::Check => check_cards(&to, input),
     }
 }

@@ -2,10 +2,11 @@
 use resizing::resize::{Reason, Resized};
 use std::io;
 
-// Why a board cannot be carried.
+// Why a board cannot be carried. Not Display: resizing's types, which print nothing; each is printed once,
+// here.
 fn show_reason(to: &impl Print, reason: Reason) -> io::Result<()> {
     match reason {
-        Reason::Refused(number, place) => println!(to; "refused {number} {place}"),
+        Reason::Refused(refusal) => println!(to; "refused {} {}", refusal.number, refusal.place),
         Reason::NoSize => println!(to; "a block size is a whole number from 1 to 128"),
         Reason::ManyLate(count) => {
             println!(to; "{count} wires are late, and only one can be made up for")
@@ -25,7 +26,7 @@ fn show_reason(to: &impl Print, reason: Reason) -> io::Result<()> {
     }
 }
 
-// What became of a board that was to be at blocks of `size`.
+// What became of a board that was to be at blocks of `size`. Not Display, as above.
 pub fn show_resized(
     to: &impl Print,
     size: u32,

@@ -18,6 +18,7 @@ fn next_board(boards: &[u8]) -> Option<(&[u8], &[u8])>
 
 fn judge_all(rt: &impl Print, boards: &[u8]) -> io::Result<()> {
     let mut rest = boards;
+    // A `while`: a turn passes a board, which has its own length.
     while let Some((board, after)) = next_board(rest) {
         let answer = judge(board);
         println!(rt; "{} {}", answer.number, answer.place)?;
@@ -26,6 +27,7 @@ fn judge_all(rt: &impl Print, boards: &[u8]) -> io::Result<()> {
     Ok(())
 }
 
+// Two calls over a buffer, as in leaves_trial: a function of both would be as long, and take a closure.
 fn main(rt: HostRuntime) -> io::Result<()> {
     let mut boards = [0u8; 65536];
     let n = read_full(&mut rt.stdin(), &mut boards)?;

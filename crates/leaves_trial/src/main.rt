@@ -11,22 +11,22 @@ use std::{fmt, io};
 use values::bytes::u32_at;
 use values::float::{finite, of_bits, to_bits, within};
 
-// What a line holds.
+// The words of a line.
 #[derive(Clone, Copy)]
-struct Line(u32, u32);
+struct Words(u32, u32);
 
-// Where the leaf may not be asked.
-const OUTSIDE: Line = Line(0xffff_ffff, 0);
+// Where the leaf may not be asked: words that the stored answers hold.
+const OUTSIDE: Words = Words(0xffff_ffff, 0);
 
-impl fmt::Display for Line {
+impl fmt::Display for Words {
     fn fmt<W: fmt::Write>(&self, f: &mut fmt::Formatter<W>) -> fmt::Result {
         write!(f, "{:08x} {:08x}", self.0, self.1)
     }
 }
 
-fn sine(phase: f32) -> Line {
+fn sine(phase: f32) -> Words {
     if within(phase, 1.0) {
-        Line(
+        Words(
             to_bits(leaves::sine::sine(leaves::sine::phase_units(phase))),
             0,
         )
@@ -36,56 +36,94 @@ fn sine(phase: f32) -> Line {
 }
 
 // A line's length; or the number that stands for none, 12.
-fn length(samples: Option<u32>) -> Line {
-    samples.map_or(Line(12, 0), |n| Line(0, n))
+fn length(samples: Option<u32>) -> Words {
+    samples.map_or(Words(12, 0), |n| Words(0, n))
 }
 
-fn position(m: f32, n: u32) -> Line {
+fn position(m: f32, n: u32) -> Words {
     if n <= 132300 {
         let p = leaves::position::split(leaves::position::position(m, n));
-        Line(p.index, to_bits(p.rest))
+        Words(p.index, to_bits(p.rest))
     } else {
         OUTSIDE
     }
 }
 
-fn phase(p: f32, f: f32) -> Line {
+fn phase(p: f32, f: f32) -> Words {
     let by = leaves::phase::increment(f);
-    Line(to_bits(by), to_bits(leaves::phase::advance(p, by)))
+    Words(to_bits(by), to_bits(leaves::phase::advance(p, by)))
 }
 
-fn pole(b: f32, y1: f32, x: f32) -> Line {
+fn pole(b: f32, y1: f32, x: f32) -> Words {
     let p = OnePole::new(b, y1);
     let q = p.step(x);
-    Line(to_bits(p.a), to_bits(q.y1))
+    Words(to_bits(p.a), to_bits(q.y1))
 }
 
-fn range(x: f32, most: f32) -> Line {
-    Line(u32::from(finite(x)), u32::from(within(x, most)))
+fn range(x: f32, most: f32) -> Words {
+    Words(u32::from(finite(x)), u32::from(within(x, most)))
 }
 
-// The answer to a question. Numbers for the leaves: they are read here alone, so names for them would
-// only be matched a second time.
-fn answer(question: &[u8]) -> Line
+// What a question asks, by its first word.
+#[derive(Clone, Copy)]
+enum Leaf {
+    Bits,
+    Range,
+    Sine,
+    DelayLength,
+    AllPassLength,
+    Position,
+    Phase,
+    Pole,
+    Constants,
+}
+
+// A number that no leaf has.
+#[derive(Clone, Copy)]
+struct NoLeaf;
+
+impl TryFrom<u32> for Leaf {
+    type Error = NoLeaf;
+
+    fn try_from(number: u32) -> Result<Self, NoLeaf> {
+        match number {
+            0 => Ok(Leaf::Bits),
+            1 => Ok(Leaf::Range),
+            2 => Ok(Leaf::Sine),
+            3 => Ok(Leaf::DelayLength),
+            4 => Ok(Leaf::AllPassLength),
+            5 => Ok(Leaf::Position),
+            6 => Ok(Leaf::Phase),
+            7 => Ok(Leaf::Pole),
+            8 => Ok(Leaf::Constants),
+            _ => Err(NoLeaf),
+        }
+    }
+}
+
+// The answer to a question. A match: each leaf takes other numbers.
+fn answer(question: &[u8]) -> Words
     requires { length question.now ≡ 16 }
 {
+    let Ok(leaf) = Leaf::try_from(u32_at(question, 0)) else {
+        return OUTSIDE;
+    };
     let a = u32_at(question, 4);
     let b = u32_at(question, 8);
     let c = u32_at(question, 12);
-    match u32_at(question, 0) {
-        0 => Line(to_bits(of_bits(a)), 0),
-        1 => range(of_bits(a), of_bits(b)),
-        2 => sine(of_bits(a)),
-        3 => length(leaves::lengths::delay_length(of_bits(a))),
-        4 => length(leaves::lengths::all_pass_length(of_bits(a))),
-        5 => position(of_bits(a), b),
-        6 => phase(of_bits(a), of_bits(b)),
-        7 => pole(of_bits(a), of_bits(b), of_bits(c)),
-        8 => Line(
+    match leaf {
+        Leaf::Bits => Words(to_bits(of_bits(a)), 0),
+        Leaf::Range => range(of_bits(a), of_bits(b)),
+        Leaf::Sine => sine(of_bits(a)),
+        Leaf::DelayLength => length(leaves::lengths::delay_length(of_bits(a))),
+        Leaf::AllPassLength => length(leaves::lengths::all_pass_length(of_bits(a))),
+        Leaf::Position => position(of_bits(a), b),
+        Leaf::Phase => phase(of_bits(a), of_bits(b)),
+        Leaf::Pole => pole(of_bits(a), of_bits(b), of_bits(c)),
+        Leaf::Constants => Words(
             leaves::onepole::B_SEVEN_FIFTHS,
             leaves::onepole::B_ONE_FIFTH,
         ),
-        _ => OUTSIDE,
     }
 }
 
@@ -97,6 +135,7 @@ fn answer_all(rt: &impl Print, s: &[u8]) -> io::Result<()> {
     Ok(())
 }
 
+// Two calls over a buffer, as in judge_run: a function of both would be as long, and take a closure.
 fn main(rt: HostRuntime) -> io::Result<()> {
     let mut questions = [0u8; 65536];
     let n = read_full(&mut rt.stdin(), &mut questions)?;

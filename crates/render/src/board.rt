@@ -2,12 +2,13 @@
 // board of a card.
 ghost use Rattle.std.specs.Prelude.{◌≤◌, length, IfOk};
 
-use answers::answer::{answer_text, refusal_text};
-use cards::board::board_of as read_card;
+use answers::answer::refusal_text;
+use answers::card::{MOST, board_of_card};
 use decimals::number::{FloatError, float_of};
 use files::name::open_read;
+use input::fill;
+use plate_board::writer::LENGTH;
 use records::answer::Answer;
-use sounds::file::read_full;
 use sounds::say;
 use sounds::say::To;
 use std::io;
@@ -45,7 +46,6 @@ pub enum BoardError {
     Mix(FloatError),
     MixNotFinite,
     Unopened(io::Error),
-    LongText,
     Answer(Text<512>),
 }
 
@@ -58,82 +58,63 @@ impl BoardError {
     // Told of the mix or the file.
     pub fn tell(self, to: To, what: &[u8]) {
         match self {
-            BoardError::Mix(FloatError::Bad) => say::problem(to, what, "no float"),
-            BoardError::Mix(FloatError::Long) => say::problem(
-                to,
-                what,
-                "decimal too long: write its bits, x and 8 hexadecimal digits",
-            ),
+            BoardError::Mix(why) => say::problem(to, what, why),
             BoardError::MixNotFinite => say::problem(to, what, "mix not finite"),
             BoardError::Unopened(why) => say::failed(to, what, why, "cannot be opened"),
-            BoardError::LongText => { say::problem(to, what, "text too long: at most 69631 bytes") }
             BoardError::Answer(text) => say::answer(to, what, text.as_bytes()),
         }
     }
 }
 
-// The plate at blocks of 128 samples, with a mix that is written as a number.
-fn plate_of(mix: &[u8], board: &mut [u8]) -> Result<usize, BoardError>
-    requires { 1270 ≤ length board.old }
-    ensures { IfOk result (λ n. n ≤ length board.new) }
+// The plate at blocks of 128 samples, with a mix that is written as a number: so many bytes.
+fn plate_of(mix: &[u8], room: &mut [u8]) -> Result<usize, BoardError>
+    requires { 1270 ≤ length room.old }
+    ensures { IfOk result (λ n. n ≤ length room.new) }
 {
-    let bits = match float_of(mix) {
-        Ok(bits) => bits,
-        Err(why) => return Err(BoardError::Mix(why)),
-    };
-    let answer = plate_board::writer::write(128, of_bits(bits), &mut board[..1270]);
-    if answer.checked().is_err() {
-        return Err(BoardError::MixNotFinite);
-    }
-    Ok(1270)
+    let bits = float_of(mix).map_err(BoardError::Mix)?;
+    plate_board::writer::write(128, of_bits(bits), &mut room[..LENGTH])
+        .checked()
+        .map_err(|_| BoardError::MixNotFinite)?;
+    Ok(LENGTH)
 }
 
-// A board's bytes from a file. No byte past the buffer's end can change the judge's answer.
-fn board_of<R: Files>(rt: &R, file: &[u8], board: &mut [u8]) -> Result<usize, BoardError>
-    ensures { IfOk result (λ n. n ≤ length board.new) }
+// A board's bytes from a file. No byte past the room's end can change the judge's answer.
+fn board_in<'a, R: Files>(rt: &R, file: &[u8], room: &'a mut [u8]) -> Result<&'a [u8], BoardError>
+    ensures { IfOk result (λ b. length b.now ≤ length room.old) }
 {
     let mut opened = open_read(rt, file).map_err(BoardError::Unopened)?;
-    Ok(read_full(&mut opened, board))
+    let (n, _) = fill(&mut opened, room);
+    Ok(&room[..n])
 }
 
-// The board that a card's text says.
-fn card_of(text: &[u8], board: &mut [u8]) -> Result<usize, BoardError>
-    requires { 1932 ≤ length board.old }
-    ensures { IfOk result (λ n. n ≤ length board.new) }
-{
-    match read_card(text, board) {
-        Ok(n) => Ok(n),
-        Err(wrong) => Err(BoardError::Answer(answer_text(text, board, wrong))),
-    }
-}
-
-// The board of a card in a file. A text that fills the buffer may have been cut.
-fn card_in<R: Files>(rt: &R, file: &[u8], board: &mut [u8]) -> Result<usize, BoardError>
-    requires { 1932 ≤ length board.old }
-    ensures { IfOk result (λ n. n ≤ length board.new) }
+// The board of a card in a file.
+fn card_in<'a, R: Files>(rt: &R, file: &[u8], room: &'a mut [u8]) -> Result<&'a [u8], BoardError>
+    requires { 1932 ≤ length room.old }
+    ensures { IfOk result (λ b. length b.now ≤ length room.old) }
 {
     let mut opened = open_read(rt, file).map_err(BoardError::Unopened)?;
-    let mut text = [0u8; 69632];
-    let n = read_full(&mut opened, &mut text);
-    if n == text.len() {
-        return Err(BoardError::LongText);
-    }
-    card_of(&text[..n], board)
+    let mut text = [0u8; MOST];
+    let (n, _) = fill(&mut opened, &mut text);
+    let n = board_of_card(&text[..n], room).map_err(BoardError::Answer)?;
+    Ok(&room[..n])
 }
 
-// Fills a buffer with the board's bytes, so many: a form is a word above, and a function here.
-pub fn make<R: Files>(
+// The board's bytes, in a room for them. The one match on the form.
+pub fn make<'a, R: Files>(
     rt: &R,
     form: Form,
     what: &[u8],
-    board: &mut [u8],
-) -> Result<usize, BoardError>
-    requires { 1932 ≤ length board.old }
-    ensures { IfOk result (λ n. n ≤ length board.new) }
+    room: &'a mut [u8],
+) -> Result<&'a [u8], BoardError>
+    requires { 1932 ≤ length room.old }
+    ensures { IfOk result (λ b. length b.now ≤ length room.old) }
 {
     match form {
-        Form::Plate => plate_of(what, board),
-        Form::Board => board_of(rt, what, board),
-        Form::Card => card_in(rt, what, board),
+        Form::Plate => {
+            let n = plate_of(what, room)?;
+            Ok(&room[..n])
+        }
+        Form::Board => board_in(rt, what, room),
+        Form::Card => card_in(rt, what, room),
     }
 }

@@ -17,14 +17,11 @@ mod render;
 mod turn;
 mod words;
 
-ghost use Rattle.io.specs.Counts.{IsPrefixLen};
-
 use files::name::open_read;
+use input::{fill, is_there, word};
 use render::{Job, render};
-use sounds::file::read_full;
 use sounds::say;
 use sounds::say::To;
-use std::env::FillError;
 use std::fs::File;
 use std::io::Write;
 use std::rt::{Env, Files};
@@ -54,7 +51,8 @@ fn with_word(to: To, asked: Asked, word: &[u8]) -> Result<Asked, WordError> {
     more
 }
 
-// What the words of a line from the fifth on ask for.
+// What the words of a line from the fifth on ask for. A word's number, not an index: words are found in
+// the line.
 fn line_asks(to: To, line: &[u8]) -> Result<Asked, WordError> {
     let mut asked = Asked::nothing();
     for k in 4..word_count(line) {
@@ -63,33 +61,16 @@ fn line_asks(to: To, line: &[u8]) -> Result<Asked, WordError> {
     Ok(asked)
 }
 
-// Puts an argument at the start of a buffer: so many bytes, and none where it is missing or too long.
-fn arg<R: Env>(rt: &R, i: usize, word: &mut [u8]) -> usize
-    ensures { IsPrefixLen result word.new }
-{
-    rt.arg(i, word).unwrap_or(0)
-}
-
-// Whether there is such an argument.
-fn is_there<R: Env>(rt: &R, i: usize) -> bool {
-    !matches!(rt.arg(i, &mut []), Err(FillError::NotPresent))
-}
-
 // How many arguments there are, the program's name among them.
 fn arg_count<R: Env>(rt: &R) -> usize {
-    for i in 0..usize::MAX {
-        if !is_there(rt, i) {
-            return i;
-        }
-    }
-    usize::MAX
+    (0..usize::MAX)
+        .find(|i| !is_there(rt, *i))
+        .unwrap_or(usize::MAX)
 }
 
 // One more word, which is an argument.
 fn with_arg<R: Env>(rt: &R, to: To, asked: Asked, i: usize) -> Result<Asked, WordError> {
-    let mut word = [0u8; 4096];
-    let n = arg(rt, i, &mut word);
-    with_word(to, asked, &word[..n])
+    with_word(to, asked, word(rt, i, &mut [0u8; 4096]))
 }
 
 // What the arguments from the fifth on ask for.
@@ -145,7 +126,7 @@ fn list<R: Files<File = File> + Alloc>(rt: &R, to: To, file: &[u8]) {
         }
     };
     let mut text = [0u8; 65536];
-    let n = read_full(&mut opened, &mut text);
+    let (n, _) = fill(&mut opened, &mut text);
     drop(opened);
     if n == text.len() {
         say::problem(to, file, "list too long");
@@ -160,20 +141,16 @@ fn from_args<R: Files<File = File> + Env + Alloc>(rt: &R, to: To) {
     let mut output = [0u8; 4096];
     let mut form = [0u8; 4096];
     let mut what = [0u8; 4096];
-    let i = arg(rt, 1, &mut input);
-    let j = arg(rt, 2, &mut output);
-    let k = arg(rt, 3, &mut form);
-    let l = arg(rt, 4, &mut what);
     let Ok(asked) = args_ask(rt, to) else {
         return;
     };
     let job = Job {
         to,
         list: b"",
-        input: &input[..i],
-        output: &output[..j],
-        form: &form[..k],
-        what: &what[..l],
+        input: word(rt, 1, &mut input),
+        output: word(rt, 2, &mut output),
+        form: word(rt, 3, &mut form),
+        what: word(rt, 4, &mut what),
         asked,
     };
     render(rt, job);
@@ -185,16 +162,15 @@ fn main(rt: HostRuntime) {
         output: rt.stdout(),
         checked: false,
     };
-    let mut word = [0u8; 4096];
-    let mut file = [0u8; 4096];
-    let i = arg(&rt, 1, &mut word);
-    let j = arg(&rt, 2, &mut file);
+    let mut first = [0u8; 4096];
+    let mut second = [0u8; 4096];
+    let file = word(&rt, 2, &mut second);
     let count = arg_count(&rt);
-    match &word[..i] {
-        b"list" if count == 3 => list(&rt, to, &file[..j]),
+    match word(&rt, 1, &mut first) {
+        b"list" if count == 3 => list(&rt, to, file),
         b"check" if count == 3 => {
             let checked = true;
-            list(&rt, To { checked, ..to }, &file[..j]);
+            list(&rt, To { checked, ..to }, file);
         }
         _ if count < 5 => usage(to),
         _ => from_args(&rt, to),

@@ -1,10 +1,10 @@
 // The second pass: block by block from the input file to the output file.
-ghost use Rattle.std.specs.Prelude.{◌≡◌, ◌+◌, ◌*◌, ◌-◌, ◌≤◌, min, length, IfOk};
+ghost use Rattle.std.specs.Prelude.{◌≡◌, ◌+◌, ◌*◌, ◌≤◌, min, length};
 ghost use Rattle.render.specs.Run.{Few};
 
 use crate::turn::turn;
+use input::{fill, room};
 use records::answer::Answer;
-use sounds::file::read_some;
 use sounds::say;
 use sounds::say::To;
 use std::fs::File;
@@ -33,25 +33,30 @@ impl Output<'_> {
     }
 }
 
-// A rendering: the open files, the format of the input, the board's block size and the bytes of its
-// memory, how many frames are still to be read and to be written, how many are written, what was found
-// in them, and whether progress is shown. The block size is a board's, the memory is as large as any
-// board's at most, the frames fit a WAV file, and what was found is among those that are written.
+// What a board needs: its block size, and the bytes of its memory, no more than any board's memory has.
+#[derive(Clone, Copy)]
+pub struct Needs {
+    pub size: usize,
+    pub room: usize,
+    ghost least_size: { 1 ≤ size },
+    ghost most_size: { size ≤ 128 },
+    ghost room_fits: { room ≤ 1114880 },
+}
+
+// A rendering: the open files, the format of the input, what the board needs, how many frames are still
+// to be read and to be written, how many are written, what was found in them, and whether progress is
+// shown. The frames fit a WAV file, and what was found is among those that are written.
 #[derive(Clone, Copy)]
 pub struct Run<'a> {
     pub input: &'a File,
     pub output: Output<'a>,
     pub format: Format,
-    pub size: usize,
-    pub room: usize,
+    pub needs: Needs,
     pub reads: usize,
     pub writes: usize,
     pub done: usize,
     pub levels: Levels,
     pub progress: bool,
-    ghost least_size: { 1 ≤ size },
-    ghost most_size: { size ≤ 128 },
-    ghost room_fits: { room ≤ 1114880 },
     ghost writes_fit: { done + writes ≤ 536870905 },
     ghost found: { Few (2 * done) levels },
 }
@@ -64,18 +69,10 @@ pub enum PlayError {
     Refused(Answer),
 }
 
-// Room for a block's samples, and for its frames.
-fn short_room() -> [u8; 512]
-    ensures { 512 ≡ length result }
-{
-    [0; 512]
-}
+// The bytes of the longest block's samples, and of its frames.
+const SAMPLE_BYTES: usize = 512;
 
-fn long_room() -> [u8; 1024]
-    ensures { 1024 ≡ length result }
-{
-    [0; 1024]
-}
+const FRAME_BYTES: usize = 1024;
 
 impl<'a> Run<'a> {
     // The same to another file.
@@ -87,39 +84,47 @@ impl<'a> Run<'a> {
 
     // The frames of the next block that are read, and those that are written.
     fn next_reads(self) -> usize
-        ensures { (result ≡ min self.entry.size self.entry.reads) × (result ≤ 128) }
+        ensures { (result ≡ min self.entry.needs.size self.entry.reads) × (result ≤ 128) }
     {
-        self.size.min(self.reads)
+        self.needs.size.min(self.reads)
     }
 
     fn next_writes(self) -> usize
-        ensures { (result ≡ min self.entry.size self.entry.writes) × (result ≤ 128) }
+        ensures { (result ≡ min self.entry.needs.size self.entry.writes) × (result ≤ 128) }
     {
-        self.size.min(self.writes)
+        self.needs.size.min(self.writes)
     }
 
-    // Writes the first of a block's frames, those that are still to be written: what is found with them.
-    fn write_frames(self, frames: &[u8]) -> Result<Levels, PlayError>
-        requires { length frames.now ≡ 8 * self.size }
-        ensures { IfOk result (λ levels. Few (2 * (self.entry.done + min self.entry.size self.entry.writes)) levels) }
+    // Writes the first of a block's frames, those that are still to be written: what is left after the
+    // block, with what is found in them.
+    fn write_frames(self, frames: &[u8]) -> Result<Run<'a>, PlayError>
+        requires { length frames.now ≡ 8 * self.needs.size }
     {
-        let part = &frames[..8 * self.next_writes()];
-        if let Err(why) = self.output.write_all(part) {
-            return Err(PlayError::NotWritten(why));
-        }
-        Ok(self.levels.with(part, 2 * self.done))
+        let wrote = self.next_writes();
+        let part = &frames[..8 * wrote];
+        self.output.write_all(part).map_err(PlayError::NotWritten)?;
+        let mut next = self;
+        next.levels = self.levels.with(part, 2 * self.done);
+        next.reads -= self.next_reads();
+        next.writes -= wrote;
+        next.done += wrote;
+        Ok(next)
     }
 
-    // Runs the board on the frames that were read, and writes those that come of it.
-    fn run_block(self, board: &[u8], memory: &mut [u8], bytes: &[u8]) -> Result<Levels, PlayError>
-        ensures { IfOk result (λ levels. Few (2 * (self.entry.done + min self.entry.size self.entry.writes)) levels) }
-    {
-        let short = 4 * self.size;
-        let long = 8 * self.size;
-        let mut input = short_room();
-        let mut left = short_room();
-        let mut right = short_room();
-        let mut frames = long_room();
+    // Runs the board on the frames that were read, and writes those that come of it: what is left. `memory`
+    // is written while `Run`, a Copy value, goes on: lent beside it, with the board.
+    fn run_block(
+        self,
+        board: &[u8],
+        memory: &mut [u8],
+        bytes: &[u8],
+    ) -> Result<Run<'a>, PlayError> {
+        let short = 4 * self.needs.size;
+        let long = 8 * self.needs.size;
+        let mut input = room::<SAMPLE_BYTES>();
+        let mut left = room::<SAMPLE_BYTES>();
+        let mut right = room::<SAMPLE_BYTES>();
+        let mut frames = room::<FRAME_BYTES>();
         let answer = turn(
             board,
             memory,
@@ -130,38 +135,20 @@ impl<'a> Run<'a> {
             &mut right[..short],
             &mut frames[..long],
         );
-        if let Err(refusal) = answer.checked() {
-            return Err(PlayError::Refused(refusal));
-        }
+        answer.checked().map_err(PlayError::Refused)?;
         self.write_frames(&frames[..long])
     }
 
-    // One block.
-    fn one(self, board: &[u8], memory: &mut [u8]) -> Result<Levels, PlayError>
-        ensures { IfOk result (λ levels. Few (2 * (self.entry.done + min self.entry.size self.entry.writes)) levels) }
-    {
-        let mut bytes = long_room();
+    // One block: what is left after it.
+    fn one(self, board: &[u8], memory: &mut [u8]) -> Result<Run<'a>, PlayError> {
+        let mut bytes = room::<FRAME_BYTES>();
         let want = self.next_reads() * frame_size(self.format);
         let mut input = self.input;
-        let got = read_some(&mut input, &mut bytes, want);
+        let (got, _) = fill(&mut input, &mut bytes[..want]);
         if got < want {
             return Err(PlayError::NotRead);
         }
         self.run_block(board, memory, &bytes[..got])
-    }
-
-    // What is left after a block.
-    fn after(self, levels: Levels) -> Run<'a>
-        requires { Few (2 * (self.done + min self.size self.writes)) levels }
-        ensures { (result.size ≡ self.entry.size) × (result.writes ≡ self.entry.writes - min self.entry.size self.entry.writes) }
-    {
-        let wrote = self.next_writes();
-        let mut next = self;
-        next.reads -= self.next_reads();
-        next.writes -= wrote;
-        next.done += wrote;
-        next.levels = levels;
-        next
     }
 
     // The per cent of the frames that are written.
@@ -185,10 +172,8 @@ impl<'a> Run<'a> {
 // All blocks: what was found in them.
 pub fn play(to: To, start: Run, board: &[u8], memory: &mut [u8]) -> Result<Levels, PlayError> {
     let mut run = start;
-    // A `while`: a turn passes the frames of a block.
-    while 0 < run.writes {
-        let levels = run.one(board, memory)?;
-        let next = run.after(levels);
+    for _ in 0..run.writes.div_ceil(run.needs.size) {
+        let next = run.one(board, memory)?;
         next.show(to, run);
         run = next;
     }

@@ -2,13 +2,14 @@
 ghost use Rattle.std.specs.Prelude.{◌≡◌, ◌≤◌, length};
 
 use crate::board::{BoardError, Form, make};
-use crate::play::{Output, PlayError, Run, play};
+use crate::play::{Needs, Output, PlayError, Run, play};
 use crate::words::Asked;
 use boards::judge::read_board;
 use files::name::{create, open_overwrite, open_read, remove, rename};
 use files::output::{Way, led_to, part_name, way_of};
 use files::{is_file, is_open_file};
-use graph::tail::{ENDLESS, tail_of};
+use graph::tail::board_tail;
+use input::room;
 use sounds::error::SoundError;
 use sounds::say;
 use sounds::say::To;
@@ -22,7 +23,9 @@ use wav::header::{MOST, header};
 use wav::level::Levels;
 
 // What is asked for: IN OUT plate MIX, IN OUT board FILE or IN OUT card FILE, with what the other words
-// say; `list` names the list that has these words, or is empty, and `to` is where answers go.
+// say; `list` names the list that has these words, and `to` is where answers go.
+// `list` is empty for none, and so is a word that is not there: no Option, as an empty word is no mode and
+// no file's name.
 #[derive(Clone, Copy)]
 pub struct Job<'a> {
     pub to: To,
@@ -34,7 +37,7 @@ pub struct Job<'a> {
     pub asked: Asked,
 }
 
-// Why nothing was written. What is told by a name that only stands where it came up was told there.
+// Why nothing was written. `Told`: the line is written already, by a name that `tell` does not have.
 #[derive(Drop)]
 enum Failure {
     Form,
@@ -100,10 +103,7 @@ const FOUR_SECONDS: usize = 176400;
 fn tail_frames(board: &[u8]) -> usize
     ensures { result ≤ 4294967295 }
 {
-    match tail_of(board).place as usize {
-        ENDLESS => FOUR_SECONDS,
-        frames => frames,
-    }
+    board_tail(board).ok().flatten().unwrap_or(FOUR_SECONDS)
 }
 
 // The frames after the input: the seconds that are asked for, or the tail.
@@ -116,76 +116,139 @@ fn frames_after(asked: Asked, board: &[u8]) -> usize
     }
 }
 
-// Room for any board's memory.
-fn lent() -> [u8; 1114880]
-    ensures { 1114880 ≡ length result }
-{
-    [0; 1114880]
+// The most bytes that a board's memory has.
+const LENT: usize = 1114880;
+
+// A render that can begin: what was asked for, the sound looked over, and the board's bytes.
+#[derive(Clone, Copy)]
+struct Rendering<'a> {
+    job: Job<'a>,
+    run: Run<'a>,
+    board: &'a [u8],
 }
 
-// All blocks, from fresh memory.
-fn blocks(to: To, run: Run, board: &[u8]) -> Result<Levels, PlayError> {
-    let room = run.room;
-    let mut memory = lent();
-    memory::fresh::fresh(board, &mut memory[..room]);
-    play(to, run, board, &mut memory[..room])
-}
-
-// The header and then all blocks, into an open file.
-fn write_file(to: To, run: Run, board: &[u8]) -> Result<Levels, PlayError> {
-    if let Err(why) = run.output.write_all(&header(run.writes as u32)) {
-        return Err(PlayError::NotWritten(why));
+impl<'a> Rendering<'a> {
+    // The same to an open file.
+    fn with_output(self, file: &'a File) -> Rendering<'a> {
+        Rendering {
+            run: self.run.with_output(file),
+            ..self
+        }
     }
-    let levels = blocks(to, run, board);
-    if run.progress {
-        say::percent_end(to);
-    }
-    levels
-}
 
-// What is told of a sound that was written: what its samples are, and that two channels became one where
-// nobody asked for it.
-fn warned(job: Job, format: Format, levels: Levels) {
-    say::level(job.to, job.output, levels.bad, "infinite or NaN");
-    say::level(job.to, job.output, levels.loud, "above full scale");
-    if format.channels != Channels::Mono && job.asked.channel.is_none() {
+    // All blocks, from fresh memory.
+    fn blocks(self) -> Result<Levels, PlayError> {
+        let mut memory = room::<LENT>();
+        memory::fresh::fresh(self.board, &mut memory[..self.run.needs.room]);
+        play(
+            self.job.to,
+            self.run,
+            self.board,
+            &mut memory[..self.run.needs.room],
+        )
+    }
+
+    // The header and then all blocks, to the output.
+    fn written(self) -> Result<Levels, PlayError> {
+        self.run
+            .output
+            .write_all(&header(self.run.writes as u32))
+            .map_err(PlayError::NotWritten)?;
+        let levels = self.blocks();
+        if self.run.progress {
+            say::percent_end(self.job.to);
+        }
+        levels
+    }
+
+    // What is told of a sound that was written: what its samples are, and that two channels became one
+    // where nobody asked for it.
+    fn warn(self, levels: Levels) {
+        let job = self.job;
+        say::level(job.to, job.output, levels.bad, "infinite or NaN");
+        say::level(job.to, job.output, levels.loud, "above full scale");
+        if self.run.format.channels != Channels::Mono && job.asked.channel.is_none() {
+            say::problem(
+                job.to,
+                job.input,
+                "stereo, mixed to one channel ((left + right) / 2); left or right takes one alone",
+            );
+        }
+    }
+
+    // The end of a sound that is written whole to a file.
+    fn finish(self, levels: Levels) {
         say::problem(
-            job.to,
-            job.input,
-            "stereo, mixed to one channel ((left + right) / 2); left or right takes one alone",
+            self.job.to,
+            self.job.output,
+            format_args!("{} samples in, {} out", self.run.reads, self.run.writes),
         );
+        self.warn(levels);
     }
-}
 
-// The end of a sound that is written whole to a file.
-fn finished(job: Job, run: Run, levels: Levels) {
-    say::problem(
-        job.to,
-        job.output,
-        format_args!("{} samples in, {} out", run.reads, run.writes),
-    );
-    warned(job, run.format, levels);
-}
+    // To standard output.
+    fn to_standard(self) -> Result<(), Failure> {
+        let levels = self.written().map_err(Failure::Play)?;
+        self.warn(levels);
+        Ok(())
+    }
 
-// To standard output.
-fn to_standard(job: Job, run: Run, board: &[u8]) -> Result<(), Failure> {
-    let levels = write_file(job.to, run, board).map_err(Failure::Play)?;
-    warned(job, run.format, levels);
-    Ok(())
-}
+    // To what is there, as a pipe.
+    fn straight<R: Files<File = File>>(self, rt: &R) -> Result<(), Failure> {
+        let opened = open_overwrite(rt, self.job.output).map_err(Failure::Unwritable)?;
+        let levels = self.with_output(&opened).written();
+        drop(opened);
+        self.finish(levels.map_err(Failure::Play)?);
+        Ok(())
+    }
 
-// To what is there, as a pipe.
-fn straight<R: Files<File = File>>(
-    rt: &R,
-    job: Job,
-    run: Run,
-    board: &[u8],
-) -> Result<(), Failure> {
-    let opened = open_overwrite(rt, job.output).map_err(Failure::Unwritable)?;
-    let levels = write_file(job.to, run.with_output(&opened), board);
-    drop(opened);
-    finished(job, run, levels.map_err(Failure::Play)?);
-    Ok(())
+    // Writes what is made, and gives it the file's name.
+    fn completed<R: Files<File = File>>(
+        self,
+        rt: &R,
+        made: File,
+        part: &[u8],
+        file: &[u8],
+    ) -> Result<Levels, Failure> {
+        let levels = self.with_output(&made).written().map_err(Failure::Play)?;
+        if let Err(why) = named(rt, made, part, file) {
+            say::failed(self.job.to, file, why, "cannot be written");
+            return Err(Failure::Told);
+        }
+        Ok(levels)
+    }
+
+    // To a file beside the one that the output leads to, whose name it then takes.
+    fn beside<R: Files<File = File>>(self, rt: &R, file: &[u8]) -> Result<(), Failure> {
+        let mut name = [0u8; 4096];
+        // A name too long for `.part` becomes an empty one, which the system refuses; its reason is told.
+        let part = part_name(file, &mut name).unwrap_or(b"");
+        let made = made(rt, self.job.to, part)?;
+        match self.completed(rt, made, part, file) {
+            Ok(levels) => {
+                self.finish(levels);
+                Ok(())
+            }
+            Err(why) => {
+                let _ = remove(rt, part);
+                Err(why)
+            }
+        }
+    }
+
+    // From an input that is wholly fine, at its data, to the output.
+    fn to_output<R: Files<File = File> + Alloc>(self, rt: &R) -> Result<(), Failure> {
+        let output = self.job.output;
+        if let b"-" = output {
+            return self.to_standard();
+        }
+        let mut name = [0u8; 4096];
+        let file = led_to(rt, output, &mut name).ok_or(Failure::NoName)?;
+        match way_of(rt, output, file).map_err(Failure::Unwritable)? {
+            Way::Straight => self.straight(rt),
+            Way::Beside => self.beside(rt, file),
+        }
+    }
 }
 
 // Closes what is written, once the system has taken all of it, and gives it the file's name. What only
@@ -196,8 +259,8 @@ fn named<R: Files<File = File>>(rt: &R, written: File, part: &[u8], file: &[u8])
     rename(rt, part, file)
 }
 
-// What is to be written beside a file, made.
-fn made<R: Files<File = File>>(rt: &R, job: Job, part: &[u8]) -> Result<File, Failure> {
+// What is to be written beside a file, made. One of the failures is told here, by the name that was made.
+fn made<R: Files<File = File>>(rt: &R, to: To, part: &[u8]) -> Result<File, Failure> {
     let why = match create(rt, part) {
         Ok(made) => return Ok(made),
         Err(why) => why,
@@ -206,95 +269,20 @@ fn made<R: Files<File = File>>(rt: &R, job: Job, part: &[u8]) -> Result<File, Fa
         return Err(Failure::Unwritable(why));
     }
     say::problem(
-        job.to,
+        to,
         part,
         "is there already: remove it, unless a render is writing it",
     );
     Err(Failure::Told)
 }
 
-// Writes what is made, and gives it the file's name.
-fn completed<R: Files<File = File>>(
-    rt: &R,
-    job: Job,
-    run: Run,
-    board: &[u8],
-    made: File,
-    part: &[u8],
-    file: &[u8],
-) -> Result<Levels, Failure> {
-    let levels = write_file(job.to, run.with_output(&made), board).map_err(Failure::Play)?;
-    if let Err(why) = named(rt, made, part, file) {
-        say::failed(job.to, file, why, "cannot be written");
-        return Err(Failure::Told);
-    }
-    Ok(levels)
-}
-
-// To a file beside the one that the output leads to, whose name it then takes. A name too long for one
-// beside it has none there: the system refuses the empty one.
-fn beside<R: Files<File = File>>(
-    rt: &R,
-    job: Job,
-    run: Run,
-    board: &[u8],
-    file: &[u8],
-) -> Result<(), Failure> {
-    let mut name = [0u8; 4096];
-    let n = part_name(file, &mut name).unwrap_or(0);
-    let part = &name[..n];
-    let made = made(rt, job, part)?;
-    match completed(rt, job, run, board, made, part, file) {
-        Ok(levels) => {
-            finished(job, run, levels);
-            Ok(())
-        }
-        Err(why) => {
-            let _ = remove(rt, part);
-            Err(why)
-        }
-    }
-}
-
-// From an input that is wholly fine, at its data, to the output.
-fn to_output<R: Files<File = File> + Alloc>(
-    rt: &R,
-    job: Job,
-    run: Run,
-    board: &[u8],
-) -> Result<(), Failure> {
-    if let b"-" = job.output {
-        return to_standard(job, run, board);
-    }
-    let mut name = [0u8; 4096];
-    let Some(n) = led_to(rt, job.output, &mut name) else {
-        return Err(Failure::NoName);
-    };
-    let file = &name[..n];
-    match way_of(rt, job.output, file) {
-        Ok(Way::Straight) => straight(rt, job, run, board),
-        Ok(Way::Beside) => beside(rt, job, run, board, file),
-        Err(why) => Err(Failure::Unwritable(why)),
-    }
-}
-
-// The board's block size and the bytes of its memory.
-#[derive(Clone, Copy)]
-struct Needs {
-    size: usize,
-    room: usize,
-    ghost least_size: { 1 ≤ size },
-    ghost most_size: { size ≤ 128 },
-    ghost room_fits: { room ≤ 1114880 },
-}
-
 // The open input, surveyed, and then played.
-fn from_open<R: Files<File = File> + Alloc>(
+fn from_open<'a, R: Files<File = File> + Alloc>(
     rt: &R,
-    job: Job,
-    opened: &File,
+    job: Job<'a>,
+    opened: &'a File,
     needs: Needs,
-    board: &[u8],
+    board: &'a [u8],
 ) -> Result<(), Failure> {
     let mut reader = opened;
     let taken = job.asked.channel.unwrap_or(Taken::Mean);
@@ -311,19 +299,19 @@ fn from_open<R: Files<File = File> + Alloc>(
         input: opened,
         output: Output::Standard(job.to.output),
         format: sound.format,
-        size: needs.size,
-        room: needs.room,
+        needs,
         reads: sound.frames,
         writes: total,
         done: 0,
         levels: Levels::none(),
         progress: job.asked.progress,
     };
-    to_output(rt, job, run, board)
+    Rendering { job, run, board }.to_output(rt)
 }
 
-// Needs of a board's bytes, once they are judged.
-fn judged(board: &[u8]) -> Result<Needs, BoardError> {
+// Needs of a board's bytes, once they are judged. A match: tried as `map_err` with `?`, and the proof that
+// they are a board's did not close.
+fn needs_of(board: &[u8]) -> Result<Needs, BoardError> {
     match read_board(board) {
         Ok(read) => Ok(Needs {
             size: read.size,
@@ -333,8 +321,8 @@ fn judged(board: &[u8]) -> Result<Needs, BoardError> {
     }
 }
 
-// Whether to write the output would lose the board's file or the list.
-fn kept<R: Files>(rt: &R, job: Job, form: Option<Form>) -> Result<(), Failure> {
+// The failure where writing the output would lose the board's file or the list.
+fn not_lost<R: Files>(rt: &R, job: Job, form: Option<Form>) -> Result<(), Failure> {
     if form.is_some_and(Form::is_file) && is_file(rt, job.what, job.output) {
         return Err(Failure::OutputIsBoard);
     }
@@ -345,14 +333,14 @@ fn kept<R: Files>(rt: &R, job: Job, form: Option<Form>) -> Result<(), Failure> {
 }
 
 // Through the board that is asked for.
+// By `map_err`, not `From`: where it came up says which failure it is; two of them are an io::Error.
 fn rendered<R: Files<File = File> + Alloc>(rt: &R, job: Job) -> Result<(), Failure> {
     let form = Form::named(job.form);
-    kept(rt, job, form)?;
+    not_lost(rt, job, form)?;
     let form = form.ok_or(Failure::Form)?;
-    let mut bytes = [0u8; 69632];
-    let n = make(rt, form, job.what, &mut bytes).map_err(Failure::Board)?;
-    let board = &bytes[..n];
-    let needs = judged(board).map_err(Failure::Board)?;
+    let mut bytes = [0u8; answers::card::MOST];
+    let board = make(rt, form, job.what, &mut bytes).map_err(Failure::Board)?;
+    let needs = needs_of(board).map_err(Failure::Board)?;
     let opened = open_read(rt, job.input).map_err(Failure::Unopened)?;
     from_open(rt, job, &opened, needs, board)
 }

@@ -41,7 +41,7 @@ fn numeric(word: &[u8]) -> bool {
 }
 
 impl Asked {
-    // What no word asks for: the board's tail, both channels, no progress.
+    // What is asked for where there are no words.
     pub fn nothing() -> Asked {
         Asked {
             seconds: None,

@@ -7,25 +7,25 @@ ghost use Rattle.std.specs.Prelude.{◌≤◌, ◌≡◌, length, IfOk};
 mod hash;
 mod record;
 
-use input::read_full;
-use record::{Current, Found, answered};
+use input::{read_full, room};
+use record::{Current, Reply, answered};
 use std::io;
 use values::bytes::u32_at;
 
-// The number of the end record, which no call has.
+// The number of the end record: no call, so it is none of `Call`.
 const END: u32 = 0;
 
 // The answer that a record's head of 20 bytes expects; none where all bits are set, as for a record
 // that cannot be replayed.
-fn expected_of(head: &[u8]) -> Option<Found>
+fn expected_of(head: &[u8]) -> Option<Reply>
     requires { length head.now ≡ 20 }
 {
-    let expected = Found {
+    let expected = Reply {
         number: u32_at(head, 8),
         place: u32_at(head, 12),
         check: u32_at(head, 16),
     };
-    let none = Found {
+    let none = Reply {
         number: u32::MAX,
         place: u32::MAX,
         check: u32::MAX,
@@ -38,11 +38,11 @@ fn show(rt: &impl Print, records: usize, differences: usize) -> io::Result<()> {
 }
 
 // 1 for a record that is answered otherwise, which is named, and else 0.
-fn judged(
+fn differs(
     rt: &impl Print,
     record: usize,
-    found: Option<Found>,
-    expected: Option<Found>,
+    found: Option<Reply>,
+    expected: Option<Reply>,
 ) -> io::Result<usize>
     ensures { IfOk result (λ n. n ≤ 1) }
 {
@@ -76,32 +76,23 @@ fn replay(rt: &impl Print, s: &[u8], memory: &mut [u8]) -> io::Result<()> {
         }
         let (body, next) = behind.split_at(size);
         let found = answered(number, body, &mut current, memory);
-        differences += judged(rt, records, found, expected)?;
+        differences += differs(rt, records, found, expected)?;
         records += 1;
         rest = next;
     }
     println!(rt; "no end record")
 }
 
-// Room for the list. It comes from a function whose contract says its length: in `main` the prover would
-// unfold so long an array.
-fn list() -> [u8; 1048576]
-    ensures { 1048576 ≡ length result }
-{
-    [0; 1048576]
-}
+// The bytes of the longest list.
+const LIST: usize = 1048576;
 
-// Room for the memory of each board that is replayed: the plate's at N 128 is the longest, 236,392 +
-// 212 x 128 bytes. (The longest of any board is 1,114,880.)
-fn lent() -> [u8; 263528]
-    ensures { 263528 ≡ length result }
-{
-    [0; 263528]
-}
+// The memory of each board that is replayed: the plate's at N 128 is the longest, 236,392 + 212 x 128
+// bytes. (The longest of any board is 1,114,880.)
+const LENT: usize = 263528;
 
 fn main(rt: HostRuntime) -> io::Result<()> {
-    let mut bytes = list();
-    let mut memory = lent();
+    let mut bytes = room::<LIST>();
+    let mut memory = room::<LENT>();
     let n = read_full(&mut rt.stdin(), &mut bytes)?;
     replay(&rt, &bytes[..n], &mut memory)
 }

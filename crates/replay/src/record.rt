@@ -6,10 +6,12 @@ use boards::board::Board;
 use boards::judge::{judge, read_board};
 use context::block::block;
 use graph::tail::tail_of;
+use kinds::cell::SAMPLES;
 use memory::fresh::fresh;
 use memory::message::message;
 use mixing::mix::set_mix;
 use plate::{plate_allpass_length, plate_delay_length};
+use plate_board::writer::LENGTH;
 use records::answer::Answer;
 use values::bytes::{u16_at, u32_at};
 use values::float::of_bits;
@@ -29,7 +31,7 @@ pub enum Call {
 
 // A number that no call has.
 #[derive(Clone, Copy)]
-pub struct NoCall(pub u32);
+pub struct NoCall;
 
 impl TryFrom<u32> for Call {
     type Error = NoCall;
@@ -44,32 +46,33 @@ impl TryFrom<u32> for Call {
             6 => Ok(Call::DelayLength),
             7 => Ok(Call::AllPassLength),
             8 => Ok(Call::Write),
-            _ => Err(NoCall(number)),
+            _ => Err(NoCall),
         }
     }
 }
 
 // An answer and its check.
 #[derive(Clone, Copy, PartialEq)]
-pub struct Found {
+pub struct Reply {
     pub number: u32,
     pub place: u32,
     pub check: u32,
 }
 
-impl Found {
+impl Reply {
     // A refusal has no check.
     fn new(answer: Answer, check: u32) -> Self {
         let Answer { number, place } = answer;
-        Found {
+        Reply {
             number,
             place,
-            check: if number == 0 { check } else { 0 },
+            check: if answer.checked().is_ok() { check } else { 0 },
         }
     }
 }
 
-// The last accepted board, which the other calls work on, in the first `room` bytes of the memory.
+// The last accepted board, which the other calls work on, in the first `room` bytes of the memory:
+// a length, as memory is lent anew to each call.
 #[derive(Clone, Copy)]
 pub struct Current<'a> {
     pub board: &'a [u8],
@@ -77,20 +80,20 @@ pub struct Current<'a> {
 }
 
 // Accept: the board judged, its tail and fresh memory. An accepted board is the current one.
-fn accept<'a>(board: &'a [u8], current: &mut Current<'a>, memory: &mut [u8]) -> Option<Found> {
+fn accept<'a>(board: &'a [u8], current: &mut Current<'a>, memory: &mut [u8]) -> Option<Reply> {
     let judged = judge(board);
-    if judged.number != 0 {
-        return Some(Found::new(judged, 0));
+    if let Err(refused) = judged.checked() {
+        return Some(Reply::new(refused, 0));
     }
     let room = judged.place as usize;
     let lent = memory.get_mut(..room)?;
     fresh(board, lent).checked().ok()?;
     *current = Current { board, room };
-    Some(Found::new(judged, tail_of(board).place))
+    Some(Reply::new(judged, tail_of(board).place))
 }
 
 // Block: a block run with outputs of the board's block size.
-fn run(board: &[u8], memory: &mut [u8], input: &[u8]) -> Option<Found> {
+fn run(board: &[u8], memory: &mut [u8], input: &[u8]) -> Option<Reply> {
     if board.len() < 6 {
         return None;
     }
@@ -100,16 +103,17 @@ fn run(board: &[u8], memory: &mut [u8], input: &[u8]) -> Option<Found> {
     let out0 = out0.get_mut(..n)?;
     let out1 = out1.get_mut(..n)?;
     let answer = block(board, memory, input, out0, out1);
-    Some(Found::new(answer, carried(carried(START, out0), out1)))
+    Some(Reply::new(answer, carried(carried(START, out0), out1)))
 }
 
 // The samples of the board's nodes, in order.
-fn cells_hash(board: &Board, memory: &[u8]) -> u32
-    requires { board.now.size ≤ 128 }
-{
+fn cells_hash(board: &Board, memory: &[u8]) -> u32 {
     let mut h = START;
-    for node in board.nodes.iter().take(board.count) {
-        let from = 4 * (node.cell as usize + 3);
+    for node in board.listed() {
+        let from = 4 * (node.cell as usize + SAMPLES);
+        // Tried as 4 * size * channels, with a lemma named on the function and in answers of its own: that
+        // a count of channels that is read from the list is a byte's, so that the product fits, was not
+        // proved.
         let size = if node.channels == 2 {
             8 * board.size
         } else {
@@ -124,44 +128,42 @@ fn cells_hash(board: &Board, memory: &[u8]) -> u32
 }
 
 // Cells: every node's samples in the memory, none where the board is refused.
-fn cells(board: &[u8], memory: &[u8]) -> Found {
+fn cells(board: &[u8], memory: &[u8]) -> Reply {
     let check = match read_board(board) {
         Ok(b) => cells_hash(&b, memory),
         Err(_) => START,
     };
-    Found::new(Answer::new(0, 0), check)
+    Reply::new(Answer::new(0, 0), check)
 }
 
 // Write: the plate writer.
-fn write(n: u32, mix: f32) -> Found {
-    let mut board = [0u8; 1270];
+fn write(n: u32, mix: f32) -> Reply {
+    let mut board = [0u8; LENGTH];
     let answer = plate_board::writer::write(n, mix, &mut board);
-    Found::new(answer, carried(START, &board))
+    Reply::new(answer, carried(START, &board))
 }
 
-// The word of a body at `at`, 0 where there is none.
-fn word(body: &[u8], at: usize) -> u32
+// The word of a body at `at`.
+fn word(body: &[u8], at: usize) -> Option<u32>
     requires { at ≤ 4 }
 {
-    if body.len() < at + 4 {
-        0
-    } else {
-        u32_at(body, at)
-    }
+    let bytes = body.get(at..at + 4)?;
+    Some(u32_at(bytes, 0))
 }
 
-// The answer to a record, if it can be replayed.
+// The answer to a record, if it can be replayed. A match: each call takes other arguments.
 pub fn answered<'a>(
     number: u32,
     body: &'a [u8],
     current: &mut Current<'a>,
     memory: &mut [u8],
-) -> Option<Found> {
+) -> Option<Reply> {
     let call = Call::try_from(number).ok()?;
     let board = current.board;
     let lent = memory.get_mut(..current.room)?;
-    let first = word(body, 0);
-    let second = word(body, 4);
+    // 0 where the body has no such word: a call that reads none, or a body that is cut.
+    let first = word(body, 0).unwrap_or(0);
+    let second = word(body, 4).unwrap_or(0);
     let answer = match call {
         Call::Accept => return accept(body, current, memory),
         Call::Block => return run(board, lent, body),
@@ -172,5 +174,5 @@ pub fn answered<'a>(
         Call::DelayLength => plate_delay_length(of_bits(first)),
         Call::AllPassLength => plate_allpass_length(of_bits(first)),
     };
-    Some(Found::new(answer, 0))
+    Some(Reply::new(answer, 0))
 }

@@ -9,4 +9,4 @@ pub text_of-requires : goal.text_of-requires
 text_of-requires c =
     let s = c.args.s.now in
     let read = subst (Read (read_board s)) c.in-Ok.is c.read_board.ensures in
-    record { sound = read.1; table = table s c.in-Ok.board read; gathered = gathered s c.in-Ok.board read }
+    record { table = table s c.in-Ok.board read; gathered = gathered s c.in-Ok.board read }

@@ -3,4 +3,4 @@ use lib.ListN.{length}
 use Rattle.card.proofs.write.push_wires.Given as goal
 
 abbrev pub invariant-loop-i : goal.invariant-loop-i
-invariant-loop-i l = length l.out ≤ length l.initial.out + 96 * l.i
+invariant-loop-i g l = length l.out ≤ length l.initial.out + 96 * l.i
