@@ -59,6 +59,9 @@ def functions():
                     at = k
                     break
             params, after = whole[1:at], whole[at + 1:]
+            if re.match(r"[^{]*(\{[^{}]*\}[^{]*)*;\n", after.split("\n\n")[0] + "\n") and not re.match(rf"[^;]*^{m.group(1)}\{{\n", after, re.M):
+                yield name, m.group(2), params, after.split(";\n")[0], ""  # a trait's function without a body
+                continue
             cut = re.search(rf"\{{\n(?={m.group(1)}    )|^{m.group(1)}\{{\n", after, re.M)
             yield name, m.group(2), params, after[: cut.start()] if cut else after, after[cut.end():] if cut else ""
 
