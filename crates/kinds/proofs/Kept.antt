@@ -68,9 +68,9 @@ module _ (k : NodeKind) where
 pub fits_part : (k : NodeKind) (N at : ℕ) (ws : List ℕ) → cell_fits k (part ws at (cell_size N k)) ≡ cell_fits k (drop at ws)
 fits_part k N at ws =
     let size = cell_size N k in
-    let a : get_or (part ws at size) number_index 0 ≡ get_or (drop at ws) number_index 0 = get_or-take size (drop at ws) 0 0 (omega arith) in
-    let b : get_or (part ws at size) carry_index 0 ≡ get_or (drop at ws) carry_index 0 = get_or-take size (drop at ws) 1 0 (omega arith) in
-    let p : get_or (part ws at size) place_index 0 ≡ get_or (drop at ws) place_index 0 = get_or-take size (drop at ws) 2 0 (omega arith) in
+    let a : get_or (part ws at size) number_index 0 ≡ get_or (drop at ws) number_index 0 = get_or-take size (drop at ws) number_index 0 (omega arith) in
+    let b : get_or (part ws at size) carry_index 0 ≡ get_or (drop at ws) carry_index 0 = get_or-take size (drop at ws) carry_index 0 (omega arith) in
+    let p : get_or (part ws at size) place_index 0 ≡ get_or (drop at ws) place_index 0 = get_or-take size (drop at ws) place_index 0 (omega arith) in
     cc
 
 -- a phase from 0 to 1, stored and read back

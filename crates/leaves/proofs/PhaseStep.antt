@@ -12,7 +12,7 @@ use Rattle.values.specs.Floors.{zero_f, f1, f44100, within, Upto}
 use Rattle.leaves.specs.Phase.{increment, turned_back, advance, phase_after}
 use Rattle.leaves.specs.Worked.{worked}
 use Rattle.values.proofs.Floors.{minus_zero_upto, within-upto, upto-within, quotient_upto}
-use Rattle.leaves.proofs.Sums.{larger_first, sum-upto}
+use Rattle.leaves.proofs.FloatSums.{larger_first, sum-upto}
 
 -- ---- from 0 to 1
 

@@ -21,7 +21,7 @@ use Rattle.leaves.specs.Converter.{as_number, as_pattern, nearest_size, clipped,
 use Rattle.leaves.proofs.Closest.{closest_whole}
 use Rattle.leaves.proofs.WordLaws.{minus_pattern}
 use Rattle.leaves.proofs.PlusOne.{nearest-le, sum_pattern}
-use Rattle.leaves.proofs.Sums.{sum-upto}
+use Rattle.leaves.proofs.FloatSums.{sum-upto}
 
 -- ---- the number of a pattern
 

@@ -1,4 +1,5 @@
 -- Laws that belong to no one function.
 pub mod Patterns
+pub mod FourLanes
 pub mod Floors
 pub mod WholePart

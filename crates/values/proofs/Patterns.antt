@@ -10,6 +10,7 @@ use lib.Ieee.Bits.{nan_bits_is, nan_bits_above, is_false, of_bits-to_bits, to_bi
 use lib.Ieee.Compare.{nan_differs, differs_from_itself}
 use borrow.Author.Tests.{lt-ltb, le-ltb, eqb-true, eqb-false}
 use Rattle.values.specs.Floors.{finite_f}
+use Rattle.values.specs.Floats.{finite_bits}
 
 is_nan_lem : (x : Float) → is_nan x ≡ true → x ≡ nan
 unfolding is_nan
@@ -84,5 +85,9 @@ pub finite_pattern : (w : ℕ) → finite_f (of_bits binary32 w) ≡ ltb (w % 0x
 unfolding of_bits
 finite_pattern w = fields_finite (leb 0x8000_0000 w) (w % 0x8000_0000 / 2 ^ 23) (w % 2 ^ 23) ∙ field_below w
 
+-- a float's pattern is finite where the float is
+pub pattern_finite : (x : Float) → T (fits binary32 x) → finite_bits (to_bits binary32 x) ≡ finite_f x
+pattern_finite x f = ap finite_f (of_bits-to_bits binary32 x f)
+
 pub finite_float : (x : Float) → T (fits binary32 x) → finite_f x ≡ ltb (to_bits binary32 x % 0x8000_0000) 0x7f80_0000
-finite_float x f = ap finite_f (sym (of_bits-to_bits binary32 x f)) ∙ finite_pattern (to_bits binary32 x)
+finite_float x f = sym (pattern_finite x f) ∙ finite_pattern (to_bits binary32 x)

@@ -1,0 +1,9 @@
+-- `leaves::position::keep_four` meets its contract, lane by lane. Assumes nothing.
+use lib.Ieee.{nan, of_bits}
+use Rattle.values.proofs.FourLanes.{lanes_of, same_lanes}
+use Rattle.leaves.proofs.PositionLanes.{kept_lane}
+use Rattle.leaves.proofs.position.keep_four.Goals as goal
+
+pub returns : goal.returns
+unfolding of_bits
+returns c = rw (lanes_of c.args.w nan c.requires) (same_lanes c.args.w nan (kept_lane c.args.top))
