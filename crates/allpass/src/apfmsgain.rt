@@ -16,9 +16,11 @@ ghost use Rattle.allpass.specs.Lent.{Lent};
 use effects::delayn::{stretch, wrap};
 use kinds::cell::{NUMBER, PLACE, SAMPLES};
 use kinds::kind::NodeKind;
-use leaves::position::{Tap, position, split};
+use leaves::position::{Tap, position, position_four, split};
+use std::simd::prelude::*;
 use values::bytes::{put_word, word_at};
 use values::float::{load, store, to_bits};
+use values::lanes::{load_four, store_four};
 
 // The output for the input x and the delayed input and output.
 #[tactic(auto, unfolding(kinds::specs::Row::all_pass))]
@@ -50,14 +52,22 @@ fn wrapped(place: usize, i: usize, n: usize) -> usize
     }
 }
 
-// The positions at which the second source m has the rings read, in its place. A loop of its own
-// vectorizes: the division and the limits are then done for several samples at once.
+// The positions at which the second source m has the rings read, in its place.
 fn positions(m: &mut [f32], n: usize)
     requires { n ≤ 132300 }
     ensures { m.new ≡ fill (positioned m.old n) (length m.old) m.old }
 {
-    for sample in m.iter_mut() {
-        *sample = position(*sample, n as u32);
+    let count = m.len();
+    // Four samples at once, and then one by one those that are left.
+    for group in 0..count / 4 {
+        let i = 4 * group;
+        let four = position_four([m[i], m[i + 1], m[i + 2], m[i + 3]], n as u32);
+        f32x4::from_array(four).copy_to_slice(&mut m[i..]);
+    }
+    let whole = count / 4 * 4;
+    for j in 0..count % 4 {
+        let i = whole + j;
+        m[i] = position(m[i], n as u32);
     }
 }
 
@@ -91,14 +101,33 @@ impl Filter {
             ≡ stretch_values (NodeKind.AllPass self.n f) (length x.now) (alone x.now) place done count (words cell.old) }
     {
         let at = SAMPLES + x.len() + place;
-        // x comes whole, as its length says where the rings start.
-        for (i, sample) in x[done..done + count].iter().enumerate() {
+        // Four samples at once, and then one by one those that are left. x comes whole, as its length
+        // says where the rings start.
+        for group in 0..count / 4 {
+            let i = 4 * group;
+            let k = done + i;
+            let old_x = load_four(cell, at + i);
+            let old_y = load_four(cell, at + self.n + i);
+            let y = [
+                output(self.g, x[k], old_x[0], old_y[0]),
+                output(self.g, x[k + 1], old_x[1], old_y[1]),
+                output(self.g, x[k + 2], old_x[2], old_y[2]),
+                output(self.g, x[k + 3], old_x[3], old_y[3]),
+            ];
+            store_four(cell, at + i, [x[k], x[k + 1], x[k + 2], x[k + 3]]);
+            store_four(cell, at + self.n + i, y);
+            store_four(cell, SAMPLES + k, y);
+        }
+        let whole = count / 4 * 4;
+        for j in 0..count % 4 {
+            let i = whole + j;
+            let k = done + i;
             let old_x = load(cell, at + i);
             let old_y = load(cell, at + self.n + i);
-            let y = to_bits(output(self.g, *sample, old_x, old_y));
-            store(cell, at + i, *sample);
+            let y = to_bits(output(self.g, x[k], old_x, old_y));
+            store(cell, at + i, x[k]);
             put_word(cell, at + self.n + i, y);
-            put_word(cell, SAMPLES + done + i, y);
+            put_word(cell, SAMPLES + k, y);
         }
     }
 

@@ -3,17 +3,20 @@
 use mathlib.Core.Path.{◌≡◌, refl, sym, ap, ◌∙◌}
 use mathlib.Core.Logic.{⊎_elim}
 use mathlib.Core.Bool.{Bool, true, false, cond}
-use mathlib.Core.List.{List}
-use Prim.Native.Nat.{ℕ, zero, suc, ◌+◌, ◌-◌, ◌≤◌, ◌<◌}
+use mathlib.Core.List.{List, [], ◌∷◌, ◌++◌, map, append_assoc}
+use Prim.Native.Nat.{ℕ, zero, suc, ◌+◌, ◌≤◌, ◌<◌}
 use native.Mathlib.Nat.{le_of_suc-le-suc, eq-or-lt_of_le}
 use native.Mathlib.Omega.{arith}
 use lib.Dec.{ltb}
 use borrow.Author.Tests.{ltb-true, ltb-false}
-use lib.ListN.{length, get_or, set, take, drop, replicate, length-set, length-replicate, get_or-replicate}
-use lib.Seq.{get_or-set_same, get_or-set_other, get_or-take, get_or-drop, ext_get_or}
+use lib.ListN.{length, set, take, drop, replicate, length-set, length-replicate, get_or-replicate}
+use lib.Seq.{get_or-set_same, get_or-set_other, ext_get_or, drop-drop}
+use lib.Lanes.{put_chunk}
+use Rattle.std.proofs.lemmas.List.Edits.{sets-eq}
+use Rattle.std.proofs.lemmas.Simd.{put_chunk_is}
 use lib.Ieee.{Float, nan, binary32, to_bits}
 use Rattle.values.specs.Words.{words}
-use Rattle.values.specs.Floats.{float_at}
+use Rattle.values.specs.Floats.{float_at, set_four}
 use Rattle.values.specs.Floors.{zero_f}
 use Rattle.kinds.specs.Iter.{iter}
 use Rattle.effects.specs.Block.{sample, fetched, fetched_if, quiet, fill, stored}
@@ -37,6 +40,30 @@ module _ {y : ℕ → Float} {at n : ℕ} {cell₀ : List ℕ} where
   unfolding stored
   storing_then {i} r below long e = record { turns = omega arith; long = long ∙ r.long; values = iter_then _ i _ _ _ r.values e }
 
+  -- four turns at once
+  pub storing_four : {i : ℕ} {a b c d : Float} {cell cell' : List ℕ} → Storing y at n cell₀ i cell → i + 4 ≤ n → length cell' ≡ length cell
+      → words cell' ≡ set_four (words cell) (at + i) (map (to_bits binary32) (a ∷ b ∷ c ∷ d ∷ [])) → a ≡ y i → b ≡ y (i + 1) → c ≡ y (i + 2) → d ≡ y (i + 3)
+      → Storing y at n cell₀ (i + 4) cell'
+  unfolding stored
+  storing_four {i} {cell = cell} r below long e ea eb ec ed =
+      let one : at + i + 1 ≡ at + (i + 1) = omega arith in
+      let two : at + i + 2 ≡ at + (i + 1 + 1) = omega arith in
+      let three : at + i + 3 ≡ at + (i + 1 + 1 + 1) = omega arith in
+      let two' : i + 2 ≡ i + 1 + 1 = omega arith in
+      let three' : i + 3 ≡ i + 1 + 1 + 1 = omega arith in
+      let four : i + 1 + 1 + 1 + 1 ≡ i + 4 = omega arith in
+      let bits = to_bits binary32 in
+      record {
+        turns = below;
+        long = long ∙ r.long;
+        values =
+            e
+            ∙ (λ j.
+            set (set (set (set (words cell) (at + i) (bits (ea j))) (one j) (bits (eb j))) (two j) (bits ((ec ∙ ap y two') j))) (three j) (bits ((ed ∙ ap y three') j)))
+            ∙ iter_then _ (i + 1 + 1 + 1) _ _ _ (iter_then _ (i + 1 + 1) _ _ _ (iter_then _ (i + 1) _ _ _ (iter_then _ i _ _ _ r.values refl) refl) refl) refl
+            ∙ ap (λ (j : ℕ). stored y at j (words cell₀)) four;
+      }
+
   pub storing_end : {i : ℕ} {cell : List ℕ} → Storing y at n cell₀ i cell → n ≤ i → words cell ≡ stored y at n (words cell₀)
   storing_end {i} r all = let done : i ≡ n = omega arith in r.values ∙ ap (λ (j : ℕ). stored y at j (words cell₀)) done
 
@@ -53,6 +80,29 @@ module _ {f : ℕ → Float} {n : ℕ} {x₀ : List Float} where
   pub filling_then : {i : ℕ} {v : Float} {x : List Float} → Filling f n x₀ i x → i < n → v ≡ f i → Filling f n x₀ (i + 1) (set x i v)
   unfolding fill
   filling_then {i} {v} {x} r below e = record { turns = omega arith; filled = iter_then _ i _ _ _ r.filled (ap (set x i) e) }
+
+  -- four turns at once
+  pub filling_four : {i : ℕ} {a b c d : Float} {x : List Float} → Filling f n x₀ i x → i + 4 ≤ n → i + 4 ≤ length x → a ≡ f i → b ≡ f (i + 1) → c ≡ f (i + 2) → d ≡ f (i + 3)
+      → Filling f n x₀ (i + 4) (put_chunk i x (a ∷ b ∷ c ∷ d ∷ []))
+  unfolding fill
+  filling_four {i} {a} {b} {c} {d} {x} r below long ea eb ec ed =
+      let one : suc i ≡ i + 1 = omega arith in
+      let two : suc (suc i) ≡ i + 1 + 1 = omega arith in
+      let three : suc (suc (suc i)) ≡ i + 1 + 1 + 1 = omega arith in
+      let two' : i + 2 ≡ i + 1 + 1 = omega arith in
+      let three' : i + 3 ≡ i + 1 + 1 + 1 = omega arith in
+      let four : i + 1 + 1 + 1 + 1 ≡ i + 4 = omega arith in
+      record {
+        turns = below;
+        filled =
+            put_chunk_is i x (a ∷ b ∷ c ∷ d ∷ []) long
+            ∙ ap (λ (l : List Float). take i x ++ ((a ∷ b ∷ c ∷ d ∷ []) ++ l)) (drop-drop 4 i x)
+            ∙ sym (append_assoc (take i x) (a ∷ b ∷ c ∷ d ∷ []) (drop (i + 4) x))
+            ∙ sym (sets-eq (a ∷ b ∷ c ∷ d ∷ []) x i long)
+            ∙ (λ j. set (set (set (set x i (ea j)) (one j) (eb j)) (two j) ((ec ∙ ap f two') j)) (three j) ((ed ∙ ap f three') j))
+            ∙ iter_then _ (i + 1 + 1 + 1) _ _ _ (iter_then _ (i + 1 + 1) _ _ _ (iter_then _ (i + 1) _ _ _ (iter_then _ i _ _ _ r.filled refl) refl) refl) refl
+            ∙ ap (λ (j : ℕ). fill f j x₀) four;
+      }
 
   pub filling_end : {i : ℕ} {x : List Float} → Filling f n x₀ i x → n ≤ i → x ≡ fill f n x₀
   filling_end {i} r all = let done : i ≡ n = omega arith in r.filled ∙ ap (λ (j : ℕ). fill f j x₀) done
@@ -86,6 +136,10 @@ unfolding fill iter
 fill_same f g zero x h = refl
 fill_same f g (suc n) x h = ap (set (fill f n x) n) (h n (omega arith)) ∙ ap (λ (y : List Float). set y n (g n)) (fill_same f g n x (λ i b. h i (omega arith)))
 
+-- after some turns of a loop over an array, what lies ahead is as it was
+pub filling_ahead : {f : ℕ → Float} {n i : ℕ} {x₀ x : List Float} → Filling f n x₀ i x → (j : ℕ) → i ≤ j → sample x j ≡ sample x₀ j
+filling_ahead {f} {i = i} {x₀ = x₀} r j h = ap (λ (y : List Float). sample y j) r.filled ∙ fill-ahead f i x₀ j h
+
 -- filling again what was filled
 pub fill-over : (f g : ℕ → Float) (n : ℕ) (x : List Float) → n ≤ length x → fill g n (fill f n x) ≡ fill g n x
 fill-over f g n x long =
@@ -98,10 +152,6 @@ fill-over f g n x long =
         fill_at g n (fill f n x) (omega (arith, length-fill f n x)) i (ltb-true i n e) ∙ sym (fill_at g n x long i (ltb-true i n e))
     at i false e =
         let h : n ≤ i = ltb-false i n e in fill-ahead g n (fill f n x) i h ∙ fill-ahead f n x i h ∙ sym (fill-ahead g n x i h)
-
--- a sample of the part `done .. done + count` of a block
-pub sample_part : (x : List Float) (done count i : ℕ) → i < count → get_or (take (done + count - done) (drop done x)) i nan ≡ sample x (done + i)
-sample_part x done count i h = get_or-take (done + count - done) (drop done x) i nan (omega arith) ∙ get_or-drop done x i nan
 
 -- an array of zeros
 pub quiet_all : {y : List Float} (x : List Float) → y ≡ replicate (length x) zero_f → y ≡ fill quiet (length x) x

@@ -2,3 +2,4 @@
 pub mod Filled
 pub mod Poles
 pub mod Rings
+pub mod Woven

@@ -307,7 +307,7 @@ tap-two n from s b index older newer rest e e-i e-r e-o e-n h =
 -- a cell's values in memory: `at` is where the ring place is, and `out` where sample j is
 module _ (N q : ℕ) (c : Cell) (long : length c.samples ≡ N) (vs : List ℕ) (v : vs ≡ values_of (at_place q c)) where
   -- a load from the line
-  pub line_at : (i at : ℕ) → at ≡ samples_from + N + i → get_or vs at 0 ≡ get_or c.state.line i 0
+  line_at : (i at : ℕ) → at ≡ samples_from + N + i → get_or vs at 0 ≡ get_or c.state.line i 0
   line_at i at e = (λ t. get_or (v t) (e t) 0) ∙ get_line (at_place q c) N i long
 
   pub float_at_lem : (i at : ℕ) → at ≡ samples_from + N + i → float_at vs at ≡ of_bits binary32 (get_or c.state.line i 0)

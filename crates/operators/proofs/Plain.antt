@@ -8,10 +8,10 @@
 use mathlib.Core.Path.{◌≡◌, refl, sym, ap, ◌∙◌}
 use mathlib.Core.Bool.{true, false}
 use mathlib.Core.List.{List}
-use Prim.Native.Nat.{ℕ, zero, suc, ◌+◌, ◌*◌, ◌≤◌, ◌<◌}
+use Prim.Native.Nat.{ℕ, ◌+◌, ◌*◌, ◌≤◌, ◌<◌}
 use native.Mathlib.Omega.{arith}
 use lib.ListN.{length, set, length-set}
-use lib.Seq.{set_comm, set-get_or}
+use lib.Seq.{set-get_or}
 use lib.Ieee.{Float, binary32, of_bits, to_bits, add, mul}
 use Rattle.values.specs.Words.{words, length-words}
 use Rattle.values.specs.Floats.{float_at}
@@ -25,27 +25,15 @@ use Rattle.std.specs.Prelude.{Option, Some, None}
 use Rattle.kinds.specs.declared.kind.NodeKind.{NodeKind}
 use Rattle.kinds.specs.declared.kind.NodeKind.TheVariants.{Mul, Add}
 use Rattle.kinds.proofs.Iterated.{iter_builds}
+use Rattle.effects.proofs.Woven.{two_at, woven_two}
 use Rattle.kinds.proofs.Kept.{step_samples}
 use Rattle.kinds.proofs.Cells.{values_cell, samples_long, set_sample}
 
 -- ---- stores of blocks
 
 -- the stores of two blocks, of which the second lies behind the first: sample by sample, or one block after the other
-set-ahead : (z : ℕ → Float) (at n j v : ℕ) (ws : List ℕ) → j < at → set (stored z at n ws) j v ≡ stored z at n (set ws j v)
-unfolding stored iter
-set-ahead z at zero j v ws h = refl
-set-ahead z at (suc n) j v ws h =
-    set_comm (stored z at n ws) (at + n) j (to_bits binary32 (z n)) v (λ e. omega arith)
-    ∙ ap (λ (l : List ℕ). set l (at + n) (to_bits binary32 (z n))) (set-ahead z at n j v ws h)
-
-stored_both : (y z : ℕ → Float) (at next n : ℕ) (ws : List ℕ) → at + n ≤ next
-    → stored z next n (stored y at n ws) ≡ iter (λ i vs. set (set vs (at + i) (to_bits binary32 (y i))) (next + i) (to_bits binary32 (z i))) n ws
-unfolding stored iter
-stored_both y z at next zero ws h = refl
-stored_both y z at next (suc n) ws h =
-    ap (λ (l : List ℕ). set l (next + n) (to_bits binary32 (z n)))
-    (sym (set-ahead z next n (at + n) (to_bits binary32 (y n)) (stored y at n ws) (omega arith))
-    ∙ ap (λ (l : List ℕ). set l (at + n) (to_bits binary32 (y n))) (stored_both y z at next n ws (omega arith)))
+stored_both : (y z : ℕ → Float) (at next n : ℕ) (ws : List ℕ) → at + n ≤ next → stored z next n (stored y at n ws) ≡ iter (two_at y at z next) n ws
+stored_both y z at next n ws h = woven_two y at z next n ws (λ i j a b e. omega arith)
 
 -- ---- a block run
 

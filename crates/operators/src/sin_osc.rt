@@ -1,18 +1,21 @@
 // The sine oscillator; the number is its frequency, the carry its phase. The phases come first, in a
-// loop that only adds until a phase turns back; then the sines, in a loop that vectorizes.
-ghost use Rattle.std.specs.Prelude.{◌≡◌, ℕ, ◌+◌, ◌*◌, ◌≤◌, ◌<◌, T, length, Float};
+// loop that only adds until a phase turns back; then the sines as whole numbers, in a loop that
+// vectorizes; then they are stored as floats.
+ghost use Rattle.std.specs.Prelude.{◌≡◌, ℕ, ◌+◌, ◌*◌, ◌≤◌, ◌<◌, T, length, get_or, pos, Float};
 ghost use Rattle.values.specs.Words.{words};
 ghost use Rattle.values.specs.Floats.{float_at};
 ghost use Rattle.values.specs.Floors.{f1, f44100, within};
+ghost use Rattle.leaves.specs.Sine.{sine_of};
 ghost use Rattle.kinds.specs.Kind.{samples_from, number_index, carry_index};
 ghost use Rattle.effects.specs.Block.{nothing, stored};
 ghost use Rattle.kinds.specs.Cell.{run_values};
 ghost use Rattle.operators.specs.Phases.{Stays, Moves, Units, sine_at};
 
+use crate::block::put_each;
 use kinds::cell::{CARRY, NUMBER, SAMPLES};
 use kinds::kind::NodeKind;
 use leaves::phase::{advance, increment};
-use leaves::sine::{phase_units, sine};
+use leaves::sine::{over23, phase_units, sine_units};
 use values::float::{load, store};
 
 // How many samples were passed, and the next one's phase.
@@ -62,13 +65,23 @@ fn phases(units: &mut [u32], start: f32, by: f32) -> f32
     phase
 }
 
+// The sines of phases, over 2^23. A loop over whole numbers alone vectorizes.
+fn sine_wholes(units: &[u32], values: &mut [i32])
+    requires { length values.old ≤ length units.now }
+    ensures { (j : ℕ) → j < length values.old → get_or values.new j (pos 0) ≡ sine_of (get_or units.now j 0) }
+{
+    for (i, value) in values.iter_mut().enumerate() {
+        *value = sine_units(units[i]);
+    }
+}
+
 fn sines(cell: &mut [u8], units: &[u32])
-    requires { 4 * (samples_from + length units.now) ≤ length cell.old }
+    requires { (4 * (samples_from + length units.now) ≤ length cell.old) × (length units.now ≤ 128) }
     ensures { words cell.new ≡ stored (sine_at units.now) samples_from (length units.now) (words cell.old) }
 {
-    for (i, phase) in units.iter().enumerate() {
-        store(cell, SAMPLES + i, sine(*phase));
-    }
+    let mut values = [0i32; 128];
+    sine_wholes(units, &mut values[..units.len()]);
+    put_each(cell, SAMPLES, units.len(), |i| over23(values[i]));
 }
 
 // A block over a cell of so many samples. `size` stands beside the cell, though its length has it: each
