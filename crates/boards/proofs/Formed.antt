@@ -23,7 +23,7 @@ use Rattle.boards.specs.Formed.{Formed}
 use Rattle.records.specs.declared.record.Found.{Found}
 use Rattle.records.specs.declared.record.Found.TheVariants as found
 use Rattle.reading.proofs.Choice.{pick}
-use Rattle.boards.proofs.Sums.{lines_snoc}
+use Rattle.boards.proofs.NodeSums.{lines_snoc}
 use Rattle.boards.proofs.Fits.{node_fits_lem, wire_fits_lem}
 use Rattle.boards.proofs.Run.{refused_is_not_whole, going_is_not_whole}
 

@@ -25,7 +25,7 @@ use Rattle.boards.specs.declared.board.Wires.{Wires}
 use Rattle.reading.proofs.Choice.{pick}
 use Rattle.records.proofs.Found.{Room, found_room}
 use Rattle.boards.proofs.Run.{Done, run_one, run_suc, run_add, run_ends}
-use Rattle.boards.proofs.Parts.{step_one}
+use Rattle.boards.proofs.RecordSteps.{step_one}
 
 abbrev start : Progress
 start = going 0 0 (headed 0 0)

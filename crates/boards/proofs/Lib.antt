@@ -1,10 +1,10 @@
 -- Laws that the proofs of `boards` cite, and theorems for its callers.
-pub mod Sums
+pub mod NodeSums
 pub mod Fits
 pub mod Run
 pub mod Wiring
 pub mod Answers
-pub mod Parts
+pub mod RecordSteps
 pub mod Loops
 pub mod Joined
 pub mod Six

@@ -20,11 +20,10 @@ use Rattle.boards.specs.Board.{Parsed, going, refused, blank, headed, lines_of, 
 use Rattle.boards.specs.Wires.{Joined, wires_of}
 use Rattle.boards.specs.BoardParts.{noded, wired, node_read, no_bounds, Bounds, Noded, NodesRefused, Wired}
 use Rattle.records.specs.declared.answer.Answer.{Answer}
-use Rattle.boards.specs.declared.board.Wires.{Wires}
-use Rattle.boards.proofs.Sums.{lines_snoc, cells_snoc, samples_few}
+use Rattle.boards.proofs.NodeSums.{lines_snoc, cells_snoc, samples_few}
 use Rattle.boards.proofs.Run.{run_next}
 use Rattle.boards.proofs.Wiring.{wires_length, wires_stored, joined_more}
-use Rattle.boards.proofs.Parts.{NodeStep, node_step, WireHere, WireEnds}
+use Rattle.boards.proofs.RecordSteps.{NodeStep, node_step, WireHere, WireEnds}
 
 -- ---- the nodes
 
@@ -145,18 +144,17 @@ module _ (s : List ℕ) (N : ℕ) (nodes : List NodeRecord) (bounds : List NodeB
 
 -- ---- the wires
 
-pub record WiresSoFar (s : List ℕ) (start i : ℕ) (w : Wires) (next : ℕ) : Type 0 where
-  pub reads : (p : Parsed) → length p.nodes ≡ i → p.wires ≡ [] → run w.count s (going start 3 p) ≡ going next 3 (wired p (wires_of w.list w.count))
-  pub long : length w.list ≡ 128
-  pub few : w.count ≤ 128
-  pub joined : Joined i w.list w.count
-  pub next_is : next ≡ start + 8 * w.count
+pub record WiresSoFar (s : List ℕ) (start i : ℕ) (list : List (ℕ × ℕ)) (count next : ℕ) : Type 0 where
+  pub reads : (p : Parsed) → length p.nodes ≡ i → p.wires ≡ [] → run count s (going start 3 p) ≡ going next 3 (wired p (wires_of list count))
+  pub long : length list ≡ 128
+  pub few : count ≤ 128
+  pub joined : Joined i list count
+  pub next_is : next ≡ start + 8 * count
   pub inside : next ≤ length s
 
-pub wires_start : (s : List ℕ) (start i : ℕ) (l : List (ℕ × ℕ)) (few : 0 ≤ 128) (long : length l ≡ 128) (joined : Joined 64 l 0)
-    → start ≤ length s → WiresSoFar s start i (record { list = l; count = 0; few = few; long = long; joined = joined }) start
+pub wires_start : (s : List ℕ) (start i : ℕ) (list : List (ℕ × ℕ)) → length list ≡ 128 → start ≤ length s → WiresSoFar s start i list 0 start
 unfolding run
-wires_start s start i l few long joined h = record {
+wires_start s start i list long h = record {
   reads = λ p _ e. ap (λ (ws : List Wire). going start 3 (wired p ws)) e;
   long = long;
   few = omega arith;
@@ -165,34 +163,32 @@ wires_start s start i l few long joined h = record {
   inside = h;
 }
 
-module _ (s : List ℕ) (start i : ℕ) (w : Wires) (next : ℕ) (h : WiresSoFar s start i w next) where
-  so_far : length (wires_of w.list w.count) ≡ w.count
-  so_far = wires_length w.list w.count (omega (arith, h.long, h.few))
+module _ (s : List ℕ) (start i : ℕ) (list : List (ℕ × ℕ)) (count next : ℕ) (h : WiresSoFar s start i list count next) where
+  so_far : length (wires_of list count) ≡ count
+  so_far = wires_length list count (omega (arith, h.long, h.few))
 
-  reached : (p : Parsed) → length p.nodes ≡ i → p.wires ≡ [] → run (suc w.count) s (going start 3 p) ≡ step_of s (going next 3 (wired p (wires_of w.list w.count)))
-  reached p n e = run_next s w.count (going start 3 p) ∙ ap (step_of s) (h.reads p n e)
+  reached : (p : Parsed) → length p.nodes ≡ i → p.wires ≡ [] → run (suc count) s (going start 3 p) ≡ step_of s (going next 3 (wired p (wires_of list count)))
+  reached p n e = run_next s count (going start 3 p) ∙ ap (step_of s) (h.reads p n e)
 
-  pub wires_more : (a t : ℕ) → a ≡ u16_at s (next + 4) → t ≡ u16_at s (next + 6) → WireHere s next i w.count
-      → (few : w.count + 1 ≤ 128) (long : length (set w.list w.count (a, t)) ≡ 128)
-      (joined : Joined 64 (set w.list w.count (a, t)) (w.count + 1))
-      → WiresSoFar s start i (record { list = set w.list w.count (a, t); count = w.count + 1; few = few; long = long; joined = joined }) (next + 8)
-  wires_more a t ea et here few long joined =
-      let room : w.count < length w.list = omega (arith, h.long, here.1.room) in
+  pub wires_more : (a t : ℕ) → a ≡ u16_at s (next + 4) → t ≡ u16_at s (next + 6) → WireHere s next i count → WiresSoFar s start i (set list count (a, t)) (count + 1) (next + 8)
+  wires_more a t ea et here =
+      let room : count < length list = omega (arith, h.long, here.1.room) in
       record {
         reads = λ b n e.
-            ap (λ (m : ℕ). run m s (going start 3 b)) (add-one w.count) ∙ reached b n e ∙ rw (ea, et) (here.0 (wired b (wires_of w.list w.count)) n so_far)
-            ∙ ap (λ (ws : List Wire). going (next + 8) 3 (wired b ws)) (sym (wires_stored w.list w.count a t room));
+            ap (λ (m : ℕ). run m s (going start 3 b)) (add-one count) ∙ reached b n e ∙ rw (ea, et) (here.0 (wired b (wires_of list count)) n so_far)
+            ∙ ap (λ (ws : List Wire). going (next + 8) 3 (wired b ws)) (sym (wires_stored list count a t room));
         long = simp length-set h.long;
         few = omega (arith, here.1.room);
-        joined = joined_more i w.list w.count a t room (rw ea here.1.obeys.source_there) (rw et here.1.obeys.target_there) h.joined;
+        joined = joined_more i list count a t room (rw ea here.1.obeys.source_there) (rw et here.1.obeys.target_there) h.joined;
         next_is = omega (arith, h.next_is);
         inside = here.2;
       }
 
   -- the end record follows
-  pub wires_ended : WireEnds s next i w.count (Ok tt) → Wired s start i w next (end_by s next)
-  wires_ended here = record {
-    reads = λ p m z. reached p m z ∙ here (wired p (wires_of w.list w.count)) m so_far;
+  pub wires_ended : (few : count ≤ 128) (long : length list ≡ 128) (joined : Joined 64 list count) → WireEnds s next i count (Ok tt)
+      → Wired s start i (record { list = list; count = count; few = few; long = long; joined = joined }) next (end_by s next)
+  wires_ended few long joined here = record {
+    reads = λ p m z. reached p m z ∙ here (wired p (wires_of list count)) m so_far;
     long = h.long;
     few = h.few;
     joined = h.joined;
@@ -201,11 +197,12 @@ module _ (s : List ℕ) (start i : ℕ) (w : Wires) (next : ℕ) (h : WiresSoFar
   }
 
   -- a refusal follows
-  pub wires_refused : (a : Answer) → WireEnds s next i w.count (Err a) → (0 < a.number) × Wired s start i w a.place (λ _. refused a.number a.place)
-  wires_refused a here = (
+  pub wires_refused : (few : count ≤ 128) (long : length list ≡ 128) (joined : Joined 64 list count) (a : Answer) → WireEnds s next i count (Err a)
+      → (0 < a.number) × Wired s start i (record { list = list; count = count; few = few; long = long; joined = joined }) a.place (λ _. refused a.number a.place)
+  wires_refused few long joined a here = (
     here.0,
     record {
-      reads = λ p m z. reached p m z ∙ here.2 (wired p (wires_of w.list w.count)) m so_far;
+      reads = λ p m z. reached p m z ∙ here.2 (wired p (wires_of list count)) m so_far;
       long = h.long;
       few = h.few;
       joined = h.joined;

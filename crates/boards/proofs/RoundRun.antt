@@ -21,7 +21,7 @@ use Rattle.records.specs.Write.{NodeCard, Card, head_bytes, node_bytes, wire_byt
 use Rattle.boards.specs.Obeys.{kind_of, records_from, as_read}
 use Rattle.records.specs.declared.record.Found.TheVariants.{Head, Node, End}
 use Rattle.records.specs.declared.record.Found.TheVariants as found
-use Rattle.boards.proofs.Sums.{lines_snoc, cells_snoc}
+use Rattle.boards.proofs.NodeSums.{lines_snoc, cells_snoc}
 use Rattle.boards.proofs.Run.{Done, run_add, run_next, run_ends}
 use Rattle.records.proofs.RoundBytes.{u16_on, u32_on, u16_back}
 use Rattle.records.proofs.RoundRecords.{found_in_lem}

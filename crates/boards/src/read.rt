@@ -179,8 +179,9 @@ fn wires_end(s: &[u8], at: usize) -> Result<(), Answer>
 }
 
 // The wires from the offset `start` on, on a board of i nodes, and the table of each node's sources,
-// gathered as they are read; the offset of the end record. A `while`: a turn passes a record, and the
-// first that is no wire ends it.
+// gathered as they are read; the offset of the end record. A local counts, and is stored at the end, as
+// in `read_nodes`: a store into the list could change a count beside it. A `while`: a turn passes a
+// record, and the first that is no wire ends it.
 // Ruled out, and tried by must-fail edits: a repeated wire that counts twice (sources,
 // repeat_counts), sources from the newest wire on (sources, newest_wire_first).
 pub fn read_wires(
@@ -196,18 +197,19 @@ pub fn read_wires(
     ensures table { Tabled (wires_of wires.new.list wires.new.count) sources.new.counts sources.new.lists sources.new.seconds }
 {
     let mut ins = [0u8; 64];
+    let mut count = 0;
     let mut next = start;
-    wires.count = 0;
-    while is_wire(s, next, i, wires.count) {
+    while is_wire(s, next, i, count) {
         let source = s[next + 4];
         let byte = s[next + 6];
         let target = usize::from(byte);
-        wires.list[wires.count] = (source, byte);
-        wires.count += 1;
+        wires.list[count] = (source, byte);
+        count += 1;
         sources.add(target, ins[target], source);
         ins[target] += 1;
         next += 8;
     }
+    wires.count = count;
     wires_end(s, next)?;
     Ok(next)
 }

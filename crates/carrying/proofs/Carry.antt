@@ -13,7 +13,7 @@ use Rattle.reading.specs.Visit.{choose}
 use Rattle.reading.proofs.Table.{or_right, or_left}
 use Rattle.carrying.specs.Carried.{Way, Carried, Change, Changes, mark, enter, through, walk, up_to, on_way, with_rest, copies, turn, look, skim, sources_before, sources_after, fresh, carry}
 use Rattle.carrying.proofs.Lists.{mem_one, mem_either, mem_second, through-append}
-use Rattle.carrying.proofs.Parts.{part, parts, parts_append, walk_seen, walk_new, part_seen, part_new, walk_marks, walk_listed, walk_keeps, through_keeps, part_off, Ahead, ahead_refl}
+use Rattle.carrying.proofs.ListParts.{part, parts, parts_append, walk_seen, walk_new, part_seen, part_new, walk_marks, walk_listed, walk_keeps, through_keeps, part_off, Ahead, ahead_refl}
 use Rattle.carrying.proofs.Depth.{left, left_mark, left_all, left_walk, left_through, walk_filled}
 use Rattle.carrying.proofs.Copying.{bare, Kept, kept_as, untouched, through_untouched, skim_bare, through_bare, skim_looks, cut, Next, late, late_through}
 

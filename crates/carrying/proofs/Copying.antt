@@ -12,7 +12,7 @@ use Rattle.reading.specs.Visit.{choose}
 use Rattle.reading.proofs.Table.{mem-head}
 use Rattle.carrying.specs.Carried.{Way, Carried, Change, Changes, mark, enter, through, walk, lay_one, lay, up_to, past, on_way, with_rest, copies, copy, turn, look, skim}
 use Rattle.carrying.proofs.Lists.{or_one, not_both, mem_parts, mem_neither, mem_either, mem_second, up_to_at, past_at, through-append}
-use Rattle.carrying.proofs.Parts.{part, parts, walk_seen, part_new, walk_marks, walk_keeps, part_off, parts_off, parts_without, lay_marks, lay_marked, Ahead, ahead_more, part_ahead, walk_laid}
+use Rattle.carrying.proofs.ListParts.{part, parts, walk_seen, part_new, walk_marks, walk_keeps, part_off, parts_off, parts_without, lay_marks, lay_marked, Ahead, ahead_more, part_ahead, walk_laid}
 
 -- nothing to copy
 abbrev pub bare : Way → Carried

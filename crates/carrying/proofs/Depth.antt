@@ -15,7 +15,7 @@ use Rattle.reading.specs.Visit.{choose}
 use Rattle.reading.proofs.Table.{or_right, or_left}
 use Rattle.carrying.specs.Carried.{Way, mark, enter, through, walk}
 use Rattle.carrying.proofs.Lists.{or_one, not_both}
-use Rattle.carrying.proofs.Parts.{walk_keeps, through_keeps}
+use Rattle.carrying.proofs.ListParts.{walk_keeps, through_keeps}
 
 -- ---- how many nodes below n are not marked
 

@@ -13,7 +13,7 @@ use Rattle.reading.proofs.Table.{or_right, or_left}
 use Rattle.sources.specs.Sources.{add_new, add_all, distinct}
 use Rattle.carrying.specs.Carried.{Way, mark, enter, through, walk}
 use Rattle.carrying.proofs.Lists.{or_one, mem-append, mem_neither, through-append}
-use Rattle.carrying.proofs.Parts.{walk_seen, through_keeps}
+use Rattle.carrying.proofs.ListParts.{walk_seen, through_keeps}
 
 -- ---- a source that comes again is marked by then
 

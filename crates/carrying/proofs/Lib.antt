@@ -1,6 +1,6 @@
 -- The carried list is the list found afresh.
 pub mod Lists
-pub mod Parts
+pub mod ListParts
 pub mod Depth
 pub mod Copying
 pub mod Carry

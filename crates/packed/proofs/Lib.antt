@@ -3,6 +3,6 @@ pub mod Triples
 pub mod Blocks
 pub mod Finite
 pub mod Head
-pub mod Lengths
+pub mod PackedLengths
 pub mod Refused
 pub mod Joined

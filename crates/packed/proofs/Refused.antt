@@ -22,7 +22,7 @@ use Rattle.context.specs.Block.{Outcome, as_left, ran_block}
 use Rattle.packed.specs.Packed.{floats_of, packed, check_packed_blocks, packed_in, packed_of}
 use Rattle.packed.specs.Said.{size_said, lengths_fit}
 use Rattle.packed.proofs.Head.{said_is}
-use Rattle.packed.proofs.Lengths.{other_lengths}
+use Rattle.packed.proofs.PackedLengths.{other_lengths}
 
 module _ (s m x l r : List ℕ) where
   abbrev found : Answer → Outcome

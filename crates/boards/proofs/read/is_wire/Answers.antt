@@ -1,7 +1,7 @@
 -- `boards::read::is_wire` meets its contract: the first four bytes say that a wire stands there, and only then does one. Assumes nothing.
 use mathlib.Core.Path.{sym, ap, ◌∙◌}
 use Rattle.boards.specs.BoardParts.{is_wire}
-use Rattle.boards.proofs.Parts.{starts_wire, starts_no_wire}
+use Rattle.boards.proofs.RecordSteps.{starts_wire, starts_no_wire}
 use Rattle.boards.proofs.read.is_wire.Goals as goal
 
 pub returns-then-starts_with : goal.returns-then-starts_with

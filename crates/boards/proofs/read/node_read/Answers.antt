@@ -1,7 +1,7 @@
 -- `boards::read::node_read` meets its contract: a node that is known by its first four bytes is the one found. Assumes nothing.
 use mathlib.Core.Path.{sym, ap, ◌∙◌}
 use Rattle.boards.specs.BoardParts.{node_read}
-use Rattle.boards.proofs.Parts.{starts_node, starts_no_node}
+use Rattle.boards.proofs.RecordSteps.{starts_node, starts_no_node}
 use Rattle.boards.proofs.read.node_read.Goals as goal
 
 pub returns-then-starts_with : goal.returns-then-starts_with

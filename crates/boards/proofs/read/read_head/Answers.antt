@@ -8,7 +8,7 @@ use Rattle.records.specs.declared.record.Found.TheVariants.{Head, Node, Wire, En
 use Rattle.records.specs.Record.{number_of, numbered}
 use Rattle.records.proofs.Found.{Room, room_of}
 use Rattle.boards.proofs.Answers.{refused_by}
-use Rattle.boards.proofs.Parts.{head_as, step_takes}
+use Rattle.boards.proofs.RecordSteps.{head_as, step_takes}
 use Rattle.boards.proofs.read.read_head.Goals as goal
 
 head_alone : (n : ℕ) (f : Found) → Room n 0 0 (Ok f) → (f ≡ Head) × Room n 0 0 (Ok Head)

@@ -7,7 +7,7 @@ use Rattle.boards.proofs.read.read_wires.Given as goal
 
 abbrev pub invariant-loop-ins : goal.invariant-loop-ins
 invariant-loop-ins l =
-    WiresSoFar l.s l.start l.i l.wires l.next × Tabling (wires_of l.wires.list l.wires.count) l.sources.counts l.sources.lists l.sources.seconds l.ins
+    WiresSoFar l.s l.start l.i l.wires.list l.count l.next × Tabling (wires_of l.wires.list l.count) l.sources.counts l.sources.lists l.sources.seconds l.ins
 
 abbrev pub decreases-loop-ins : goal.decreases-loop-ins
 decreases-loop-ins l = length l.s - l.next

@@ -6,7 +6,7 @@ use native.Mathlib.Omega.{arith}
 use borrow.Author.Rules.{rules}
 use lib.ListN.{length, length-set, set}
 use Rattle.decimals.specs.Big.{lowest}
-use Rattle.decimals.proofs.Sums.{weight, pow_more, lowest-more, lowest-next, difference_step, word_lt}
+use Rattle.decimals.proofs.WordSums.{weight, pow_more, lowest-more, lowest-next, difference_step, word_lt}
 use Rattle.decimals.proofs.big.minus.Goals as goal
 
 -- what a word leaves, and what it borrows

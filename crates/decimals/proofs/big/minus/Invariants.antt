@@ -2,7 +2,7 @@ use mathlib.Core.Path.{◌≡◌}
 use Prim.Native.Nat.{◌≤◌, ◌<◌, ◌+◌, ◌*◌}
 use lib.ListN.{length}
 use Rattle.decimals.specs.Big.{lowest}
-use Rattle.decimals.proofs.Sums.{weight}
+use Rattle.decimals.proofs.WordSums.{weight}
 use Rattle.decimals.proofs.big.minus.Given as goal
 
 abbrev pub invariant-loop-i : goal.invariant-loop-i

@@ -5,7 +5,7 @@ use native.Mathlib.Nat.{mul-one, pow-zero, pow-le-pow_right, mul-le-mul_left}
 use native.Mathlib.Omega.{arith}
 use borrow.Author.Rules.{rules}
 use Rattle.decimals.specs.Big.{limit}
-use Rattle.decimals.proofs.Sums.{raised_more}
+use Rattle.decimals.proofs.WordSums.{raised_more}
 use Rattle.decimals.proofs.big.raised.Goals as goal
 
 -- no power

@@ -8,7 +8,7 @@ use native.Mathlib.Nat.{mul-le-mul}
 use borrow.Author.Rules.{rules}
 use lib.ListN.{length, length-set}
 use Rattle.decimals.specs.Big.{lowest, limit}
-use Rattle.decimals.proofs.Sums.{weight, pow_more, lowest-more, lowest-next, product-step, no_carry}
+use Rattle.decimals.proofs.WordSums.{weight, pow_more, lowest-more, lowest-next, product-step, no_carry}
 use Rattle.decimals.proofs.big.times.Goals as goal
 
 -- the product of two words

@@ -5,7 +5,7 @@ use Prim.Native.Nat.{ℕ, ◌≤◌, ◌<◌, ◌^◌}
 use native.Mathlib.Nat.{pow-le-pow_right, lt_of_lt_of_le}
 use native.Mathlib.Omega.{arith}
 use borrow.Author.Rules.{rules}
-use Rattle.decimals.proofs.Sums.{pow_more, raised_more}
+use Rattle.decimals.proofs.WordSums.{pow_more, raised_more}
 use Rattle.decimals.proofs.nearest.divided.Goals as goal
 
 -- the digits found so far

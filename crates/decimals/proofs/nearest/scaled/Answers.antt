@@ -8,7 +8,7 @@ use Rattle.std.specs.Prelude.{Option, Some, None, MatchOption, is_some}
 use Rattle.decimals.specs.declared.big.Big.{Big}
 use Rattle.decimals.specs.Big.{value_of}
 use Rattle.decimals.proofs.Rounding.{few_doublings}
-use Rattle.decimals.proofs.Sums.{raised_more}
+use Rattle.decimals.proofs.WordSums.{raised_more}
 use Rattle.decimals.proofs.nearest.scaled.Goals as goal
 
 -- what a turn of the loop starts from

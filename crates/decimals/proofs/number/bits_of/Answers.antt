@@ -8,7 +8,7 @@ use lib.ListN.{drop}
 use Rattle.decimals.specs.Number.{hex_from}
 use Rattle.decimals.proofs.Question.{went_on, returned}
 use Rattle.decimals.proofs.Reading.{hex_more, hex_stop, hex_end, bits_long, bits_short}
-use Rattle.decimals.proofs.Sums.{pow_more}
+use Rattle.decimals.proofs.WordSums.{pow_more}
 use Rattle.decimals.proofs.number.bits_of.Goals as goal
 
 pub returns-then-digits-ne8 : goal.returns-then-digits-ne8
