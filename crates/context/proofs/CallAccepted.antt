@@ -12,7 +12,7 @@ use native.Mathlib.Omega.{arith}
 use lib.ListN.{length, take, drop}
 use lib.Seq.{paste, length-paste, length-take-le, length_paste_head}
 use Rattle.values.specs.Words.{words, length-words, words_append, words_take, words-drop}
-use Rattle.kinds.specs.Kind.{cell_size}
+use Rattle.kinds.specs.Kind.{cell_size, samples_from}
 use Rattle.kinds.specs.declared.kind.NodeRecord.{NodeRecord}
 use Rattle.boards.specs.Board.{Parsed, cells_of, memory_length}
 use Rattle.boards.specs.Formed.{TableAt}
@@ -82,27 +82,27 @@ module _ {m x l r : List ℕ} {b : Board} (run : AcceptedRun m x l r b) where
       record { long = run.long; judged = run.judged; input_long = sizes.0; left_long = sizes.1; right_long = sizes.2 }
 
   abbrev start : ℕ
-  start = (node_in b.nodes b.input).cell + 3
+  start = (node_in b.nodes b.input).cell + samples_from
 
   there : b.input < b.count
   there = omega (arith, run.fine.input_there, count_nodes b)
 
   -- the input node is a pass
-  input_cell : (node_at (parsed_of b) b.input).cell + (3 + b.size) ≤ cells_of b.size (parsed_of b).nodes
+  input_cell : (node_at (parsed_of b) b.input).cell + (samples_from + b.size) ≤ cells_of b.size (parsed_of b).nodes
   input_cell =
-      let size : cell_size b.size (kind_at (parsed_of b) b.input) ≡ 3 + b.size = ap (cell_size b.size) run.fine.input_pass ∙ omega arith in
+      let size : cell_size b.size (kind_at (parsed_of b) b.input) ≡ samples_from + b.size = ap (cell_size b.size) run.fine.input_pass ∙ omega arith in
       omega (arith, cell_in (parsed_of b) run.fine b.input run.fine.input_there)
 
-  start_is : (node_at (parsed_of b) b.input).cell + 3 ≡ start
-  start_is = ap (λ (n : NodeRecord). n.cell + 3) (node_in_lem b b.input there)
+  start_is : (node_at (parsed_of b) b.input).cell + samples_from ≡ start
+  start_is = ap (λ (n : NodeRecord). n.cell + samples_from) (node_in_lem b b.input there)
 
-  pub input_room : 4 * ((node_in b.nodes b.input).cell + 3) + 4 * b.size ≤ length m
+  pub input_room : 4 * ((node_in b.nodes b.input).cell + samples_from) + 4 * b.size ≤ length m
   input_room = omega (arith, input_cell, start_is, checked.long)
 
   -- node 0 is the destination
-  pub output_room : 4 * (3 + b.size + b.size) ≤ length m
+  pub output_room : 4 * (samples_from + b.size + b.size) ≤ length m
   output_room =
-      let size : cell_size b.size (kind_at (parsed_of b) 0) ≡ 3 + b.size + b.size = ap (cell_size b.size) run.fine.destination ∙ omega arith in
+      let size : cell_size b.size (kind_at (parsed_of b) 0) ≡ samples_from + b.size + b.size = ap (cell_size b.size) run.fine.destination ∙ omega arith in
       omega (arith, cell_in (parsed_of b) run.fine 0 run.fine.formed.some_nodes, checked.long)
 
   pub few_bytes : length m ≤ 1114880
@@ -110,7 +110,7 @@ module _ {m x l r : List ℕ} {b : Board} (run : AcceptedRun m x l r b) where
 
   -- ---- the input block copied in
 
-  module _ (m₁ : List ℕ) (put : m₁ ≡ paste m (4 * ((node_in b.nodes b.input).cell + 3)) x (length x)) where
+  module _ (m₁ : List ℕ) (put : m₁ ≡ paste m (4 * ((node_in b.nodes b.input).cell + samples_from)) x (length x)) where
     by_size : m₁ ≡ paste m (4 * start) x (4 * b.size)
     by_size = put ∙ ap (paste m (4 * start) x) checked.input_long
 

@@ -8,6 +8,7 @@ use lib.ListN.{length, take, drop, length-drop}
 use lib.Seq.{paste, length-paste, drop-length}
 use Rattle.values.specs.Words.{words, unwords, unwords-words, Bytes}
 use Rattle.values.specs.Parts.{part, words-part}
+use Rattle.kinds.specs.Kind.{samples_from}
 use Rattle.boards.specs.Board.{cells_of}
 use Rattle.memory.specs.Memory.{passed, listed}
 use Rattle.running.specs.Run.{run_block}
@@ -38,14 +39,14 @@ module _ {m x l r : List ℕ} {b : Board} (run : AcceptedRun m x l r b) (m' : Li
       ap length copied ∙ length-paste d 0 (drop (4 * at) m') (4 * b.size) (omega arith) (omega (arith, length-drop (4 * at) m')) ∙ size in
       unwords-words d' b.size long small ∙ ap unwords words_are
 
-  pub block_ran : (l' r' : List ℕ) → Bytes l' → Bytes r' → l' ≡ paste l 0 (drop 12 m') (length l)
-      → r' ≡ paste r 0 (drop (12 + length l) m') (length r) → as_left passed m' l' r' ≡ ran_block (parsed_of b) (listed (parsed_of b)) x m
+  pub block_ran : (l' r' : List ℕ) → Bytes l' → Bytes r' → l' ≡ paste l 0 (drop (4 * samples_from) m') (length l)
+      → r' ≡ paste r 0 (drop (4 * samples_from + length l) m') (length r) → as_left passed m' l' r' ≡ ran_block (parsed_of b) (listed (parsed_of b)) x m
   block_ran l' r' left-bytes right-bytes left-copied right-copied =
       let c = checked run in
       let p = parsed_of b in
-      let at : 12 + length l ≡ 4 * (3 + b.size) = omega (arith, c.left_long) in
+      let at : 4 * samples_from + length l ≡ 4 * (samples_from + b.size) = omega (arith, c.left_long) in
       let memory : m' ≡ unwords ws = unwords-words m' (cells_of p.size p.nodes) (kept ∙ c.long) bytes ∙ ap unwords ran in
-      let left : l' ≡ unwords (part ws 3 b.size) = channel l l' 3 c.left_long left-bytes (left-copied ∙ ap (paste l 0 (drop 12 m')) c.left_long) (omega (arith, output_room run)) in
-      let right : r' ≡ unwords (part ws (3 + b.size) b.size) =
-      channel r r' (3 + b.size) c.right_long right-bytes (right-copied ∙ (λ i. paste r 0 (drop (at i) m') (c.right_long i))) (omega (arith, output_room run)) in
+      let left : l' ≡ unwords (part ws samples_from b.size) = channel l l' samples_from c.left_long left-bytes (left-copied ∙ ap (paste l 0 (drop (4 * samples_from) m')) c.left_long) (omega (arith, output_room run)) in
+      let right : r' ≡ unwords (part ws (samples_from + b.size) b.size) =
+      channel r r' (samples_from + b.size) c.right_long right-bytes (right-copied ∙ (λ i. paste r 0 (drop (at i) m') (c.right_long i))) (omega (arith, output_room run)) in
       λ i. as_left passed (memory i) (left i) (right i)

@@ -13,7 +13,7 @@ use lib.Seq.{drop-cons}
 use lib.Ieee.{binary32, to_bits}
 use Rattle.values.specs.Words.{words}
 use Rattle.values.specs.Floats.{set_float}
-use Rattle.kinds.specs.Kind.{channels_of, line_of, cell_size}
+use Rattle.kinds.specs.Kind.{channels_of, line_of, cell_size, number_index}
 use Rattle.kinds.specs.Cell.{values_of, fresh_cell, number_of}
 use Rattle.kinds.specs.declared.kind.NodeKind.{NodeKind}
 use Rattle.kinds.specs.declared.kind.NodeRecord.{NodeRecord}
@@ -26,7 +26,7 @@ use Rattle.memory.specs.Stages.{put_numbers}
 
 module _ (nodes : List NodeRecord) (ws : List ℕ) (i : ℕ) where
   pub numbers_next : i < length nodes
-      → put_numbers (drop (i + 1) nodes) (set_float ws (node_in nodes i).cell (number_of (node_in nodes i).kind)) ≡ put_numbers (drop i nodes) ws
+      → put_numbers (drop (i + 1) nodes) (set_float ws ((node_in nodes i).cell + number_index) (number_of (node_in nodes i).kind)) ≡ put_numbers (drop i nodes) ws
   unfolding put_numbers
   numbers_next within = rw (add-one, drop-cons nodes i blank within)
 
@@ -36,7 +36,7 @@ module _ (nodes : List NodeRecord) (ws : List ℕ) (i : ℕ) where
 
 -- a number stored in a cell's zeros is the fresh cell
 fresh_cell_lem : (N : ℕ) (k : NodeKind) (rest : ℕ)
-    → set (replicate (cell_size N k + rest) 0) 0 (to_bits binary32 (number_of k)) ≡ values_of (fresh_cell N k) ++ replicate rest 0
+    → set (replicate (cell_size N k + rest) 0) number_index (to_bits binary32 (number_of k)) ≡ values_of (fresh_cell N k) ++ replicate rest 0
 unfolding values_of fresh_cell
 fresh_cell_lem N k rest =
     let size : cell_size N k + rest ≡ suc (suc (suc (N * channels_of k + (line_of k + rest)))) = omega arith in
@@ -55,12 +55,12 @@ numbers_row : (N : ℕ) (rs : List NodeRecord) (before : List ℕ) → InRow N (
 unfolding put_numbers
 numbers_row N [] before row = refl
 numbers_row N (r ∷ rs) before row =
-    let at : r.cell ≡ length before + 0 = row 0 (omega arith) in
+    let at : r.cell + number_index ≡ length before + number_index = omega (arith, row 0 (omega arith)) in
     let cell : List ℕ = values_of (fresh_cell N r.kind) in
     let zeros : List ℕ = replicate (cells_of N rs) 0 in
-    let stored : set_float (before ++ replicate (cells_of N (r ∷ rs)) 0) r.cell (number_of r.kind) ≡ (before ++ cell) ++ zeros =
+    let stored : set_float (before ++ replicate (cells_of N (r ∷ rs)) 0) (r.cell + number_index) (number_of r.kind) ≡ (before ++ cell) ++ zeros =
     ap (λ (n : ℕ). set_float (before ++ replicate (cells_of N (r ∷ rs)) 0) n (number_of r.kind)) at
-    ∙ set_append_right before (replicate (cells_of N (r ∷ rs)) 0) 0 (to_bits binary32 (number_of r.kind))
+    ∙ set_append_right before (replicate (cells_of N (r ∷ rs)) 0) number_index (to_bits binary32 (number_of r.kind))
     ∙ ap (λ (l : List ℕ). before ++ l) (fresh_cell_lem N r.kind (cells_of N rs))
     ∙ sym (append_assoc before cell zeros) in
     ap (put_numbers rs) stored

@@ -8,7 +8,6 @@ use mathlib.Core.Path.{◌≡◌, sym, ap, ◌∙◌}
 use mathlib.Core.Logic.{◌≢◌}
 use mathlib.Core.Bool.{Bool, true, false, cond, ◌&&◌}
 use mathlib.Core.List.{List, [], ◌∷◌, ◌++◌}
-use native.Mathlib.Nat.{add-zero}
 use native.Mathlib.Decide.{ℕ_discrete}
 use native.Mathlib.Numerals.{add-one}
 use native.Mathlib.Omega.{arith}
@@ -17,8 +16,7 @@ use lib.Dec.{T, ltb}
 use lib.Ieee.{Float, binary32, to_bits, fits}
 use lib.ListN.{length, set, take, drop, length-set}
 use lib.Seq.{drop-set-add, take-set-lt, set_split, append_snoc, paste}
-use Rattle.values.specs.Parts.{part}
-use Rattle.kinds.specs.Kind.{cell_size}
+use Rattle.kinds.specs.Kind.{cell_size, number_index}
 use Rattle.kinds.specs.Cell.{takes_number, value_fits, cell_fits}
 use Rattle.kinds.specs.declared.kind.NodeKind.{NodeKind}
 use Rattle.kinds.specs.declared.kind.NodeRecord.{NodeRecord}
@@ -81,23 +79,22 @@ set-paste l i v h =
 
 module _ (p : Parsed) (fine : Fine p) (ws : List ℕ) (long : Whole p ws) (k : ℕ) (x : Float) (there : k < length p.nodes) where
   pub set_long : length (put_number p k x ws) ≡ length ws
-  set_long = length-set ws (node_at p k).cell (to_bits binary32 x)
+  set_long = length-set ws ((node_at p k).cell + number_index) (to_bits binary32 x)
 
-  inside : (node_at p k).cell < length ws
+  inside : (node_at p k).cell + number_index < length ws
   inside = omega (arith, cell_in p fine k there)
 
-  set_own : cell_at p (put_number p k x ws) k ≡ set (cell_at p ws k) 0 (to_bits binary32 x)
+  set_own : cell_at p (put_number p k x ws) k ≡ set (cell_at p ws k) number_index (to_bits binary32 x)
   set_own =
       let at = (node_at p k).cell in
       let v = to_bits binary32 x in
-      ap (λ (c : ℕ). part (set ws c v) at (cell_size p.size (kind_at p k))) (sym (add-zero at))
-      ∙ ap (take (cell_size p.size (kind_at p k))) (drop-set-add at ws 0 v)
-      ∙ take-set-lt (cell_size p.size (kind_at p k)) (drop at ws) 0 v (omega arith)
+      ap (take (cell_size p.size (kind_at p k))) (drop-set-add at ws number_index v)
+      ∙ take-set-lt (cell_size p.size (kind_at p k)) (drop at ws) number_index v (omega arith)
 
   set_other : (j : ℕ) → j < length p.nodes → j ≢ k → cell_at p (put_number p k x ws) j ≡ cell_at p ws j
   set_other j l other =
-      ap (λ (r : List ℕ). cell_at p r j) (set-paste ws (node_at p k).cell (to_bits binary32 x) inside)
-      ∙ paste_other p fine ws long k there (node_at p k).cell (to_bits binary32 x ∷ []) 1 (omega arith) (omega arith) (omega arith) j l other
+      ap (λ (r : List ℕ). cell_at p r j) (set-paste ws ((node_at p k).cell + number_index) (to_bits binary32 x) inside)
+      ∙ paste_other p fine ws long k there ((node_at p k).cell + number_index) (to_bits binary32 x ∷ []) 1 (omega arith) (omega arith) (omega arith) j l other
 
   pub set_judged : T (fits binary32 x) → value_fits (kind_at p k) x ≡ true → Judged p ws → Judged p (put_number p k x ws)
   set_judged f v h j l = go (ℕ_discrete j k)

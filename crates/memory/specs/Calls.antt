@@ -1,12 +1,13 @@
 -- What the calls on a board's bytes and its memory share (document 01, "Answers by number"), the fresh call and the number message: the answer,
 -- and every byte afterwards. A refused call leaves every byte as found. Definitions only.
-use Rattle.std.specs.Prelude.{ℕ, cond, ◌&&◌, List, length, set, eqb, ltb, Float}
+use Rattle.std.specs.Prelude.{ℕ, ◌+◌, cond, ◌&&◌, List, length, set, eqb, ltb, Float}
 use Rattle.std.specs.Float.{binary32}
 use Rattle.std.specs.Float.Ieee.{to_bits}
 use Rattle.values.specs.Words.{words, unwords}
 use Rattle.records.specs.Answer.{answer}
 use Rattle.boards.specs.Board.{Parsed, Progress, going, refused, whole, memory_length}
 use Rattle.boards.specs.Judge.{read_board}
+use Rattle.kinds.specs.Kind.{number_index}
 use Rattle.kinds.specs.Cell.{takes_number, value_fits}
 use Rattle.memory.specs.Memory.{passed, node_at, kind_at, fresh_values, check_cells}
 use Rattle.records.specs.declared.answer.Answer.{Answer}
@@ -61,9 +62,9 @@ check_number p k x =
 abbrev pub check_message : Parsed → List ℕ → ℕ → Float → Answer
 check_message p m k x = check_memory p m (check_number p k x)
 
--- the number is the first value of the node's cell
+-- the number, in the node's cell
 abbrev pub put_number : Parsed → ℕ → Float → List ℕ → List ℕ
-put_number p k x ws = set ws (node_at p k).cell (to_bits binary32 x)
+put_number p k x ws = set ws ((node_at p k).cell + number_index) (to_bits binary32 x)
 
 unfoldable pub message_of : List ℕ → List ℕ → ℕ → Float → Answer × List ℕ
 message_of board m k x = change_by m (λ p. check_message p m k x) (λ p. put_number p k x (words m)) (read_board board)

@@ -1,7 +1,7 @@
 -- What the parts of the calls ask of the code's arrays, and what they leave. Definitions only.
 use Rattle.std.specs.Prelude.{ℕ, ◌+◌, ◌*◌, ◌≤◌, ◌<◌, ◌≡◌, List, [], ◌∷◌, length, Result, Ok, Err}
 use Rattle.values.specs.Floats.{set_float}
-use Rattle.kinds.specs.Kind.{samples_from}
+use Rattle.kinds.specs.Kind.{number_index, samples_from}
 use Rattle.kinds.specs.Cell.{number_of}
 use Rattle.kinds.specs.declared.kind.NodeRecord.{NodeRecord}
 use Rattle.boards.specs.Board.{Parsed, Progress, going, refused, whole, memory_length}
@@ -48,7 +48,7 @@ Opened v lent (Err a) = Refuses v a
 abbrev pub CellsIn : List NodeRecord → ℕ → ℕ → Type 0
 CellsIn nodes n long = (k : ℕ) → k < n → 4 * ((node_in nodes k).cell + samples_from) ≤ long
 
--- the values with each node's number stored at the start of its cell
+-- the values with each node's number stored in its cell
 unfoldable pub put_numbers : List NodeRecord → List ℕ → List ℕ
 put_numbers [] ws = ws
-put_numbers (r ∷ rs) ws = put_numbers rs (set_float ws r.cell (number_of r.kind))
+put_numbers (r ∷ rs) ws = put_numbers rs (set_float ws (r.cell + number_index) (number_of r.kind))

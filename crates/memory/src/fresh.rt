@@ -6,18 +6,18 @@ ghost use Rattle.memory.specs.Calls.{fresh_of};
 ghost use Rattle.memory.specs.Stages.{CellsIn, put_numbers};
 
 use crate::open::opened;
-use kinds::cell::number_of;
+use kinds::cell::{NUMBER, number_of};
 use kinds::kind::NodeRecord;
 use records::answer::Answer;
 use values::float::store;
 
-// Each node's number, at the start of its cell.
+// Each node's number, in its cell.
 fn put_numbers(nodes: &[NodeRecord], memory: &mut [u8])
     requires { CellsIn nodes.now (length nodes.now) (length memory.old) }
     ensures { words memory.new ≡ put_numbers nodes.now (words memory.old) }
 {
     for node in nodes {
-        store(memory, node.cell as usize, number_of(node.kind));
+        store(memory, node.cell as usize + NUMBER, number_of(node.kind));
     }
 }
 

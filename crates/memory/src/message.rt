@@ -8,7 +8,7 @@ ghost use Rattle.memory.specs.Calls.{check_number, put_number, message_of};
 
 use crate::open::judged;
 use boards::board::Board;
-use kinds::cell::{takes_number, value_fits};
+use kinds::cell::{NUMBER, takes_number, value_fits};
 use records::answer::Answer;
 use values::float::store;
 
@@ -38,7 +38,7 @@ pub fn put_number(board: &Board, k: usize, value: f32, memory: &mut [u8])
     requires memory_len { length memory.old ≡ 4 * board.now.values }
     ensures { words memory.new ≡ put_number (parsed_of board.now) k value (words memory.old) }
 {
-    store(memory, board.nodes[k].cell as usize, value);
+    store(memory, board.nodes[k].cell as usize + NUMBER, value);
 }
 
 // The number set, or the first refusal. Every check comes first, so a refusal leaves every byte as found.

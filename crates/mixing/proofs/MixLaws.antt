@@ -1,6 +1,6 @@
 -- Laws of the mix message: an accepted one is its four number messages, one after the other (`mix_four`), and after it the four cells hold
 -- mix and 1 − mix (`mix_holds`). Assumes nothing.
-use Prim.Native.Nat.{ℕ, ◌<◌}
+use Prim.Native.Nat.{ℕ, ◌+◌, ◌<◌}
 use mathlib.Core.Path.{◌≡◌, refl, sym, ap, ◌∙◌, subst}
 use mathlib.Core.Bool.{true, cond, ◌&&◌}
 use mathlib.Core.List.{List}
@@ -13,6 +13,7 @@ use lib.ListN.{length, get_or, length-set}
 use lib.Seq.{get_or-set_same, get_or-set_other}
 use Rattle.values.specs.Floors.{f1, finite_f}
 use Rattle.values.specs.Words.{words, unwords, length-words, words-unwords, length-unwords, Bytes}
+use Rattle.kinds.specs.Kind.{number_index}
 use Rattle.kinds.specs.Cell.{takes_number, value_fits}
 use Rattle.kinds.specs.declared.kind.NodeKind.{NodeKind}
 use Rattle.kinds.proofs.Rows.{row_laws}
@@ -130,20 +131,20 @@ module _ (s : List ℕ) (p : Parsed) (reads : read_board s ≡ whole p) (fine : 
     -- ---- the four cells
 
     -- two of the nodes, the first before the second, have their numbers at different places
-    apart : (j k : ℕ) → j < k → k < length p.nodes → (node_at p j).cell ≡ (node_at p k).cell → ⊥
+    apart : (j k : ℕ) → j < k → k < length p.nodes → (node_at p j).cell + number_index ≡ (node_at p k).cell + number_index → ⊥
     apart j k h there e = omega (arith, cell_apart p fine j k h there)
 
-    inside : (k : ℕ) → k < length p.nodes → (node_at p k).cell < length (words m)
+    inside : (k : ℕ) → k < length p.nodes → (node_at p k).cell + number_index < length (words m)
     inside k there = omega (arith, cell_in p fine k there, all m (words m) start 41 told.left_wet mix fit told.number)
 
     -- node k's number is set, and what others then set leaves it
     set_here : (ws : List ℕ) (k : ℕ) (x : Float) → length ws ≡ length (words m) → k < length p.nodes
-        → get_or (put_number p k x ws) (node_at p k).cell 0 ≡ to_bits binary32 x
-    set_here ws k x e there = get_or-set_same ws (node_at p k).cell (to_bits binary32 x) 0 (omega (arith, inside k there))
+        → get_or (put_number p k x ws) ((node_at p k).cell + number_index) 0 ≡ to_bits binary32 x
+    set_here ws k x e there = get_or-set_same ws ((node_at p k).cell + number_index) (to_bits binary32 x) 0 (omega (arith, inside k there))
 
-    set_there : (ws : List ℕ) (j k : ℕ) (x : Float) → ((node_at p j).cell ≡ (node_at p k).cell → ⊥)
-        → get_or (put_number p k x ws) (node_at p j).cell 0 ≡ get_or ws (node_at p j).cell 0
-    set_there ws j k x h = get_or-set_other ws (node_at p k).cell (node_at p j).cell (to_bits binary32 x) 0 h
+    set_there : (ws : List ℕ) (j k : ℕ) (x : Float) → ((node_at p j).cell + number_index ≡ (node_at p k).cell + number_index → ⊥)
+        → get_or (put_number p k x ws) ((node_at p j).cell + number_index) 0 ≡ get_or ws ((node_at p j).cell + number_index) 0
+    set_there ws j k x h = get_or-set_other ws ((node_at p k).cell + number_index) ((node_at p j).cell + number_index) (to_bits binary32 x) 0 h
 
     holds : HoldsMix p mix (set_mix p mix (words m))
     holds =

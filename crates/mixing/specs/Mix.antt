@@ -1,11 +1,11 @@
 -- The mix message (document 01, "Plate" and "Answers by number"): it sets 41, 47 to mix, then 43, 49 to 1 − mix, and all four must be muls.
 -- Its answer, and every byte of the memory afterwards. Definitions only.
-use Rattle.std.specs.Prelude.{ℕ, ◌≡◌, Bool, cond, ◌&&◌, List, length, get_or, ltb, eqb, Float}
+use Rattle.std.specs.Prelude.{ℕ, ◌+◌, ◌≡◌, Bool, cond, ◌&&◌, List, length, get_or, ltb, eqb, Float}
 use Rattle.std.specs.Float.{binary32}
 use Rattle.std.specs.Float.Ieee.{to_bits}
 use Rattle.values.specs.Floors.{finite_f}
 use Rattle.values.specs.Words.{words}
-use Rattle.kinds.specs.Kind.{type_of}
+use Rattle.kinds.specs.Kind.{type_of, number_index}
 use Rattle.kinds.specs.declared.kind.NodeKind.{NodeKind}
 use Rattle.records.specs.Answer.{answer}
 use Rattle.boards.specs.Board.{Parsed}
@@ -60,7 +60,7 @@ pub record IsFour (board m : List ℕ) (mix : Float) : Type 0 where
 
 -- and the four cells hold mix and 1 − mix
 pub record HoldsMix (p : Parsed) (mix : Float) (ws : List ℕ) : Type 0 where
-  pub left_wet : get_or ws (node_at p 41).cell 0 ≡ to_bits binary32 mix
-  pub right_wet : get_or ws (node_at p 47).cell 0 ≡ to_bits binary32 mix
-  pub left_dry : get_or ws (node_at p 43).cell 0 ≡ to_bits binary32 (dry_of mix)
-  pub right_dry : get_or ws (node_at p 49).cell 0 ≡ to_bits binary32 (dry_of mix)
+  pub left_wet : get_or ws ((node_at p 41).cell + number_index) 0 ≡ to_bits binary32 mix
+  pub right_wet : get_or ws ((node_at p 47).cell + number_index) 0 ≡ to_bits binary32 mix
+  pub left_dry : get_or ws ((node_at p 43).cell + number_index) 0 ≡ to_bits binary32 (dry_of mix)
+  pub right_dry : get_or ws ((node_at p 49).cell + number_index) 0 ≡ to_bits binary32 (dry_of mix)

@@ -11,11 +11,10 @@ use borrow.Author.Tests.{ltb-true, lt-ltb}
 use lib.ListN.{length}
 use lib.Dec.{T, ltb}
 use lib.Ieee.{Float, binary32, of_bits, to_bits, fits, round, mul, div, eq, lt, le}
-use lib.Ieee.Bits.{of_bits-to_bits}
 use lib.Ieee.Fits.{sub-fits}
 use Rattle.values.specs.Floors.{f1, finite_f, within, floor_of}
 use Rattle.leaves.specs.Lengths.{samples_of, delay_of, all_pass_of, place_of}
-use Rattle.values.proofs.Patterns.{pattern_lt}
+use Rattle.values.proofs.Patterns.{pattern_lt, pattern_finite}
 use Rattle.kinds.specs.Kind.{line_of, rule_of}
 use Rattle.values.specs.Floats.{finite_bits}
 use Rattle.kinds.specs.declared.kind.NodeKind.{NodeKind}
@@ -183,16 +182,13 @@ module _ (N mix dry : ℕ) where
 
 -- ---- the written plate
 
-finite_bits_lem : (x : Float) → T (fits binary32 x) → finite_f x ≡ true → finite_bits (to_bits binary32 x) ≡ true
-finite_bits_lem x h e = ap finite_f (of_bits-to_bits binary32 x h) ∙ e
-
 pub plate_written : (N : ℕ) (mix : Float) (b : List ℕ) → 1 ≤ N → N ≤ 128 → T (fits binary32 mix) → finite_f mix ≡ true → length b ≡ 1270 → WrittenPlate N mix b
 plate_written N mix b least most mix-fits number long =
     let e = written N mix b (size_in N least most) number long in
     let dry-fits = sub-fits binary32 f1 mix in
     let facts =
-    plate_facts N (to_bits binary32 mix) (to_bits binary32 (dry_of mix)) (pattern_lt mix mix-fits) (finite_bits_lem mix mix-fits number)
-    (pattern_lt (dry_of mix) dry-fits) (finite_bits_lem (dry_of mix) dry-fits (dry_finite mix mix-fits number)) least most in
+    plate_facts N (to_bits binary32 mix) (to_bits binary32 (dry_of mix)) (pattern_lt mix mix-fits) (pattern_finite mix mix-fits ∙ number)
+    (pattern_lt (dry_of mix) dry-fits) (pattern_finite (dry_of mix) dry-fits ∙ dry_finite mix mix-fits number) least most in
     record {
       answered = ap answer_of e;
       bytes = ap bytes_of e;

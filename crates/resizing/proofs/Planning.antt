@@ -38,8 +38,8 @@ use Rattle.graph.proofs.Late.{late-more}
 use Rattle.boards.proofs.Round.{read_write}
 use Rattle.boards.proofs.RoundSix.{records_length}
 use Rattle.memory.specs.Memory.{listed, kind_at}
-use Rattle.resizing.specs.declared.resize.Reason.{Reason}
-use Rattle.resizing.specs.declared.resize.Reason.TheVariants.{NoSize, ManyLate, NoDelay, TooShort, TooLong, TooMuch}
+use Rattle.resizing.specs.declared.resize.NotCarried.{NotCarried}
+use Rattle.resizing.specs.declared.resize.NotCarried.TheVariants.{NoSize, ManyLate, NoDelay, TooShort, TooLong, TooMuch}
 use Rattle.resizing.specs.declared.resize.Resized.{Resized}
 use Rattle.resizing.specs.declared.resize.Resized.TheVariants.{Same, Size, Line}
 use Rattle.resizing.specs.Planning.{last_target, Lates, Room}
@@ -81,14 +81,14 @@ last_there m l ws n t h d = go (late_wires l ws) (late_are (WireObeys m) l ws h)
 -- ---- the late wire's target k, a delay of n samples or of 0
 
 -- what becomes of it, by the code's tests
-pub data Tested (p : Parsed) (M k n : ℕ) : Result Resized Reason → Type 0 where
+pub data Tested (p : Parsed) (M k n : ℕ) : Result Resized NotCarried → Type 0 where
   no_delay : n ≡ 0 → Tested p M k n (Err (NoDelay k))
   too_short : (n ≡ 0 → ⊥) → n + p.size ≤ M → Tested p M k n (Err (TooShort k n))
   too_long : (n ≡ 0 → ⊥) → M < n + p.size → 132300 + M < n + p.size → Tested p M k n (Err (TooLong k n))
   too_much : (n ≡ 0 → ⊥) → M < n + p.size → n + p.size ≤ 132300 + M → 262144 + M < lines_of p.nodes + p.size → Tested p M k n (Err (TooMuch k n))
   carried : (n ≡ 0 → ⊥) → M < n + p.size → n + p.size ≤ 132300 + M → lines_of p.nodes + p.size ≤ 262144 + M → Tested p M k n (Ok (Line k n (n + p.size - M)))
 
-pub tested : (p : Parsed) (M k n : ℕ) {r : Result Resized Reason} → Tested p M k n r → r ≡ line_by p M k n
+pub tested : (p : Parsed) (M k n : ℕ) {r : Result Resized NotCarried} → Tested p M k n r → r ≡ line_by p M k n
 tested p M k n (no_delay e) = rw (eq-eqb n 0 e)
 tested p M k n (too_short some l) = rw (ne_eqb n 0 some, le-leb (n + p.size) M l)
 tested p M k n (too_long some more l) = rw (ne_eqb n 0 some, lt-leb (n + p.size) M more, lt-leb (n + p.size) (132300 + M) l)
@@ -139,8 +139,8 @@ pub record Corrects (p : Parsed) (M k n m : ℕ) : Type 0 where
   pub as_long : n + p.size ≡ m + M
 
 -- what is stored: nothing, the size, or the size and a line
-pub data Planned (p : Parsed) (M : ℕ) : Result Resized Reason → Type 0 where
-  kept : {r : Reason} → Planned p M (Err r)
+pub data Planned (p : Parsed) (M : ℕ) : Result Resized NotCarried → Type 0 where
+  kept : {r : NotCarried} → Planned p M (Err r)
   already : M ≡ p.size → Planned p M (Ok Same)
   size_stored : Another p M → late_wires (listed p) p.wires ≡ [] → Planned p M (Ok Size)
   line_stored : (k n m : ℕ) → Corrects p M k n m → Planned p M (Ok (Line k n m))
@@ -158,7 +158,7 @@ no_delay_is = each (λ k. ((n : ℕ) → k ≡ Delay n → ⊥) → delay_of k �
     none h = refl
 
 module _ (p : Parsed) (M : ℕ) where
-  one_view : (w : Wire) {r : Result Resized Reason} → Another p M → late_wires (listed p) p.wires ≡ w ∷ [] → Tested p M w.target (delay_of (kind_at p w.target)) r
+  one_view : (w : Wire) {r : Result Resized NotCarried} → Another p M → late_wires (listed p) p.wires ≡ w ∷ [] → Tested p M w.target (delay_of (kind_at p w.target)) r
       → Planned p M r
   one_view w h e (no_delay _) = kept
   one_view w h e (too_short _ _) = kept

@@ -6,7 +6,7 @@ ghost use Rattle.boards.specs.Read.{parsed_of};
 ghost use Rattle.boards.specs.Wires.{wires_of};
 ghost use Rattle.memory.specs.Memory.{kind_at, listed};
 ghost use Rattle.memory.specs.Fine.{Fine};
-ghost use Rattle.resizing.specs.declared.resize.Reason.TheVariants.{Refused};
+ghost use Rattle.resizing.specs.declared.resize.NotCarried.TheVariants.{Refused};
 ghost use Rattle.resizing.specs.Resize.{delay_of, line_by, plan_of, resized_of, bytes_after};
 ghost use Rattle.resizing.specs.Planning.{Lates, Whole, Room};
 
@@ -19,7 +19,7 @@ use values::bytes::{put_u16, put_u32};
 
 // Why a board is not carried to another block size.
 #[derive(Clone, Copy)]
-pub enum Reason {
+pub enum NotCarried {
     // The judge refuses it.
     Refused(Answer),
     // A block size is 1 to 128.
@@ -36,11 +36,11 @@ pub enum Reason {
     TooMuch(u32, u32),
 }
 
-impl From<Answer> for Reason {
+impl From<Answer> for NotCarried {
     ghost from_gives = { λ a r. r ≡ Refused a };
 
-    fn from(refused: Answer) -> Reason {
-        Reason::Refused(refused)
+    fn from(refused: Answer) -> NotCarried {
+        NotCarried::Refused(refused)
     }
 }
 
@@ -93,24 +93,24 @@ fn late_among(wires: &Wires, places: &Places) -> Late
 }
 
 // The line of the late wire's target, node k, at blocks of the given size.
-fn corrected(board: &Board, k: usize, size: u32) -> Result<Resized, Reason>
+fn corrected(board: &Board, k: usize, size: u32) -> Result<Resized, NotCarried>
     requires { Fine (parsed_of board.now) × (k < board.now.count) }
     ensures { result ≡ line_by (parsed_of board.now) size k (delay_of (kind_at (parsed_of board.now) k)) }
 {
     let node = k as u32;
     let NodeKind::Delay(n) = board.nodes[k].kind else {
-        return Err(Reason::NoDelay(node));
+        return Err(NotCarried::NoDelay(node));
     };
     let size = size as usize;
     let long = n as usize + board.size;
     if long <= size {
-        return Err(Reason::TooShort(node, n));
+        return Err(NotCarried::TooShort(node, n));
     }
     if 132300 + size < long {
-        return Err(Reason::TooLong(node, n));
+        return Err(NotCarried::TooLong(node, n));
     }
     if 262144 + size < lines_of(board.listed()) + board.size {
-        return Err(Reason::TooMuch(node, n));
+        return Err(NotCarried::TooMuch(node, n));
     }
     Ok(Resized::Line(node, n, (long - size) as u32))
 }
@@ -125,19 +125,19 @@ fn board_late(board: &Board) -> Late
 }
 
 // What is to be done to an accepted board.
-fn planned(board: &Board, size: u32) -> Result<Resized, Reason>
+fn planned(board: &Board, size: u32) -> Result<Resized, NotCarried>
     requires { Whole board.now }
     ensures { result ≡ plan_of (parsed_of board.now) size }
 {
     if (size < 1) | (128 < size) {
-        return Err(Reason::NoSize);
+        return Err(NotCarried::NoSize);
     }
     if size as usize == board.size {
         return Ok(Resized::Same);
     }
     let late = board_late(board);
     if 1 < late.count {
-        return Err(Reason::ManyLate(late.count));
+        return Err(NotCarried::ManyLate(late.count));
     }
     let Some(k) = late.target else {
         return Ok(Resized::Size);
@@ -167,7 +167,7 @@ fn put_resized(bytes: &mut [u8], size: u32, resized: Resized)
 // Ruled out, and tried by must-fail edits: one that changes the size alone though a wire is late
 // (line_not_corrected), one that takes a board with two late wires (two_late_wires) or corrects an
 // all-pass (all_pass_corrected), one that stores the line in the next node (next_node_corrected).
-pub fn resize(bytes: &mut [u8], size: u32) -> Result<Resized, Reason>
+pub fn resize(bytes: &mut [u8], size: u32) -> Result<Resized, NotCarried>
     ensures { (result ≡ resized_of bytes.old size) × (bytes.new ≡ bytes_after bytes.old size result) }
 {
     let board = read_board(bytes)?;

@@ -16,7 +16,7 @@ use lib.Seq.{get_or-take, get_or-drop, drop-cons, length-take-le, take-length, e
 use Rattle.values.specs.Words.{words, length-words}
 use Rattle.values.specs.Floats.{float_at}
 use Rattle.kinds.specs.Row.{Writes, mono, keeping, stereo, row_of}
-use Rattle.kinds.specs.Kind.{channels_by, channels_of, line_of, cell_size}
+use Rattle.kinds.specs.Kind.{channels_by, channels_of, line_of, cell_size, samples_from}
 use Rattle.kinds.specs.Rule.{Brought}
 use Rattle.operators.specs.Sums.{InMemory}
 use Rattle.nodes.specs.Ready.{Ready}
@@ -51,12 +51,12 @@ use Rattle.running.proofs.RunLaws.{node_judged}
 
 -- channel 0, and what the destination's channel 1 reads, lie within the cell; a kind has one channel or two
 record Within (N : ℕ) (k : NodeKind) : Type 0 where
-  left : 3 + N ≤ cell_size N k
-  right : 3 + N * (channels_of k - 1) + N ≤ cell_size N k
+  left : samples_from + N ≤ cell_size N k
+  right : samples_from + N * (channels_of k - 1) + N ≤ cell_size N k
   some : 1 ≤ channels_of k
   few : channels_of k ≤ 2
 
-samples_by : (N m : ℕ) (w : Writes) → (3 + N ≤ 3 + N * channels_by w + m) × (3 + N * (channels_by w - 1) + N ≤ 3 + N * channels_by w + m)
+samples_by : (N m : ℕ) (w : Writes) → (samples_from + N ≤ samples_from + N * channels_by w + m) × (samples_from + N * (channels_by w - 1) + N ≤ samples_from + N * channels_by w + m)
     × (1 ≤ channels_by w) × (channels_by w ≤ 2)
 samples_by N m (mono l) = omega arith
 samples_by N m (keeping l) = omega arith

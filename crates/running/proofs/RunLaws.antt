@@ -12,7 +12,7 @@ use native.Mathlib.Decide.{ℕ_discrete}
 use lib.ListN.{length, drop, length-drop}
 use lib.Seq.{length-take-le}
 use Rattle.values.specs.Parts.{part, part_before}
-use Rattle.kinds.specs.Kind.{cell_size}
+use Rattle.kinds.specs.Kind.{cell_size, samples_from}
 use Rattle.kinds.specs.Cell.{cell_fits, run_values}
 use Rattle.kinds.specs.Node.{node_run}
 use Rattle.kinds.specs.declared.kind.NodeKind.{NodeKind}
@@ -63,9 +63,9 @@ module _ (p : Parsed) (fine : Fine p) (ws : List ℕ) (long : Whole p ws) where
     i = p.input
 
     abbrev start : ℕ
-    start = (node_at p p.input).cell + 3
+    start = (node_at p p.input).cell + samples_from
 
-    size : cell_size p.size (kind_at p i) ≡ 3 + p.size
+    size : cell_size p.size (kind_at p i) ≡ samples_from + p.size
     size = ap (cell_size p.size) fine.input_pass ∙ omega arith
 
     pub input_long : length (put_input p xs ws) ≡ length ws
@@ -77,15 +77,15 @@ module _ (p : Parsed) (fine : Fine p) (ws : List ℕ) (long : Whole p ws) where
     input_other = paste_other p fine ws long i fine.input_there start xs p.size (omega arith) (omega (arith, size)) (omega arith)
 
     -- its judged values
-    before_samples : part (put_input p xs ws) (node_at p i).cell 3 ≡ part ws (node_at p i).cell 3
+    before_samples : part (put_input p xs ws) (node_at p i).cell samples_from ≡ part ws (node_at p i).cell samples_from
     unfolding put_input
     before_samples =
         part_before ws start xs p.size (inside p fine ws long i fine.input_there start xs p.size (omega arith) (omega (arith, size)) (omega arith)) (omega arith)
-        (node_at p i).cell 3 (omega arith)
+        (node_at p i).cell samples_from (omega arith)
 
-    -- a pass's cell fits as its first three values do
-    first_three : (vs : List ℕ) → cell_fits (kind_at p i) (cell_at p vs i) ≡ cell_fits Pass (part vs (node_at p i).cell 3)
-    first_three vs =
+    -- a pass's cell fits as the values before its samples do
+    by_head : (vs : List ℕ) → cell_fits (kind_at p i) (cell_at p vs i) ≡ cell_fits Pass (part vs (node_at p i).cell samples_from)
+    by_head vs =
         ap (λ (k : NodeKind). cell_fits k (part vs (node_at p i).cell (cell_size p.size k))) fine.input_pass
         ∙ fits_part Pass p.size (node_at p i).cell vs ∙ sym (fits_part Pass 0 (node_at p i).cell vs)
 
@@ -93,7 +93,7 @@ module _ (p : Parsed) (fine : Fine p) (ws : List ℕ) (long : Whole p ws) where
     input_judged h j l = go (ℕ_discrete j i)
       where
         own : cell_fits (kind_at p i) (cell_at p (put_input p xs ws) i) ≡ true
-        own = first_three (put_input p xs ws) ∙ ap (cell_fits Pass) before_samples ∙ sym (first_three ws) ∙ h i fine.input_there
+        own = by_head (put_input p xs ws) ∙ ap (cell_fits Pass) before_samples ∙ sym (by_head ws) ∙ h i fine.input_there
 
         go : Dec (j ≡ i) → cell_fits (kind_at p j) (cell_at p (put_input p xs ws) j) ≡ true
         go (yes e) = rw e own

@@ -17,7 +17,7 @@ use lib.Ieee.{Float, binary32, to_bits}
 use lib.ListN.{length, get_or, set, length-append, length-map}
 use lib.Seq.{paste, set_at}
 use Rattle.values.specs.Parts.{part}
-use Rattle.kinds.specs.Kind.{channels_of}
+use Rattle.kinds.specs.Kind.{channels_of, number_index, samples_from}
 use Rattle.kinds.specs.Rule.{Frame, State}
 use Rattle.kinds.specs.Cell.{values_of}
 use Rattle.kinds.specs.declared.kind.NodeKind.{NodeKind}
@@ -86,7 +86,7 @@ module _ (p : Parsed) (fine : Fine p) (c : Cells) (long : Long p c) (k : ℕ) (t
   back : List ℕ
   back = state.line ++ here.after
 
-  front_long : length front ≡ (node_at p k).cell + 3
+  front_long : length front ≡ (node_at p k).cell + samples_from
   unfolding front
   front_long = length-append here.before (state.number ∷ state.carry ∷ state.place ∷ []) ∙ omega (arith, here.start)
 
@@ -101,13 +101,13 @@ module _ (p : Parsed) (fine : Fine p) (c : Cells) (long : Long p c) (k : ℕ) (t
       here.then (record { state = state; samples = fs })
       ∙ regroup here.before (samples_of (channels_of (kind_at p k)) fs) state.line here.after state.number state.carry state.place
 
-  pub number_shown : (v : ℕ) → set (shown p c) (node_at p k).cell v
+  pub number_shown : (v : ℕ) → set (shown p c) ((node_at p k).cell + number_index) v
       ≡ shown p (put c k (record { state = record { number = v; carry = (c k).state.carry; place = (c k).state.place; line = (c k).state.line }; samples = (c k).samples }))
   unfolding values_of
   number_shown v =
       let rest : List ℕ = state.carry ∷ state.place ∷ ((cell_in p c k).samples ++ state.line) in
-      ap (λ (l : List ℕ). set l (node_at p k).cell v) here.now
-      ∙ set_at here.before state.number (rest ++ here.after) v (node_at p k).cell here.start
+      ap (λ (l : List ℕ). set l ((node_at p k).cell + number_index) v) here.now
+      ∙ set_at here.before state.number (rest ++ here.after) v ((node_at p k).cell + number_index) (omega (arith, here.start))
       ∙ sym (here.then _)
 
 -- a number message to a node of the board
@@ -152,8 +152,8 @@ module _ (p : Parsed) (fine : Fine p) (c : Cells) (long : Long p c) (xs : List �
       ∙ ap (λ (d : NodeKind). p.size * channels_of d) fine.input_pass ∙ omega arith in
       let new : xs ≡ samples_of (channels_of (kind_at p k)) (map mono xs) =
       sym (ap (λ (d : NodeKind). samples_of (channels_of d) (map mono xs)) fine.input_pass ∙ lefts-mono xs) in
-      ap (λ (l : List ℕ). paste l ((node_at p k).cell + 3) xs p.size) (samples_now p fine c long k t)
-      ∙ paste_mid a old b ((node_at p k).cell + 3) p.size (front_long p fine c long k t) old-long xs whole
+      ap (λ (l : List ℕ). paste l ((node_at p k).cell + samples_from) xs p.size) (samples_now p fine c long k t)
+      ∙ paste_mid a old b ((node_at p k).cell + samples_from) p.size (front_long p fine c long k t) old-long xs whole
       ∙ ap (λ (l : List ℕ). a ++ (l ++ b)) new
       ∙ sym (samples_then p fine c long k t (map mono xs))
       ∙ ap (λ (fs : List Frame). shown p (put c k (record { state = (c k).state; samples = fs }))) (sym (tab_get mono 0 xs p.size whole))
@@ -173,7 +173,7 @@ module _ (p : Parsed) (fine : Fine p) (c : Cells) (long : Long p c) where
   abbrev rs : List ℕ
   rs = rights_of (c 0).samples
 
-  a_long : length a ≡ 3
+  a_long : length a ≡ samples_from
   a_long = omega (arith, front_long p fine c long 0 fine.formed.some_nodes, (fine.nodes 0 fine.formed.some_nodes).cell)
 
   both_now : shown p c ≡ a ++ ((ls ++ rs) ++ b)
@@ -187,12 +187,12 @@ module _ (p : Parsed) (fine : Fine p) (c : Cells) (long : Long p c) where
   rs_long : length rs ≡ p.size
   rs_long = length-map (c 0).samples (λ (f : Frame). f.right) ∙ (long 0).samples
 
-  pub left_out : part (shown p c) 3 p.size ≡ lefts_of (c 0).samples
+  pub left_out : part (shown p c) samples_from p.size ≡ lefts_of (c 0).samples
   left_out =
-      ap (λ (l : List ℕ). part l 3 p.size) (both_now ∙ ap (λ (l : List ℕ). a ++ l) (append_assoc ls rs b))
-      ∙ part_mid a ls (rs ++ b) 3 p.size a_long ls_long
+      ap (λ (l : List ℕ). part l samples_from p.size) (both_now ∙ ap (λ (l : List ℕ). a ++ l) (append_assoc ls rs b))
+      ∙ part_mid a ls (rs ++ b) samples_from p.size a_long ls_long
 
-  pub right_out : part (shown p c) (3 + p.size) p.size ≡ rights_of (c 0).samples
+  pub right_out : part (shown p c) (samples_from + p.size) p.size ≡ rights_of (c 0).samples
   right_out =
-      ap (λ (l : List ℕ). part l (3 + p.size) p.size) (both_now ∙ ap (λ (l : List ℕ). a ++ l) (append_assoc ls rs b) ∙ sym (append_assoc a ls (rs ++ b)))
-      ∙ part_mid (a ++ ls) rs b (3 + p.size) p.size (omega (arith, length-append a ls, a_long, ls_long)) rs_long
+      ap (λ (l : List ℕ). part l (samples_from + p.size) p.size) (both_now ∙ ap (λ (l : List ℕ). a ++ l) (append_assoc ls rs b) ∙ sym (append_assoc a ls (rs ++ b)))
+      ∙ part_mid (a ++ ls) rs b (samples_from + p.size) p.size (omega (arith, length-append a ls, a_long, ls_long)) rs_long

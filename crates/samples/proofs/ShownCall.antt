@@ -19,6 +19,7 @@ use lib.Ieee.Bits.{of_bits-fits}
 use lib.ListN.{length, get_or}
 use Rattle.values.specs.Parts.{part}
 use Rattle.values.specs.Words.{words, unwords, length-words, words-unwords}
+use Rattle.kinds.specs.Kind.{samples_from}
 use Rattle.kinds.specs.Rule.{Frame}
 use Rattle.kinds.specs.Cell.{value_fits, number_fits}
 use Rattle.kinds.proofs.Kept.{value_number}
@@ -208,8 +209,8 @@ module _ {C W : Type 0} (p : Parsed) (first : W) (wires : W → List Wire) (does
         ap (run_block_of q o (words x)) (words-unwords (shown q m))
         ∙ ap (run_nodes q o) (input_shown q fine m long' (words x) whole-block)
         ∙ order_shown q fine o nodes put before-long in
-        let ls = ap (λ (v : List ℕ). part v 3 p.size) values ∙ left_out q fine after after-long in
-        let rs = ap (λ (v : List ℕ). part v (3 + p.size) p.size) values ∙ right_out q fine after after-long in
+        let ls = ap (λ (v : List ℕ). part v samples_from p.size) values ∙ left_out q fine after after-long in
+        let rs = ap (λ (v : List ℕ). part v (samples_from + p.size) p.size) values ∙ right_out q fine after after-long in
         let a = sym (blocks_pass p x l r e) in
         λ i. (unwords (values i), record { answer = a i; left = unwords (ls i); right = unwords (rs i) })
 

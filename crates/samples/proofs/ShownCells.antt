@@ -19,7 +19,7 @@ use lib.ListN.{length, get_or, take, drop, length-append, length-map, get_or-app
 use lib.Seq.{paste, get_or-append-add, take_at, drop_at, drop-drop, take_all, take-length}
 use Rattle.values.specs.Parts.{part}
 use Rattle.kinds.specs.Row.{Writes, mono, keeping, stereo, row_of}
-use Rattle.kinds.specs.Kind.{channels_by, channels_of, line_of, cell_size}
+use Rattle.kinds.specs.Kind.{channels_by, channels_of, line_of, cell_size, samples_from}
 use Rattle.kinds.specs.Rule.{Frame, State}
 use Rattle.kinds.specs.Cell.{Cell, values_of}
 use Rattle.kinds.specs.declared.kind.NodeKind.{NodeKind}
@@ -225,15 +225,15 @@ module _ (p : Parsed) (fine : Fine p) (c : Cells) (long : Long p c) (k : ℕ) (t
 
   -- a sample of the cell
   shown_sample : (i : ℕ) → i < p.size * channels_of (kind_at p k)
-      → get_or (shown p c) ((node_at p k).cell + (3 + i)) 0 ≡ get_or (cell_in p c k).samples i 0
+      → get_or (shown p c) ((node_at p k).cell + (samples_from + i)) 0 ≡ get_or (cell_in p c k).samples i 0
   shown_sample i h =
-      shown_at (3 + i) (omega arith)
+      shown_at (samples_from + i) (omega arith)
       ∙ get_sample (cell_in p c k) i (omega (arith, samples_length (kind_at p k) frames p.size (long k).samples))
 
   -- the places from which a block run reads: channel 0, and what the destination's channel 1 reads
   pub shown_left : (i : ℕ) → i < p.size → get_or (shown p c) (left_start (node_at p k) + i) 0 ≡ (get_or (c k).samples i silence).left
   shown_left i h =
-      let e : (node_at p k).cell + 3 + i ≡ (node_at p k).cell + (3 + i) = omega arith in
+      let e : (node_at p k).cell + samples_from + i ≡ (node_at p k).cell + (samples_from + i) = omega arith in
       let some : i < p.size * channels_of (kind_at p k) = below (eqb (channels_of (kind_at p k)) 2) refl in
       ap (λ (n : ℕ). get_or (shown p c) n 0) e ∙ shown_sample i some ∙ samples_left (kind_at p k) frames p.size (long k).samples i h
     where
@@ -252,7 +252,7 @@ module _ (p : Parsed) (fine : Fine p) (c : Cells) (long : Long p c) (k : ℕ) (t
           let start : p.size * ((node_at p k).channels - 1) ≡ p.size =
           ap (λ (n : ℕ). p.size * (n - 1)) ((fine.nodes k there).channels ∙ two) ∙ omega arith in
           let all : p.size * channels_of (kind_at p k) ≡ p.size + p.size = ap (λ (n : ℕ). p.size * n) two ∙ omega arith in
-          let e : right_start p.size (node_at p k) + i ≡ (node_at p k).cell + (3 + (p.size + i)) = omega arith in
+          let e : right_start p.size (node_at p k) + i ≡ (node_at p k).cell + (samples_from + (p.size + i)) = omega arith in
           ap (λ (n : ℕ). get_or (shown p c) n 0) e ∙ shown_sample (p.size + i) (omega arith)
           ∙ samples_right (kind_at p k) frames p.size (long k).samples i q
           ∙ ap (λ (b : Bool). cond b (get_or frames i silence).right (get_or frames i silence).left) (sym q)

@@ -17,7 +17,7 @@ use lib.ListN.{length, get_or, set, drop, length-append, length-map, length-set}
 use lib.Seq.{paste, take_at, drop_at, set-append_left, map-set}
 use Rattle.values.specs.Floats.{float_at}
 use Rattle.values.specs.Parts.{part}
-use Rattle.kinds.specs.Kind.{channels_of, cell_size, sources_fit}
+use Rattle.kinds.specs.Kind.{channels_of, cell_size, sources_fit, samples_from}
 use Rattle.kinds.specs.Iter.{iter}
 use Rattle.kinds.specs.Rule.{Brought, Frame, State, keeps, left_by, right_of, sample_by, state_by}
 use Rattle.kinds.specs.Cell.{Cell, values_of, cell_of, frame_at, put_frame, step_cell, run_cell}
@@ -187,14 +187,14 @@ held_frame k s b N i fs l long small = go (eqb (channels_of k) 2) refl
 
 -- ---- a cell and its values
 
-three_on : (n : ℕ) → 3 + n ≡ suc (suc (suc n))
+three_on : (n : ℕ) → samples_from + n ≡ suc (suc (suc n))
 three_on n = omega arith
 
 pub cell_values : (N : ℕ) (k : NodeKind) (d : Cell) → length d.samples ≡ N * channels_of k → cell_of N k (values_of d) ≡ d
 unfolding values_of cell_of
 cell_values N k d e =
     let all : List ℕ = d.samples ++ d.state.line in
-    let line : drop (3 + N * channels_of k) (d.state.number ∷ d.state.carry ∷ d.state.place ∷ all) ≡ d.state.line =
+    let line : drop (samples_from + N * channels_of k) (d.state.number ∷ d.state.carry ∷ d.state.place ∷ all) ≡ d.state.line =
     rw (three_on (N * channels_of k)) (drop_at d.samples d.state.line (N * channels_of k) e) in
     λ j. record {
       state = record { number = d.state.number; carry = d.state.carry; place = d.state.place; line = line j };

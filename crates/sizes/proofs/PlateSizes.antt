@@ -9,10 +9,9 @@ use borrow.Author.Tests.{le-leb, lt-leb, ne_eqb}
 use lib.Dec.{T, leb}
 use lib.ListN.{set}
 use lib.Ieee.{Float, binary32, to_bits, fits}
-use lib.Ieee.Bits.{of_bits-to_bits}
 use lib.Ieee.Fits.{sub-fits}
 use Rattle.values.specs.Floors.{f1, finite_f}
-use Rattle.values.proofs.Patterns.{pattern_lt}
+use Rattle.values.proofs.Patterns.{pattern_lt, pattern_finite}
 use Rattle.values.specs.Floats.{finite_bits}
 use Rattle.kinds.specs.declared.kind.NodeKind.TheVariants.{Delay}
 use Rattle.records.specs.Answer.{answer}
@@ -106,5 +105,5 @@ studio_and_stage mix dry mix-fits mix-finite dry-fits dry_finite =
 pub mix_stage : (mix : Float) → T (fits binary32 mix) → finite_f mix ≡ true → StudioAndStage (to_bits binary32 mix) (to_bits binary32 (dry_of mix))
 mix_stage mix mix-fits number =
     let dry-fits = sub-fits binary32 f1 mix in
-    studio_and_stage (to_bits binary32 mix) (to_bits binary32 (dry_of mix)) (pattern_lt mix mix-fits) (ap finite_f (of_bits-to_bits binary32 mix mix-fits) ∙ number)
-    (pattern_lt (dry_of mix) dry-fits) (ap finite_f (of_bits-to_bits binary32 (dry_of mix) dry-fits) ∙ dry_finite mix mix-fits number)
+    studio_and_stage (to_bits binary32 mix) (to_bits binary32 (dry_of mix)) (pattern_lt mix mix-fits) (pattern_finite mix mix-fits ∙ number)
+    (pattern_lt (dry_of mix) dry-fits) (pattern_finite (dry_of mix) dry-fits ∙ dry_finite mix mix-fits number)

@@ -12,7 +12,7 @@ use Rattle.boards.specs.Judge.{read_board}
 use Rattle.boards.proofs.Round.{Accepted, read_write}
 use Rattle.memory.specs.Fine.{Fine}
 use Rattle.memory.proofs.FineBoard.{fine_board}
-use Rattle.resizing.specs.declared.resize.Reason.{Reason}
+use Rattle.resizing.specs.declared.resize.NotCarried.{NotCarried}
 use Rattle.resizing.specs.declared.resize.Resized.{Resized}
 use Rattle.resizing.specs.declared.resize.Resized.TheVariants.{Same, Size, Line}
 use Rattle.memory.specs.Memory.{kinds}
@@ -33,11 +33,11 @@ module _ (s : List ℕ) (bytes : Bytes s) (p : Parsed) (reads : read_board s ≡
   fits : SizeIn p.size
   fits = (fine.least_size, fine.most_size)
 
-  abbrev Back : Result Resized Reason → Type 0
+  abbrev Back : Result Resized NotCarried → Type 0
   Back r = bytes_after (bytes_after s M r) p.size (resized_of (bytes_after s M r) p.size) ≡ s
 
   -- of bytes that are read as q, by what is to be done to q
-  by_plan : (s' : List ℕ) (q : Parsed) (r : Result Resized Reason) → read_board s' ≡ whole q → r ≡ plan_of q p.size → bytes_after s' p.size r ≡ s
+  by_plan : (s' : List ℕ) (q : Parsed) (r : Result Resized NotCarried) → read_board s' ≡ whole q → r ≡ plan_of q p.size → bytes_after s' p.size r ≡ s
       → bytes_after s' p.size (resized_of s' p.size) ≡ s
   unfolding resized_of
   by_plan s' q r e plan back = ap (bytes_after s' p.size) (ap (plan_by p.size) e ∙ sym plan) ∙ back
@@ -73,7 +73,7 @@ module _ (s : List ℕ) (bytes : Bytes s) (p : Parsed) (reads : read_board s ≡
         by_plan (bytes_after s M (Ok (Line k n m))) q (Ok (Line k m n)) (new_read s bytes p reads M k n m h) (corrects_plan q p.size k m n back)
         (line_back s p accepted M k n m h.is_delay h.some)
 
-  by_view : {r : Result Resized Reason} → Planned p M r → Back r
+  by_view : {r : Result Resized NotCarried} → Planned p M r → Back r
   unfolding bytes_after
   by_view kept = unchanged
   by_view (already _) = unchanged

@@ -26,7 +26,7 @@ use Rattle.memory.specs.Fine.{Fine}
 use Rattle.memory.proofs.FineBoard.{fine_board}
 use Rattle.resizing.specs.Resize.{plan_of, plan_by, resized_of, bytes_after}
 use Rattle.sizes.specs.Settled.{Apart, line_longer, line_shorter, size_alone, Complete}
-use Rattle.resizing.specs.declared.resize.Reason.{Reason}
+use Rattle.resizing.specs.declared.resize.NotCarried.{NotCarried}
 use Rattle.resizing.specs.declared.resize.Resized.{Resized}
 use Rattle.resizing.specs.declared.resize.Resized.TheVariants.{Same, Size, Line}
 use Rattle.resizing.proofs.Boards.{line_fits, new_kind, old_kinds, one_in}
@@ -120,11 +120,11 @@ module _ (s : List ℕ) (b : Bytes s) (p : Parsed) (e : read_board s ≡ whole p
       sym (laid_out Q q (read_write Q c q d)
       ∙ (λ i. record { size = q.size; input = same_input i; nodes = laid q.size 0 (same_kinds i); wires = same_wires i }))
 
-  by_plan : (r : Result Resized Reason) (ks : List NodeKind) → r ≡ plan_of p q.size → kinds q ≡ ks → read_board (bytes_after s q.size r) ≡ whole (board_of p q.size ks)
+  by_plan : (r : Result Resized NotCarried) (ks : List NodeKind) → r ≡ plan_of p q.size → kinds q ≡ ks → read_board (bytes_after s q.size r) ≡ whole (board_of p q.size ks)
       → Reached
   unfolding resized_of
   by_plan r ks plan same_kinds read =
-      ap (λ (x : Result Resized Reason). read_board (bytes_after s q.size x)) (ap (plan_by q.size) e ∙ sym plan) ∙ read ∙ ap whole (is_board ks same_kinds)
+      ap (λ (x : Result Resized NotCarried). read_board (bytes_after s q.size x)) (ap (plan_by q.size) e ∙ sym plan) ∙ read ∙ ap whole (is_board ks same_kinds)
 
   size_reached : late_wires (listed p) p.wires ≡ [] → kinds q ≡ kinds p → Reached
   unfolding bytes_after

@@ -11,7 +11,7 @@ use Rattle.values.specs.Bytes.{u16_bytes, u32_bytes}
 use Rattle.values.specs.Words.{Bytes}
 use Rattle.boards.specs.Board.{Parsed, Progress, going, refused, whole}
 use Rattle.boards.specs.Judge.{read_board}
-use Rattle.resizing.specs.declared.resize.Reason.{Reason}
+use Rattle.resizing.specs.declared.resize.NotCarried.{NotCarried}
 use Rattle.resizing.specs.declared.resize.Resized.{Resized}
 use Rattle.resizing.specs.declared.resize.Resized.TheVariants.{Same, Size, Line}
 use Rattle.sizes.specs.Sizes.{SoundsAs}
@@ -34,7 +34,7 @@ sets_bytes : (s : List ℕ) (i : ℕ) (vs : List ℕ) → All (λ v. v < 256) vs
 sets_bytes s i [] h b = b
 sets_bytes s i (v ∷ vs) h b = sets_bytes (set s i v) (suc i) vs h.1 (set-bytes s i v h.0 b)
 
-after-bytes : (s : List ℕ) (M : ℕ) (r : Result Resized Reason) → Bytes s → Bytes (bytes_after s M r)
+after-bytes : (s : List ℕ) (M : ℕ) (r : Result Resized NotCarried) → Bytes s → Bytes (bytes_after s M r)
 unfolding bytes_after
 after-bytes s M (Ok Same) b = b
 after-bytes s M (Ok Size) b = sets_bytes s 4 (u16_bytes M) (omega arith, (omega arith, tt)) b
@@ -53,7 +53,7 @@ apart_sounds s s' bytes bytes' p q reads reads' (size_alone o) = size_only_sound
 -- ---- every answer
 
 module _ (s : List ℕ) (bytes : Bytes s) (M : ℕ) (p : Parsed) (reads : read_board s ≡ whole p) where
-  rewritten : (r : Result Resized Reason) → Rewrites p (bytes_after s M r) M → Carried s (bytes_after s M r) M
+  rewritten : (r : Result Resized NotCarried) → Rewrites p (bytes_after s M r) M → Carried s (bytes_after s M r) M
   rewritten r w = record {
     before = p;
     after = w.after;
@@ -64,7 +64,7 @@ module _ (s : List ℕ) (bytes : Bytes s) (M : ℕ) (p : Parsed) (reads : read_b
     sounds = apart_sounds s (bytes_after s M r) bytes (after-bytes s M r bytes) p w.after reads w.reads_after w.apart;
   }
 
-  by_plan : {r : Result Resized Reason} → Planned p M r → Settled s M r
+  by_plan : {r : Result Resized NotCarried} → Planned p M r → Settled s M r
   by_plan kept = tt
   by_plan (already e) = λ x q. let board : x ≡ p = cc in ap (λ (y : Parsed). y.size) board ∙ sym e
   by_plan (size_stored h none) = rewritten (Ok Size) (size_rewrites s bytes p reads M h none)

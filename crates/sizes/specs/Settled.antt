@@ -6,7 +6,7 @@ use Rattle.values.specs.Words.{Bytes}
 use Rattle.boards.specs.Board.{Parsed, whole}
 use Rattle.boards.specs.Judge.{read_board}
 use Rattle.resizing.specs.Resize.{resized_of, bytes_after}
-use Rattle.resizing.specs.declared.resize.Reason.{Reason}
+use Rattle.resizing.specs.declared.resize.NotCarried.{NotCarried}
 use Rattle.resizing.specs.declared.resize.Resized.{Resized}
 use Rattle.resizing.specs.declared.resize.Resized.TheVariants.{Same, Size, Line}
 use Rattle.sizes.specs.Sizes.{OneLine, SizeOnly, SoundsAs}
@@ -29,7 +29,7 @@ pub record Carried (s s' : List ℕ) (M : ℕ) : Type 0 where
   pub sounds : SoundsAs s s' before after
 
 -- where bytes have changed, they are carried
-abbrev pub Settled : List ℕ → ℕ → Result Resized Reason → Type 0
+abbrev pub Settled : List ℕ → ℕ → Result Resized NotCarried → Type 0
 Settled s M (Ok Same) = (p : Parsed) → read_board s ≡ whole p → p.size ≡ M
 Settled s M (Ok Size) = Carried s (bytes_after s M (Ok Size)) M
 Settled s M (Ok (Line k n m)) = Carried s (bytes_after s M (Ok (Line k n m))) M

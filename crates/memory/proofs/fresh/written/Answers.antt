@@ -5,9 +5,7 @@ use mathlib.Core.List.{List}
 use native.Mathlib.Omega.{arith}
 use lib.ListN.{length, replicate}
 use Rattle.values.specs.Words.{words, unwords}
-use Rattle.records.specs.declared.answer.Answer.{Answer}
 use Rattle.boards.specs.Board.{cells_of}
-use Rattle.boards.specs.BoardParts.{Refuses}
 use Rattle.boards.specs.Judge.{read_board}
 use Rattle.boards.specs.Read.{parsed_of}
 use Rattle.memory.specs.Memory.{fresh_values, passed}

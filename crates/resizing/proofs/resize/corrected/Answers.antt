@@ -13,7 +13,7 @@ use Rattle.boards.specs.declared.board.Board.{Board}
 use Rattle.boards.specs.Read.{parsed_of}
 use Rattle.memory.specs.Memory.{kind_at}
 use Rattle.memory.specs.Fine.{Fine}
-use Rattle.resizing.specs.declared.resize.Reason.{Reason}
+use Rattle.resizing.specs.declared.resize.NotCarried.{NotCarried}
 use Rattle.resizing.specs.declared.resize.Resized.{Resized}
 use Rattle.resizing.specs.Resize.{delay_of, line_by}
 use Rattle.resizing.proofs.Boards.{line_fits}
@@ -26,7 +26,7 @@ module _ (b : Board) (k size : ℕ) (there : k < b.count) where
   kind_same = ap (λ (d : NodeRecord). d.kind) (get_or-take b.count b.nodes k blank there)
 
   -- and so is the line that it tests
-  by_tests : (n : ℕ) → delay_of (get_or b.nodes k blank).kind ≡ n → {r : Result Resized Reason}
+  by_tests : (n : ℕ) → delay_of (get_or b.nodes k blank).kind ≡ n → {r : Result Resized NotCarried}
       → Tested (parsed_of b) size k n r → r ≡ line_by (parsed_of b) size k (delay_of (kind_at (parsed_of b) k))
   by_tests n e t = tested _ _ _ _ t ∙ ap (line_by (parsed_of b) size k) (sym (ap delay_of kind_same ∙ e))
 

@@ -11,24 +11,24 @@ use Rattle.boards.specs.Read.{parsed_of, Read}
 use Rattle.boards.specs.declared.board.Board.{Board}
 use Rattle.graph.proofs.Wired.{table, gathered}
 use Rattle.memory.proofs.FineBoard.{accepted_fine}
-use Rattle.resizing.specs.declared.resize.Reason.{Reason}
+use Rattle.resizing.specs.declared.resize.NotCarried.{NotCarried}
 use Rattle.resizing.specs.declared.resize.Resized.{Resized}
 use Rattle.resizing.specs.Resize.{plan_of, plan_by, resized_of, bytes_after}
 use Rattle.resizing.proofs.Planning.{plan_room}
 use Rattle.resizing.proofs.resize.resize.Goals as goal
 
 -- the plan of an accepted board is r
-module _ (s : List ℕ) (M : ℕ) (b : Board) (read : Read (read_board s) (Ok b)) (r : Result Resized Reason) (planned : r ≡ plan_of (parsed_of b) M) where
+module _ (s : List ℕ) (M : ℕ) (b : Board) (read : Read (read_board s) (Ok b)) (r : Result Resized NotCarried) (planned : r ≡ plan_of (parsed_of b) M) where
   told : r ≡ resized_of s M
   unfolding resized_of
   told = planned ∙ sym (ap (plan_by M) read)
 
 -- an error that `?` hands on
-error : {A : Type 0} (r : Result A Reason) (P : Reason → Type 0) → IsErr r × IsErrAnd r P → (x : Reason) × (r ≡ Err x) × P x
+error : {A : Type 0} (r : Result A NotCarried) (P : NotCarried → Type 0) → IsErr r × IsErrAnd r P → (x : NotCarried) × (r ≡ Err x) × P x
 error (Ok y) P h = absurd (false≢true h.0)
 error (Err x) P h = (x, refl, h.1)
 
-refused_so : (s : List ℕ) (M : ℕ) (r : Result Resized Reason) (x : Reason) → r ≡ Err x → Err x ≡ resized_of s M → (r ≡ resized_of s M) × (s ≡ bytes_after s M r)
+refused_so : (s : List ℕ) (M : ℕ) (r : Result Resized NotCarried) (x : NotCarried) → r ≡ Err x → Err x ≡ resized_of s M → (r ≡ resized_of s M) × (s ≡ bytes_after s M r)
 unfolding bytes_after
 refused_so s M r x e f = (e ∙ f, sym (ap (bytes_after s M) e))
 
