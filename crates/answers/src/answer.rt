@@ -11,7 +11,7 @@ use card_lines::reason::Reason;
 use cards::board::Wrong;
 use kinds::types::Kind;
 use records::answer::Answer;
-use text::words::{Lines, is_space, word_at};
+use text::words::{Lines, is_space, nth_word};
 use text::written::Text;
 use values::float::of_bits;
 
@@ -177,7 +177,7 @@ fn spot_of<'a, F: Fn(Name) -> bool>(text: &'a [u8], k: usize, asked: F) -> Optio
 {
     let (i, line) = Lines::new(text)
         .enumerate()
-        .filter(|(_, line)| named(word_at(body_of(bare(line)), 0)).is_some_and(|name| asked(name)))
+        .filter(|(_, line)| named(nth_word(body_of(bare(line)), 0)).is_some_and(|name| asked(name)))
         .nth(k)?;
     Some(Spot {
         number: i.saturating_add(1),

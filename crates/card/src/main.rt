@@ -23,11 +23,11 @@ use boards::judge::read_board;
 use cards::board::{Wrong, board_of};
 use decimals::number::whole_of;
 use input::{read_full, word};
-use resizing::resize::{Reason, Resized, resize};
+use resizing::resize::{NotCarried, Resized, resize};
 use size::show_resized;
 use std::io;
 use std::io::{Stderr, Stdout};
-use write::{Form, text_of};
+use write::{ShownAs, text_of};
 
 // Where the answers go, and what is told beside them.
 #[derive(Drop)]
@@ -40,7 +40,7 @@ struct Streams {
 #[derive(Clone, Copy)]
 enum Mode {
     Bytes,
-    Show(Form),
+    Show(ShownAs),
     Size,
     Check,
 }
@@ -49,8 +49,8 @@ enum Mode {
 fn mode_of(word: &[u8]) -> Option<Mode> {
     match word {
         b"bytes" => Some(Mode::Bytes),
-        b"text" => Some(Mode::Show(Form::Card)),
-        b"dot" => Some(Mode::Show(Form::Graph)),
+        b"text" => Some(Mode::Show(ShownAs::Card)),
+        b"dot" => Some(Mode::Show(ShownAs::Graph)),
         b"size" => Some(Mode::Size),
         b"check" => Some(Mode::Check),
         _ => None,
@@ -58,7 +58,7 @@ fn mode_of(word: &[u8]) -> Option<Mode> {
 }
 
 // Board to card, or to graph.
-fn show_form(to: &Streams, s: &[u8], form: Form) -> io::Result<()> {
+fn show_form(to: &Streams, s: &[u8], form: ShownAs) -> io::Result<()> {
     match read_board(s) {
         Ok(board) => to.out.write_all(text_of(&board, form).as_bytes()),
         Err(refusal) => to.err.write_all(refusal_text(s, refusal).as_bytes()),
@@ -89,8 +89,8 @@ fn show_at(to: &Streams, s: &mut [u8], size: u32) -> io::Result<()> {
 // For a check: all forms of a board, and what becomes of it at one block size after another.
 fn show_all(to: &Streams, s: &mut [u8]) -> io::Result<()> {
     show_hex(to, s)?;
-    show_form(to, s, Form::Card)?;
-    show_form(to, s, Form::Graph)?;
+    show_form(to, s, ShownAs::Card)?;
+    show_form(to, s, ShownAs::Graph)?;
     for size in [1, 64, 128] {
         show_at(to, s, size)?;
     }
@@ -134,7 +134,7 @@ fn show_bytes(to: &Streams, card: &[u8]) -> io::Result<()> {
 // that the other modes have for them.
 fn show_size(to: &Streams, s: &mut [u8], size: u32) -> io::Result<()> {
     let resized = resize(s, size);
-    if let Err(Reason::Refused(refusal)) = resized {
+    if let Err(NotCarried::Refused(refusal)) = resized {
         to.err.write_all(b"not carried: ")?;
         return to.err.write_all(refusal_text(s, refusal).as_bytes());
     }

@@ -1,26 +1,29 @@
 // A board at another block size: how it was carried there, or why it cannot be, in words.
-use resizing::resize::{Reason, Resized};
+use resizing::resize::{NotCarried, Resized};
 use std::io;
 
 // Why a board cannot be carried. Not Display: resizing's types, which print nothing; each is printed once,
 // here.
-fn show_reason(to: &impl Print, reason: Reason) -> io::Result<()> {
+fn show_reason(to: &impl Print, reason: NotCarried) -> io::Result<()> {
     match reason {
-        Reason::Refused(refusal) => println!(to; "refused {} {}", refusal.number, refusal.place),
-        Reason::NoSize => println!(to; "a block size is a whole number from 1 to 128"),
-        Reason::ManyLate(count) => {
+        NotCarried::Refused(refusal) => println!(to;
+            "refused {} {}",
+            refusal.number, refusal.place
+        ),
+        NotCarried::NoSize => println!(to; "a block size is a whole number from 1 to 128"),
+        NotCarried::ManyLate(count) => {
             println!(to; "{count} wires are late, and only one can be made up for")
         }
-        Reason::NoDelay(node) => {
+        NotCarried::NoDelay(node) => {
             println!(to; "the late wire leads into node {node}, which is no delay")
         }
-        Reason::TooShort(node, n) => {
+        NotCarried::TooShort(node, n) => {
             println!(to; "the late wire leads into node {node}, a delay of {n}, which is too short")
         }
-        Reason::TooLong(node, n) => println!(to;
+        NotCarried::TooLong(node, n) => println!(to;
             "the late wire leads into node {node}, a delay of {n}: it would pass 132300"
         ),
-        Reason::TooMuch(node, n) => println!(to;
+        NotCarried::TooMuch(node, n) => println!(to;
             "the late wire leads into node {node}, a delay of {n}: all lines together would pass 262144"
         ),
     }
@@ -30,7 +33,7 @@ fn show_reason(to: &impl Print, reason: Reason) -> io::Result<()> {
 pub fn show_resized(
     to: &impl Print,
     size: u32,
-    resized: Result<Resized, Reason>,
+    resized: Result<Resized, NotCarried>,
 ) -> io::Result<()> {
     match resized {
         Err(reason) => {

@@ -10,7 +10,7 @@ use text::written::Text;
 
 // What a board is shown as.
 #[derive(Clone, Copy)]
-pub enum Form {
+pub enum ShownAs {
     Card,
     Graph,
 }
@@ -207,12 +207,12 @@ fn drawn<S: Shape>(board: &Board, shape: &S) -> Page {
 }
 
 // The text of a board. The one match on the form.
-pub fn text_of(board: &Board, form: Form) -> Text<24576>
+pub fn text_of(board: &Board, form: ShownAs) -> Text<24576>
     requires { Accepted board.now }
 {
     match form {
-        Form::Card => drawn(board, &Card),
-        Form::Graph => {
+        ShownAs::Card => drawn(board, &Card),
+        ShownAs::Graph => {
             let places = visiting_list(&board.sources).places();
             drawn(board, &Graph { places })
         }

@@ -6,7 +6,7 @@ use Prim.Native.Nat.{ℕ, ◌+◌}
 use Rattle.std.specs.List.{list_all}
 use Rattle.std.specs.Prelude.{Option, Some, None, MatchOption, unwrap_or, is_some, not, take, drop}
 use Rattle.std.specs.Option.{UnwrapsOrElse}
-use Rattle.text.specs.Words.{word_at}
+use Rattle.text.specs.Words.{nth_word}
 use Rattle.card_lines.specs.Names.{alike}
 use Rattle.card_lines.specs.Labels.{is_inner, all_inner, bare, is_label, label_of, nodes_in, node_named, mark, unmarked}
 
@@ -27,13 +27,13 @@ pub labelled : {A : Type 0} (P : A → Type 0) (r : Option A) (b none : Bool) �
 labelled P None b none e m = m ∙ e
 labelled P (Some x) b none e m = m.0 ∙ e
 
-unlabelled : (s : List ℕ) → is_label (word_at 0 s) ≡ false → label_of s ≡ []
+unlabelled : (s : List ℕ) → is_label (nth_word 0 s) ≡ false → label_of s ≡ []
 unfolding label_of
 unlabelled s e = rw e
 
 -- the name, or an empty one
 pub label_now : {A : Type 0} (now : A → List ℕ) (r : Option A) (name : A) (s : List ℕ)
-    → MatchOption r (is_label (word_at 0 s) ≡ false) (λ x. (is_label (word_at 0 s) ≡ true) × (now x ≡ label_of s)) → UnwrapsOrElse r (λ x. now x ≡ []) name → now name ≡ label_of s
+    → MatchOption r (is_label (nth_word 0 s) ≡ false) (λ x. (is_label (nth_word 0 s) ≡ true) × (now x ≡ label_of s)) → UnwrapsOrElse r (λ x. now x ≡ []) name → now name ≡ label_of s
 label_now now None name s m u = u ∙ sym (unlabelled s m)
 label_now now (Some x) name s m u = ap now u ∙ m.1
 

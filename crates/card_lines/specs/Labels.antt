@@ -1,7 +1,7 @@
 -- The names that a card gives its nodes, as `echo: delay 300ms`, and the node that a word stands for. Definitions only.
 use Rattle.std.specs.Prelude.{Option, Some, None, Bool, true, false, cond, ◌||◌, ◌&&◌, List, [], ◌∷◌, ℕ, ◌+◌, ◌-◌, eqb, leb, length, take, drop, get_or}
 use Rattle.decimals.specs.Number.{upto, whole_of}
-use Rattle.text.specs.Words.{ahead, is_byte, next_word, word_at}
+use Rattle.text.specs.Words.{ahead, is_byte, next_word, nth_word}
 use Rattle.card_lines.specs.declared.names.Name.{Name}
 use Rattle.card_lines.specs.declared.names.Name.TheVariants.{Head, Node, Wire}
 use Rattle.card_lines.specs.Names.{alike, named}
@@ -33,10 +33,10 @@ abbrev pub is_label : List ℕ → Bool
 is_label word = eqb (get_or word (length word - 1) 0) 58
 
 unfoldable pub label_of : List ℕ → List ℕ
-label_of s = take (cond (is_label (word_at 0 s)) (length (word_at 0 s) - 1) 0) (word_at 0 s)
+label_of s = take (cond (is_label (nth_word 0 s)) (length (nth_word 0 s) - 1) 0) (nth_word 0 s)
 
 unfoldable pub body_of : List ℕ → List ℕ
-body_of s = drop (cond (is_label (word_at 0 s)) (next_word s 0).end 0) s
+body_of s = drop (cond (is_label (nth_word 0 s)) (next_word s 0).end 0) s
 
 -- whether a line with this name says a node
 abbrev pub is_node : Option Name → Bool
@@ -47,7 +47,7 @@ is_node (Some Wire) = false
 
 -- how many nodes a line says: one if its record is named by a type
 unfoldable pub nodes_in : List ℕ → ℕ
-nodes_in s = cond (is_node (named (word_at 0 (body_of s)))) 1 0
+nodes_in s = cond (is_node (named (nth_word 0 (body_of s)))) 1 0
 
 -- the number of the first node with this name among some lines, behind k nodes; or none
 unfoldable pub node_named : List ℕ → ℕ → List (List ℕ) → Option ℕ

@@ -2,5 +2,5 @@
 pub mod Reason
 pub mod Names
 pub mod Labels
-pub mod Lengths
+pub mod LineLengths
 pub mod Line

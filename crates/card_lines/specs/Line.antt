@@ -3,11 +3,11 @@
 use Rattle.std.specs.Prelude.{Option, Some, None, Result, Ok, Err, unwrap_or, Bool, true, false, cond, ◌||◌, List, ℕ, eqb, length}
 use Rattle.decimals.specs.Number.{whole_of, float_of}
 use Rattle.decimals.specs.declared.number.FloatError.{FloatError}
-use Rattle.text.specs.Words.{word_at, word_count}
+use Rattle.text.specs.Words.{nth_word, word_count}
 use Rattle.kinds.specs.Types.{has_whole, has_float}
 use Rattle.kinds.specs.declared.types.Kind.{Kind}
 use Rattle.card_lines.specs.Labels.{bare, starts_name, good_name, is_label, label_of, body_of, node_of, end_of}
-use Rattle.card_lines.specs.Lengths.{length_of}
+use Rattle.card_lines.specs.LineLengths.{length_of}
 use Rattle.card_lines.specs.Names.{alike, input_name, named, words_wanted}
 use Rattle.card_lines.specs.Reason.{float_reason}
 use Rattle.card_lines.specs.declared.names.Name.{Name}
@@ -58,9 +58,9 @@ node_line k first second = cond (has_whole k) (length_line k (length_of k first)
 
 -- the record of a line with this name
 unfoldable pub record_line : List (List ℕ) → List ℕ → Name → Result Line Reason
-record_line ls s name.Head = head_line (whole_of (word_at 1 s) 65535) (word_at 2 s) (ended (end_of ls (word_at 3 s)) (word_at 3 s))
-record_line ls s (name.Node k) = node_line k (word_at 1 s) (word_at 2 s)
-record_line ls s name.Wire = wire_line (ended (end_of ls (word_at 1 s)) (word_at 1 s)) (ended (end_of ls (word_at 2 s)) (word_at 2 s))
+record_line ls s name.Head = head_line (whole_of (nth_word 1 s) 65535) (nth_word 2 s) (ended (end_of ls (nth_word 3 s)) (nth_word 3 s))
+record_line ls s (name.Node k) = node_line k (nth_word 1 s) (nth_word 2 s)
+record_line ls s name.Wire = wire_line (ended (end_of ls (nth_word 1 s)) (nth_word 1 s)) (ended (end_of ls (nth_word 2 s)) (nth_word 2 s))
 
 abbrev pub named_line : List (List ℕ) → List ℕ → Option Name → Result Line Reason
 named_line ls s None = Err reason.Name
@@ -68,7 +68,7 @@ named_line ls s (Some n) = cond (eqb (word_count s) (words_wanted n)) (record_li
 
 -- a line without a name before it: nothing but spaces; or a record
 unfoldable pub plain_line : List (List ℕ) → List ℕ → Result Line Reason
-plain_line ls s = cond (eqb (length (word_at 0 s)) 0) (Ok Blank) (named_line ls s (named (word_at 0 s)))
+plain_line ls s = cond (eqb (length (nth_word 0 s)) 0) (Ok Blank) (named_line ls s (named (nth_word 0 s)))
 
 -- no node follows a name: nothing, or the head or a wire
 abbrev pub is_end : Option Name → Bool
@@ -84,13 +84,13 @@ is_other word n = eqb (length word) 0 || is_end n
 unfoldable pub labelled_line : List (List ℕ) → ℕ → List ℕ → List ℕ → Result Line Reason
 labelled_line ls k name s =
     cond (good_name name)
-    (cond (is_other (word_at 0 s) (named (word_at 0 s))) (Err reason.NoNode)
+    (cond (is_other (nth_word 0 s) (named (nth_word 0 s))) (Err reason.NoNode)
     (cond (eqb (unwrap_or (node_of ls name) 0) k) (plain_line ls s) (Err reason.Twice)))
     (Err reason.Label)
 
 -- a line without its comment
 unfoldable pub line_of : List (List ℕ) → ℕ → List ℕ → Result Line Reason
-line_of ls k s = cond (is_label (word_at 0 s)) (labelled_line ls k (label_of s) (body_of s)) (plain_line ls s)
+line_of ls k s = cond (is_label (nth_word 0 s)) (labelled_line ls k (label_of s) (body_of s)) (plain_line ls s)
 
 -- a line
 unfoldable pub said_of : List (List ℕ) → ℕ → List ℕ → Result Line Reason

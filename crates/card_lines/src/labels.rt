@@ -1,12 +1,12 @@
 // The names that a card gives its nodes, as `echo: delay 300ms`. A name is found by reading the text's
 // lines again: there is no table of names.
 ghost use Rattle.std.specs.Prelude.{◌≡◌, true, false, ◌≤◌, MatchOption};
-ghost use Rattle.text.specs.Words.{word_at, lines_of};
+ghost use Rattle.text.specs.Words.{nth_word, lines_of};
 ghost use Rattle.card_lines.specs.Labels.{is_letter, is_inner, all_inner, starts_name, good_name, bare, is_label, label_of, body_of, is_node, nodes_in, node_of, end_of, unmarked};
 
 use crate::names::{Name, named};
 use decimals::number::whole_of;
-use text::words::{Lines, find, next_word, word_at};
+use text::words::{Lines, find, next_word, nth_word};
 
 fn is_letter(byte: u8) -> bool
     ensures { result ≡ is_letter byte }
@@ -53,9 +53,9 @@ pub fn bare(line: &[u8]) -> &[u8]
 
 // The name that a line gives its node: its first word, up to the colon that ends it.
 pub fn label_of(line: &[u8]) -> Option<&[u8]>
-    ensures { MatchOption result (is_label (word_at 0 line.now) ≡ false) (λ name. (is_label (word_at 0 line.now) ≡ true) × (name.now ≡ label_of line.now)) }
+    ensures { MatchOption result (is_label (nth_word 0 line.now) ≡ false) (λ name. (is_label (nth_word 0 line.now) ≡ true) × (name.now ≡ label_of line.now)) }
 {
-    word_at(line, 0).strip_suffix(b":")
+    nth_word(line, 0).strip_suffix(b":")
 }
 
 // A line without the name before it.
@@ -80,7 +80,7 @@ fn is_node(name: Option<Name>) -> bool
 fn nodes_in(line: &[u8]) -> usize
     ensures { (result ≤ 1) × (result ≡ nodes_in line.now) }
 {
-    usize::from(is_node(named(word_at(body_of(line), 0))))
+    usize::from(is_node(named(nth_word(body_of(line), 0))))
 }
 
 // The first node with a name.

@@ -1,6 +1,6 @@
 // The length of a line, in samples or in milliseconds: `delay 300ms`.
 ghost use Rattle.std.specs.Prelude.{◌≡◌};
-ghost use Rattle.card_lines.specs.Lengths.{length_for, length_of};
+ghost use Rattle.card_lines.specs.LineLengths.{length_for, length_of};
 
 use crate::reason::Reason;
 use decimals::number::{float_of, whole_of};

@@ -1,7 +1,7 @@
 // One line of a card: the record that it says, or what is wrong with it.
 ghost use Rattle.std.specs.Prelude.{◌≡◌};
 ghost use Rattle.decimals.specs.Number.{whole_of};
-ghost use Rattle.text.specs.Words.{word_at, lines_of};
+ghost use Rattle.text.specs.Words.{nth_word, lines_of};
 ghost use Rattle.card_lines.specs.Labels.{end_of};
 ghost use Rattle.card_lines.specs.Line.{no_end, ended, head_line, wire_line, float_line, node_line, record_line, plain_line, is_other, labelled_line, line_of, said_of};
 ghost use Rattle.card_lines.specs.Names.{named};
@@ -12,7 +12,7 @@ use crate::names::{Name, named};
 use crate::reason::Reason;
 use decimals::number::{float_of, whole_of};
 use kinds::types::Kind;
-use text::words::{word_at, word_count};
+use text::words::{nth_word, word_count};
 
 // What a line says. A node has its type, its whole number and its float's bits.
 #[derive(Clone, Copy)]
@@ -46,22 +46,22 @@ const INPUT: &[u8] = b"input";
 
 // block N input I
 fn head_line(text: &[u8], line: &[u8]) -> Result<Line, Reason>
-    ensures { result ≡ head_line (whole_of (word_at 1 line.now) 65535) (word_at 2 line.now) (ended (end_of (lines_of text.now) (word_at 3 line.now)) (word_at 3 line.now)) }
+    ensures { result ≡ head_line (whole_of (nth_word 1 line.now) 65535) (nth_word 2 line.now) (ended (end_of (lines_of text.now) (nth_word 3 line.now)) (nth_word 3 line.now)) }
 {
-    let size = whole_of(word_at(line, 1), 65535).ok_or(Reason::Whole)?;
-    if word_at(line, 2) != INPUT {
+    let size = whole_of(nth_word(line, 1), 65535).ok_or(Reason::Whole)?;
+    if nth_word(line, 2) != INPUT {
         return Err(Reason::Name);
     }
-    let input = ended(text, word_at(line, 3))?;
+    let input = ended(text, nth_word(line, 3))?;
     Ok(Line::Head(size as u16, input))
 }
 
 // wire SOURCE TARGET
 fn wire_line(text: &[u8], line: &[u8]) -> Result<Line, Reason>
-    ensures { result ≡ wire_line (ended (end_of (lines_of text.now) (word_at 1 line.now)) (word_at 1 line.now)) (ended (end_of (lines_of text.now) (word_at 2 line.now)) (word_at 2 line.now)) }
+    ensures { result ≡ wire_line (ended (end_of (lines_of text.now) (nth_word 1 line.now)) (nth_word 1 line.now)) (ended (end_of (lines_of text.now) (nth_word 2 line.now)) (nth_word 2 line.now)) }
 {
-    let source = ended(text, word_at(line, 1))?;
-    let target = ended(text, word_at(line, 2))?;
+    let source = ended(text, nth_word(line, 1))?;
+    let target = ended(text, nth_word(line, 2))?;
     Ok(Line::Wire(source, target))
 }
 
@@ -78,13 +78,13 @@ fn float_line(word: &[u8], kind: Kind, n: u32) -> Result<Line, Reason>
 
 // A node: its length if its type has one, then its float if it has one.
 fn node_line(line: &[u8], kind: Kind) -> Result<Line, Reason>
-    ensures { result ≡ node_line kind (word_at 1 line.now) (word_at 2 line.now) }
+    ensures { result ≡ node_line kind (nth_word 1 line.now) (nth_word 2 line.now) }
 {
     if !kind.has_whole() {
-        return float_line(word_at(line, 1), kind, 0);
+        return float_line(nth_word(line, 1), kind, 0);
     }
-    let n = length_of(kind, word_at(line, 1))?;
-    float_line(word_at(line, 2), kind, n)
+    let n = length_of(kind, nth_word(line, 1))?;
+    float_line(nth_word(line, 2), kind, n)
 }
 
 // The record of a line with this name.
@@ -102,7 +102,7 @@ fn record_line(text: &[u8], line: &[u8], name: Name) -> Result<Line, Reason>
 fn plain_line(text: &[u8], line: &[u8]) -> Result<Line, Reason>
     ensures { result ≡ plain_line (lines_of text.now) line.now }
 {
-    let word = word_at(line, 0);
+    let word = nth_word(line, 0);
     if word.is_empty() {
         return Ok(Line::Blank);
     }
@@ -127,7 +127,7 @@ fn labelled_line(text: &[u8], nodes: usize, name: &[u8], body: &[u8]) -> Result<
     if !good_name(name) {
         return Err(Reason::Label);
     }
-    if is_other(word_at(body, 0)) {
+    if is_other(nth_word(body, 0)) {
         return Err(Reason::NoNode);
     }
     let first = node_named(text, name).unwrap_or(0);

@@ -17,11 +17,11 @@ use Rattle.records.specs.Answer.{answer}
 use Rattle.records.specs.declared.answer.Answer.{Answer}
 use Rattle.decimals.specs.Decimal.{nearest_to}
 use Rattle.decimals.specs.Number.{digit_of, digits_from, read_from, whole_of, digits_of, number_from, all_of, power_of, scaled, decimal, float_of}
-use Rattle.text.specs.Words.{ahead, next_word, word_at, count_from, lines_of}
+use Rattle.text.specs.Words.{ahead, next_word, nth_word, count_from, lines_of}
 use Rattle.card_lines.specs.Names.{named}
 use Rattle.card_lines.specs.Line.{record_line, plain_line, labelled_line, line_of, said_of}
 use Rattle.card_lines.specs.Labels.{all_inner, label_of, body_of, nodes_in, node_named, end_of}
-use Rattle.card_lines.specs.Lengths.{length_of}
+use Rattle.card_lines.specs.LineLengths.{length_of}
 use Rattle.cards.specs.Board.{step_of, made_by, judged_of, card_from, card_of}
 use Rattle.card_lines.specs.declared.reason.Reason.TheVariants as reason
 use Rattle.cards.specs.declared.board.Wrong.TheVariants.{Refused, Bad}
@@ -113,11 +113,11 @@ pub record Worked : Type 0 where
   pub nothing_refused : (card_of nothing).made ≡ Err (Refused (answer 2 0))
 
 loop-read : card_of loop ≡ judged_of printed
-unfolding card_from step_of said_of line_of plain_line end_of length_of record_line named lines_of ahead word_at count_from whole_of read_from digit_of float_of decimal digits_of digits_from power_of scaled all_of number_from nearest_to round to_bits
+unfolding card_from step_of said_of line_of plain_line end_of length_of record_line named lines_of ahead nth_word count_from whole_of read_from digit_of float_of decimal digits_of digits_from power_of scaled all_of number_from nearest_to round to_bits
 loop-read = refl
 
 pub worked : Worked
-unfolding card_from step_of said_of line_of plain_line labelled_line label_of body_of nodes_in node_named all_inner end_of length_of delay_of within samples_of floor_of mul div eq lt le of_bits record_line named lines_of ahead next_word word_at count_from whole_of read_from digit_of float_of decimal digits_of digits_from power_of scaled all_of number_from nearest_to round to_bits judge_of read_board read_records run record_step take_found found_at
+unfolding card_from step_of said_of line_of plain_line labelled_line label_of body_of nodes_in node_named all_inner end_of length_of delay_of within samples_of floor_of mul div eq lt le of_bits record_line named lines_of ahead next_word nth_word count_from whole_of read_from digit_of float_of decimal digits_of digits_from power_of scaled all_of number_from nearest_to round to_bits judge_of read_board read_records run record_step take_found found_at
 worked = record {
   loop_made = loop-read ∙ ap (λ (a : Answer). record { made = made_by (length printed) a; bytes = printed }) printed_judged;
   unknown_name = refl;

@@ -56,7 +56,7 @@ pub fn listed_text(order: &Order, wires: &Wires) -> Text<2048>
 }
 
 // The text of a refusal.
-pub fn refusal_text(refused: Answer) -> Text<2048>
+pub fn refused_text(refused: Answer) -> Text<2048>
     ensures { result ≡ line refused_word refused.number refused.place }
 {
     let mut out = Text::new();
@@ -70,6 +70,6 @@ pub fn board_text(s: &[u8]) -> Text<2048>
 {
     match read_board(s) {
         Ok(board) => listed_text(&visiting_list(&board.sources), &board.wires),
-        Err(refused) => refusal_text(refused),
+        Err(refused) => refused_text(refused),
     }
 }

@@ -25,7 +25,7 @@ use sounds::say::To;
 use std::fs::File;
 use std::io::Write;
 use std::rt::{Env, Files};
-use text::words::{Lines, find, word_at, word_count};
+use text::words::{Lines, find, nth_word, word_count};
 use words::{Asked, WordError};
 
 const USAGE: &str = "render IN.wav OUT.wav plate MIX [SECONDS] [mono|left|right] [progress]
@@ -56,7 +56,7 @@ fn with_word(to: To, asked: Asked, word: &[u8]) -> Result<Asked, WordError> {
 fn line_asks(to: To, line: &[u8]) -> Result<Asked, WordError> {
     let mut asked = Asked::nothing();
     for k in 4..word_count(line) {
-        asked = with_word(to, asked, word_at(line, k))?;
+        asked = with_word(to, asked, nth_word(line, k))?;
     }
     Ok(asked)
 }
@@ -84,11 +84,11 @@ fn args_ask<R: Env>(rt: &R, to: To) -> Result<Asked, WordError> {
 
 // The render that a line asks for; an empty line asks for none.
 fn line<R: Files<File = File> + Alloc>(rt: &R, to: To, list: &[u8], words: &[u8]) {
-    let input = word_at(words, 0);
+    let input = nth_word(words, 0);
     if input.is_empty() {
         return;
     }
-    let what = word_at(words, 3);
+    let what = nth_word(words, 3);
     if what.is_empty() {
         usage(to);
         return;
@@ -100,8 +100,8 @@ fn line<R: Files<File = File> + Alloc>(rt: &R, to: To, list: &[u8], words: &[u8]
         to,
         list,
         input,
-        output: word_at(words, 1),
-        form: word_at(words, 2),
+        output: nth_word(words, 1),
+        form: nth_word(words, 2),
         what,
         asked,
     };

@@ -4,7 +4,7 @@ ghost use Rattle.render.specs.Turn.{run_on, Turned};
 
 use context::block::block;
 use records::answer::Answer;
-use wav::block::{fill, interleave};
+use wav::block::{fill_block, interleave};
 use wav::format::Format;
 
 // Runs the board on the samples of `bytes`, zeros after the last, and gives as many frames. The three
@@ -25,7 +25,7 @@ pub fn turn(
     ensures { Turned (run_on board.now memory.old format bytes.now (length input.old / 4) left.old right.old)
         result memory.new frames.new }
 {
-    fill(bytes, format, input);
+    fill_block(bytes, format, input);
     let answer = block(board, memory, input, left, right);
     interleave(left, right, frames);
     answer

@@ -1,7 +1,7 @@
 -- A change of wires as a line of text. Definitions only.
 use Rattle.std.specs.Prelude.{ℕ, cond, Option, Some, None, Result, Ok, Err, List, [], ◌∷◌, eqb}
 use Rattle.decimals.specs.Number.{whole_of}
-use Rattle.text.specs.Words.{word_at}
+use Rattle.text.specs.Words.{nth_word}
 use Rattle.text.specs.Written.{pair}
 use Rattle.rewire.specs.declared.change.NoChange.{NoChange}
 use Rattle.rewire.specs.declared.change.Request.{Request}
@@ -29,7 +29,7 @@ by_words (c ∷ []) s t [] = by_numbers c s t
 
 -- a line: nothing but spaces; or a sign, source and target; or no change
 unfoldable pub change_of : List ℕ → Result (Option Request) NoChange
-change_of line = by_words (word_at 0 line) (whole_of (word_at 1 line) 65535) (whole_of (word_at 2 line) 65535) (word_at 3 line)
+change_of line = by_words (nth_word 0 line) (whole_of (nth_word 1 line) 65535) (whole_of (nth_word 2 line) 65535) (nth_word 3 line)
 
 -- the change written again: sign, source and target, one space between
 unfoldable pub change_line : Request → List ℕ

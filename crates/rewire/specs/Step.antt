@@ -27,8 +27,8 @@ Room (Add s t) n = n + 8 < 18446744073709551616
 Room (Pull s t) n = 8 ≤ n
 
 -- what is told of an answer: the refusal, or the changed board's lines, as `order` writes them
-unfoldable pub answer_text : Wiring → List ℕ → List ℕ
-answer_text w board = cond (eqb w.number 0) (text_of (read_board board)) (line refused_word w.number w.place)
+unfoldable pub step_text : Wiring → List ℕ → List ℕ
+step_text w board = cond (eqb w.number 0) (text_of (read_board board)) (line refused_word w.number w.place)
 
 -- the first n bytes are a board that the judge accepts
 pub record Plays (bytes : List ℕ) (n : ℕ) : Type 0 where

@@ -4,7 +4,7 @@ ghost use Rattle.text.specs.Written.{pair};
 ghost use Rattle.rewire.specs.Change.{signed, change_of, change_line};
 
 use decimals::number::whole_of;
-use text::words::word_at;
+use text::words::nth_word;
 use text::written::Text;
 
 // A wire to add or to pull, by its source and its target, as the two calls take them. `carrying` has a
@@ -34,18 +34,18 @@ fn signed(sign: u8, source: u16, target: u16) -> Result<Option<Request>, NoChang
 pub fn change_of(line: &[u8]) -> Result<Option<Request>, NoChange>
     ensures { result ≡ change_of line.now }
 {
-    let sign = word_at(line, 0);
+    let sign = nth_word(line, 0);
     if sign.is_empty() {
         return Ok(None);
     }
     if sign.len() != 1 {
         return Err(NoChange);
     }
-    if !word_at(line, 3).is_empty() {
+    if !nth_word(line, 3).is_empty() {
         return Err(NoChange);
     }
-    let source = whole_of(word_at(line, 1), 65535).ok_or(NoChange)?;
-    let target = whole_of(word_at(line, 2), 65535).ok_or(NoChange)?;
+    let source = whole_of(nth_word(line, 1), 65535).ok_or(NoChange)?;
+    let target = whole_of(nth_word(line, 2), 65535).ok_or(NoChange)?;
     signed(sign[0], source as u16, target as u16)
 }
 

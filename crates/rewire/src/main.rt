@@ -21,7 +21,7 @@ use input::{is_there, read_full, word};
 use listing::lines::board_text;
 use std::io;
 use std::rt::Files;
-use step::{answer_text, length_after, make};
+use step::{length_after, make, step_text};
 use text::words::Lines;
 
 // Makes a change on the board that the first n bytes are, shows it with what came of it, and returns
@@ -35,7 +35,7 @@ fn show_change(rt: &impl Print, bytes: &mut [u8], n: usize, request: Request) ->
     let answer = make(bytes, n, request).checked();
     let after = length_after(n, request, &answer);
     rt.write_all(change_text(request).as_bytes())?;
-    rt.write_all(answer_text(&answer, &bytes[..after]).as_bytes())?;
+    rt.write_all(step_text(&answer, &bytes[..after]).as_bytes())?;
     Ok(after)
 }
 

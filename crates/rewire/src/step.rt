@@ -4,12 +4,12 @@ ghost use Rattle.boards.specs.Judge.{read_board};
 ghost use Rattle.wiring.specs.Rewire.{wiring, wiring_by};
 ghost use Rattle.wiring.specs.Rewiring.{Checked};
 ghost use Rattle.wiring.specs.declared.rewire.Wiring.{Wiring};
-ghost use Rattle.rewire.specs.Step.{made_of, length_after, answer_text, Room};
+ghost use Rattle.rewire.specs.Step.{made_of, length_after, step_text, Room};
 
 use crate::change::Request;
 use boards::judge::read_board;
 use graph::graph::Order;
-use listing::lines::{listed_text, refusal_text};
+use listing::lines::{listed_text, refused_text};
 use records::answer::Answer;
 use text::written::Text;
 use wiring::rewire::{Wiring, add_wire, pull_wire};
@@ -40,16 +40,16 @@ pub fn length_after(n: usize, request: Request, answer: &Result<Order, Answer>) 
 }
 
 // The text of an answer: the refusal, or the lines of the changed board `s` with the answer's list.
-pub fn answer_text(answer: &Result<Order, Answer>, s: &[u8]) -> Text<2048>
+pub fn step_text(answer: &Result<Order, Answer>, s: &[u8]) -> Text<2048>
     requires { IfOk answer.now (λ o. wiring 0 0 (take o.count o.nodes) ≡ wiring_by (read_board s.now)) }
-    ensures { (w : Wiring) → Checked w answer.now → result ≡ answer_text w s.now }
+    ensures { (w : Wiring) → Checked w answer.now → result ≡ step_text w s.now }
 {
     let order = match answer {
         Ok(order) => order,
-        Err(refused) => return refusal_text(*refused),
+        Err(refused) => return refused_text(*refused),
     };
     match read_board(s) {
         Ok(board) => listed_text(order, &board.wires),
-        Err(refused) => refusal_text(refused),
+        Err(refused) => refused_text(refused),
     }
 }

@@ -14,7 +14,7 @@ use Rattle.std.proofs.lemmas.List.Recursion.{is_position_or_len}
 use lib.Dec.{eqb, ltb}
 use lib.ListN.{length, take, drop, get_or, length-drop, drop_of_length-le}
 use lib.Seq.{drop-cons, drop-drop}
-use Rattle.text.specs.Words.{is_space, is_word, is_byte, ahead, next_word, unspaced, word_at, begins, count_from, on_first, lines_of}
+use Rattle.text.specs.Words.{is_space, is_word, is_byte, ahead, next_word, unspaced, nth_word, begins, count_from, on_first, lines_of}
 
 -- ---- a place looked for
 
@@ -70,18 +70,18 @@ module _ (s : List ℕ) (at : ℕ) where
   unfolding next_word
   starts = drop-drop (ahead is_word (drop at s)) at s
 
-  pub word_here : word_at 0 (drop at s) ≡ take ((next_word s at).end - (next_word s at).start) (drop (next_word s at).start s)
-  unfolding word_at next_word
+  pub word_here : nth_word 0 (drop at s) ≡ take ((next_word s at).end - (next_word s at).start) (drop (next_word s at).start s)
+  unfolding nth_word next_word
   word_here =
       let from = at + ahead is_word (drop at s) in
       let size : ahead is_space (drop from s) ≡ from + ahead is_space (drop from s) - from = omega arith in
       ap (λ (l : List ℕ). take (ahead is_space l) l) starts ∙ ap (λ (n : ℕ). take n (drop from s)) size
 
-  pub words_behind : (k : ℕ) → word_at (suc k) (drop at s) ≡ word_at k (drop (next_word s at).end s)
-  unfolding word_at next_word
+  pub words_behind : (k : ℕ) → nth_word (suc k) (drop at s) ≡ nth_word k (drop (next_word s at).end s)
+  unfolding nth_word next_word
   words_behind k =
       let from = at + ahead is_word (drop at s) in
-      ap (λ (l : List ℕ). word_at k (drop (ahead is_space l) l)) starts ∙ ap (word_at k) (drop-drop (ahead is_space (drop from s)) from s)
+      ap (λ (l : List ℕ). nth_word k (drop (ahead is_space l) l)) starts ∙ ap (nth_word k) (drop-drop (ahead is_space (drop from s)) from s)
 
 -- ---- words counted
 

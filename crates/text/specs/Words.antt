@@ -35,9 +35,9 @@ abbrev pub unspaced : List ℕ → List ℕ
 unspaced s = drop (ahead is_word s) s
 
 -- word k of a text, from 0; an empty one where there are fewer
-unfoldable pub word_at : ℕ → List ℕ → List ℕ
-word_at zero s = take (ahead is_space (unspaced s)) (unspaced s)
-word_at (suc k) s = word_at k (drop (ahead is_space (unspaced s)) (unspaced s))
+unfoldable pub nth_word : ℕ → List ℕ → List ℕ
+nth_word zero s = take (ahead is_space (unspaced s)) (unspaced s)
+nth_word (suc k) s = nth_word k (drop (ahead is_space (unspaced s)) (unspaced s))
 
 -- one more if a byte that is no space starts a word: it follows a space, or nothing
 abbrev pub begins : Bool → Bool → ℕ

@@ -1,7 +1,7 @@
 // The lines of a text and the words of a line, as slices of it.
 ghost use Rattle.std.specs.Prelude.{◌≡◌, Bool, ℕ, ◌+◌, ◌≤◌, length, drop};
 ghost use Rattle.std.specs.Iterator.{YieldsFirstRef, item_count};
-ghost use Rattle.text.specs.Words.{Tests, is_byte, is_space, ahead, next_word, word_at, begins, word_count, lines_of};
+ghost use Rattle.text.specs.Words.{Tests, is_byte, is_space, ahead, next_word, nth_word, begins, word_count, lines_of};
 
 use std::ops::Range;
 
@@ -24,7 +24,7 @@ pub fn find<F: Fn(u8) -> bool>(s: &[u8], at: usize, stop: F) -> usize
         .map_or(s.len(), |k| at + k)
 }
 
-// The first word from `at` on; an empty one where there is none. No Option here and in `word_at`: an empty
+// The first word from `at` on; an empty one where there is none. No Option here and in `nth_word`: an empty
 // word is no name, no number and no float, so each reader would turn None into the empty word again.
 pub fn next_word(s: &[u8], at: usize) -> Range<usize>
     requires { at ≤ length s.now }
@@ -36,8 +36,8 @@ pub fn next_word(s: &[u8], at: usize) -> Range<usize>
 }
 
 // Word k of a line, from 0; an empty one where there are fewer.
-pub fn word_at(line: &[u8], k: usize) -> &[u8]
-    ensures { result.now ≡ word_at k line.now }
+pub fn nth_word(line: &[u8], k: usize) -> &[u8]
+    ensures { result.now ≡ nth_word k line.now }
 {
     let mut at = 0;
     for _ in 0..k {

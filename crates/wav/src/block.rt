@@ -32,7 +32,7 @@ pub fn first_bad(frames: &[u8], format: Format) -> Option<usize>
 }
 
 // A block of samples, 4 bytes each, of some frames; zeros after the last.
-pub fn fill(frames: &[u8], format: Format, block: &mut [u8])
+pub fn fill_block(frames: &[u8], format: Format, block: &mut [u8])
     ensures { words block.new ≡ block_of format frames.now (length block.old / 4) }
 {
     // An index: `chunks_exact_mut(4).enumerate()` is as long, and `store` takes the index.

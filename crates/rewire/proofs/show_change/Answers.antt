@@ -40,22 +40,22 @@ length_after-after-requires g c =
     if_listed c.make.result c.checked-answer.result c.checked-answer.ensures
     (λ z. made_room a.bytes.now a.n c.requires small a.request (ap (λ (w : Wiring). w.number) (sym answer.answered) ∙ z) (omega (arith, ap length answer.bytes, c.make.auto.bytes)))
 
-pub slice_bounds-answer_text-end : goal.slice_bounds-answer_text-end
-slice_bounds-answer_text-end g c =
+pub slice_bounds-step_text-end : goal.slice_bounds-step_text-end
+slice_bounds-step_text-end g c =
     let a = c.args in
     let made = c.make.ensures in
     let small : Bytes a.bytes.now = λ i. search rules in
     (plays a.request a.bytes.now a.n c.requires small _ _ _ made.answered made.bytes (c.length_after-after.ensures _ c.checked-answer.ensures)).within
 
-pub slice_bounds-answer_text-end-2 : goal.slice_bounds-answer_text-end-2
-slice_bounds-answer_text-end-2 g c =
+pub slice_bounds-step_text-end-2 : goal.slice_bounds-step_text-end-2
+slice_bounds-step_text-end-2 g c =
     let a = c.args in
     let made = c.make.ensures in
     let small : Bytes a.bytes.now = λ i. search rules in
     sym (length-take-le _ _ (plays a.request a.bytes.now a.n c.requires small _ _ _ made.answered made.bytes (c.length_after-after.ensures _ c.checked-answer.ensures)).within)
 
-pub answer_text-requires : goal.answer_text-requires
-answer_text-requires g c =
+pub step_text-requires : goal.step_text-requires
+step_text-requires g c =
     let a = c.args in
     let answer = c.make.ensures in
     let small : Bytes a.bytes.now = λ i. search rules in

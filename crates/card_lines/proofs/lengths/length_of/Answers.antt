@@ -4,7 +4,7 @@ use Rattle.std.specs.Prelude.{ok_or}
 use Rattle.decimals.proofs.Question.{went_on, returned}
 use Rattle.decimals.specs.Number.{float_of}
 use Rattle.card_lines.specs.declared.reason.Reason.TheVariants as reason
-use Rattle.card_lines.specs.Lengths.{length_by, whole_length, length_of}
+use Rattle.card_lines.specs.LineLengths.{length_by, whole_length, length_of}
 use Rattle.card_lines.proofs.Reasons.{handed_on}
 use Rattle.card_lines.proofs.lengths.length_of.Goals as goal
 

@@ -28,4 +28,4 @@ pub returns-in-Err : goal.returns-in-Err
 unfolding text_of
 returns-in-Err c =
     let read = subst (Read (read_board c.args.s.now)) c.in-Err.is c.read_board.ensures in
-    c.refusal_text.ensures ∙ sym (ap text_of read.1)
+    c.refused_text.ensures ∙ sym (ap text_of read.1)

@@ -6,7 +6,7 @@ use Rattle.render.proofs.turn.turn.Goals as goal
 
 pub returns : goal.returns
 returns c =
-    let small : Bytes c.fill.new.block = λ i. search rules in
-    let whole : length c.fill.new.block ≡ 4 * (length c.args.input.now / 4) = omega arith in
-    turned _ _ c.args.bytes.now c.fill.new.block _ _ c.args.format _ _ _ _ _ _ whole small c.fill.ensures c.block-answer.ensures
+    let small : Bytes c.fill_block.new.block = λ i. search rules in
+    let whole : length c.fill_block.new.block ≡ 4 * (length c.args.input.now / 4) = omega arith in
+    turned _ _ c.args.bytes.now c.fill_block.new.block _ _ c.args.format _ _ _ _ _ _ whole small c.fill_block.ensures c.block-answer.ensures
     c.interleave.ensures

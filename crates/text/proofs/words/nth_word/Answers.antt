@@ -1,19 +1,19 @@
--- `text::words::word_at` meets its contract. The loop's invariant: k - i words on from `at`, there is word k of the line. Assumes nothing.
+-- `text::words::nth_word` meets its contract. The loop's invariant: k - i words on from `at`, there is word k of the line. Assumes nothing.
 use mathlib.Core.Path.{◌≡◌, sym, ap, ◌∙◌}
 use Prim.Native.Nat.{ℕ, suc, ◌-◌, ◌+◌}
 use native.Mathlib.Omega.{arith}
 use lib.ListN.{take, drop}
 use Rattle.std.specs.declared.ops.Range.{Range}
-use Rattle.text.specs.Words.{word_at}
+use Rattle.text.specs.Words.{nth_word}
 use Rattle.text.proofs.Finding.{word_here, words_behind}
 use borrow.Author.Rules.{rules}
-use Rattle.text.proofs.words.word_at.Goals as goal
+use Rattle.text.proofs.words.nth_word.Goals as goal
 
 pub loop-init : goal.loop-init
 loop-init c =
     let a = c.args in
     let all : a.k ≡ a.k - 0 = omega arith in
-    (search rules, search rules, ap (λ (n : ℕ). word_at n a.line.now) all)
+    (search rules, search rules, ap (λ (n : ℕ). nth_word n a.line.now) all)
 
 pub loop-preserved : goal.loop-preserved
 loop-preserved c =
@@ -24,9 +24,9 @@ loop-preserved c =
       search rules,
       search rules,
       c.loop.invariant.2
-          ∙ ap (λ (n : ℕ). word_at n (drop c.loop.at a.line.now)) one
+          ∙ ap (λ (n : ℕ). nth_word n (drop c.loop.at a.line.now)) one
           ∙ words_behind a.line.now c.loop.at j
-          ∙ ap (λ (w : Range ℕ). word_at j (drop w.end a.line.now)) (sym passed.ensures.3),
+          ∙ ap (λ (w : Range ℕ). nth_word j (drop w.end a.line.now)) (sym passed.ensures.3),
     )
 
 pub returns : goal.returns
@@ -37,6 +37,6 @@ returns c =
     let none : a.k - c.loop.counter ≡ 0 = omega arith in
     sym
     (c.loop.invariant.2
-    ∙ ap (λ (n : ℕ). word_at n (drop c.loop.at line)) none
+    ∙ ap (λ (n : ℕ). nth_word n (drop c.loop.at line)) none
     ∙ word_here line c.loop.at
     ∙ ap (λ (w : Range ℕ). take (w.end - w.start) (drop w.start line)) (sym found.ensures.3))

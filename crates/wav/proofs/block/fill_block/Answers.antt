@@ -1,10 +1,10 @@
--- `wav::block::fill` meets its contract: one sample more stands in the block. Assumes nothing.
+-- `wav::block::fill_block` meets its contract: one sample more stands in the block. Assumes nothing.
 use Rattle.std.proofs.Common.{◌≡◌, ℕ, ◌/◌, ◌<◌, length, take, refl, ap, subst, ◌∙◌, arith}
 use Rattle.values.specs.Words.{words, length-words}
 use Rattle.values.specs.Floats.{set_float}
 use Rattle.wav.specs.Frames.{listed, block_of}
 use Rattle.wav.proofs.Lists.{listed_next, listed_end}
-use Rattle.wav.proofs.block.fill.Goals as goal
+use Rattle.wav.proofs.block.fill_block.Goals as goal
 
 pub loop-i-init : goal.loop-i-init
 unfolding listed

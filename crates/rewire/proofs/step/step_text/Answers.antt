@@ -1,4 +1,4 @@
--- `rewire::step::answer_text` meets its contract: the answer's list is the visiting list of the changed board. Assumes nothing.
+-- `rewire::step::step_text` meets its contract: the answer's list is the visiting list of the changed board. Assumes nothing.
 use mathlib.Core.Path.{◌≡◌, sym, ap, subst, ◌∙◌}
 use mathlib.Core.List.{List}
 use Prim.Native.Nat.{ℕ}
@@ -13,17 +13,17 @@ use Rattle.wiring.specs.Rewire.{wiring, wiring_by}
 use Rattle.wiring.specs.Rewiring.{Checked}
 use Rattle.listing.specs.Text.{line, refused_word, order_text, text_of}
 use Rattle.rewire.proofs.Answering.{list_same}
-use Rattle.rewire.specs.Step.{answer_text}
-use Rattle.rewire.proofs.step.answer_text.Goals as goal
+use Rattle.rewire.specs.Step.{step_text}
+use Rattle.rewire.proofs.step.step_text.Goals as goal
 
 pub returns-in-Err : goal.returns-in-Err
-unfolding answer_text
+unfolding step_text
 returns-in-Err c w k =
     let same = subst (Checked w) c.in-Err.is k in
-    rw (ne_eqb w.number 0 same.0) (c.refusal_text.ensures ∙ λ i. line refused_word (same.1 i) (same.2 i))
+    rw (ne_eqb w.number 0 same.0) (c.refused_text.ensures ∙ λ i. line refused_word (same.1 i) (same.2 i))
 
 pub returns-in-Ok-read_board : goal.returns-in-Ok-read_board
-unfolding answer_text text_of
+unfolding step_text text_of
 returns-in-Ok-read_board c w k =
     let s = c.args.s.now in
     let b = c.in-Ok-read_board.board in
