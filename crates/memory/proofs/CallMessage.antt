@@ -79,7 +79,7 @@ set-paste l i v h =
 
 module _ (p : Parsed) (fine : Fine p) (ws : List ℕ) (long : Whole p ws) (k : ℕ) (x : Float) (there : k < length p.nodes) where
   pub set_long : length (put_number p k x ws) ≡ length ws
-  set_long = length-set ws ((node_at p k).cell + number_index) (to_bits binary32 x)
+  set_long = length-set ws _ _
 
   inside : (node_at p k).cell + number_index < length ws
   inside = omega (arith, cell_in p fine k there)

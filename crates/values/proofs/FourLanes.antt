@@ -153,9 +153,9 @@ read_four m k h bytes =
     ∙ words-part m k 4 16 refl
     ∙ four_words (words m) k (omega (arith, length-words m))
 
-pub put_four : (m : List ℕ) (k p q r s : ℕ) → 4 * k + 16 ≤ length m → p < 4294967296 → q < 4294967296 → r < 4294967296 → s < 4294967296
+pub write_four : (m : List ℕ) (k p q r s : ℕ) → 4 * k + 16 ≤ length m → p < 4294967296 → q < 4294967296 → r < 4294967296 → s < 4294967296
     → words (put_chunk (4 * k) m (digits_l 256 16 (number_l 4294967296 (p ∷ q ∷ r ∷ s ∷ [])))) ≡ set (set (set (set (words m) k p) (k + 1) q) (k + 2) r) (k + 3) s
-put_four m k p q r s h hp hq hr hs =
+write_four m k p q r s h hp hq hr hs =
     let bytes = digits_l 256 16 (number_l 4294967296 (p ∷ q ∷ r ∷ s ∷ [])) in
     ap words (put_chunk_is (4 * k) m bytes h)
     ∙ lent m bytes k 4 refl (omega arith)

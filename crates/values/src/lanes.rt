@@ -39,7 +39,7 @@ pub fn load_four(mem: &[u8], k: usize) -> [f32; 4]
 }
 
 // Stores four patterns at words k to k + 3.
-fn put_four(mem: &mut [u8], k: usize, bits: u32x4)
+fn put_patterns(mem: &mut [u8], k: usize, bits: u32x4)
     requires { (4 * k + 16 ≤ length mem.old) × (length bits ≡ 4) }
     ensures { words mem.new ≡ set_four (words mem.old) k bits }
 {
@@ -52,5 +52,5 @@ pub fn store_four(mem: &mut [u8], k: usize, x: [f32; 4])
     requires { 4 * k + 16 ≤ length mem.old }
     ensures { words mem.new ≡ set_four (words mem.old) k (map (to_bits binary32) x) }
 {
-    put_four(mem, k, patterns(f32x4::from_array(x)));
+    put_patterns(mem, k, patterns(f32x4::from_array(x)));
 }
