@@ -8,16 +8,13 @@ use mathlib.Core.Bool.{true, false}
 use mathlib.Core.List.{List, [], ◌∷◌}
 use native.Mathlib.Numerals.{add-one}
 use native.Mathlib.Omega.{arith}
-use borrow.Author.Tests.{eqb-true, eq-eqb}
-use lib.Dec.{eqb}
 use lib.ListN.{length, get_or, drop}
 use lib.Seq.{drop-cons, drop-length}
 use Rattle.values.specs.Floats.{finite_bits}
 use Rattle.records.specs.Answer.{answer}
 use Rattle.memory.specs.Memory.{passed}
-use Rattle.memory.specs.Calls.{and_then}
-use Rattle.memory.proofs.CallChecks.{passes, then_both}
-use Rattle.context.specs.Block.{check_size, check_sizes, check_samples}
+use Rattle.memory.proofs.CallChecks.{passes, lengths_accepted, lengths_passed}
+use Rattle.context.specs.Block.{check_sizes, check_samples}
 
 -- ---- check 10
 
@@ -44,15 +41,9 @@ samples_passed i (w ∷ ws) z =
 
 -- ---- check 9
 
-pub size_long : (N lent : ℕ) → (check_size N lent).number ≡ 0 → lent ≡ 4 * N
-size_long N lent z = eqb-true lent (4 * N) (passes (eqb lent (4 * N)) passed (answer 9 N) (λ e. omega arith) z).0
-
 module _ (N x l r : ℕ) where
   pub sizes_accepted : (check_sizes N x l r).number ≡ 0 → (x ≡ 4 * N) × (l ≡ 4 * N) × (r ≡ 4 * N)
-  sizes_accepted z =
-      let one = then_both (check_size N x) (and_then (check_size N l) (check_size N r)) z in
-      let two = then_both (check_size N l) (check_size N r) one.1 in
-      (size_long N x one.0, size_long N l two.0, size_long N r two.1)
+  sizes_accepted = lengths_accepted (4 * N) (answer 9 N) x l r (λ e. omega arith)
 
   pub sizes_passed : (x ≡ 4 * N) × (l ≡ 4 * N) × (r ≡ 4 * N) → check_sizes N x l r ≡ passed
-  sizes_passed e = rw (eq-eqb x (4 * N) e.0, eq-eqb l (4 * N) e.1, eq-eqb r (4 * N) e.2)
+  sizes_passed = lengths_passed (4 * N) (answer 9 N) x l r

@@ -2,24 +2,22 @@
 -- and is 2^23 from 1 on; the sign picks the pattern. Assumes nothing.
 use mathlib.Core.Path.{◌≡◌, refl, sym, ap, ◌∙◌, subst}
 use mathlib.Core.Bool.{Bool, true, false, not, cond, ◌||◌, true≢false, false≢true}
-use Prim.Native.Nat.{ℕ, suc, ◌+◌, ◌-◌, ◌*◌, ◌/◌, ◌%◌, ◌^◌, ◌≤◌, ◌<◌, min}
+use Prim.Native.Nat.{ℕ, zero, suc, ◌+◌, ◌-◌, ◌*◌, ◌/◌, ◌%◌, ◌^◌, ◌≤◌, ◌<◌, min}
 use native.Mathlib.Nat.{zero-mul, mul-one, min-eq_left, min-eq_right, min-le_right}
 use native.Mathlib.Omega.{arith}
-use borrow.Author.Tests.{ltb-true, ltb-false, lt-ltb}
+use borrow.Author.Tests.{ltb-true, ltb-false, lt-ltb, lt-leb}
 use lib.IntN.{ℤ, pos, neg_ℤ, ◌-ℤ◌, +ℤ_idr}
-use lib.Dec.{T, ltb, lit<, lit≤}
-use lib.Ieee.{Float, nan, inf, fin, binary32, up, down, round, add, sum, neg, lt, le, eq, ne, is_nan, to_bits}
-use lib.Ieee.Compare.{nan_differs, differs_from_itself}
-use lib.Ieee.Fits.{up_pos, down_pos}
-use lib.Ieee.Nearest.{closest, closest_mono}
+use lib.Dec.{T, ltb, leb, eqb, lit<, lit≤}
+use lib.Ieee.{Float, nan, inf, fin, binary32, up, down, round, add, sum, lt, le, eq, is_nan, odd, of_fields, of_bits, to_bits}
+use lib.Ieee.Bits.{is_false, nan_bits_is}
+use lib.Ieee.Fits.{down_pos}
+use lib.Ieee.Nearest.{closest_mono}
 use lib.Ieee.Scale.{round_same}
 use Rattle.values.specs.Floors.{zero_f, f1, Upto}
-use Rattle.values.proofs.Floors.{no_product, between, not-below, plain_not_below, zero_not_below}
-use Rattle.values.proofs.Patterns.{nan_test, no_nan_test}
+use Rattle.values.proofs.Floors.{between, plain_not_below}
+use Rattle.values.proofs.Patterns.{up_to_inf}
 use Rattle.values.proofs.WholePart.{upto-number}
-use Rattle.leaves.specs.Converter.{as_number, as_pattern, nearest_size, clipped, absolute_of, word_size, to_word}
-use Rattle.leaves.proofs.Closest.{closest_whole}
-use Rattle.leaves.proofs.WordLaws.{minus_pattern}
+use Rattle.leaves.specs.Converter.{as_number, as_pattern, nearest_size, clipped, word_size, to_word}
 use Rattle.leaves.proofs.PlusOne.{nearest-le, sum_pattern}
 use Rattle.leaves.proofs.FloatSums.{sum-upto}
 
@@ -94,68 +92,72 @@ size-le (fin s m e) = min-le_right (nearest_size m e) (2 ^ 23)
 
 -- ---- the word, by the sign
 
-minus_not_below : (x : Float) → lt x zero_f ≡ true → T (le zero_f (neg x))
-unfolding lt neg
-minus_not_below nan q = absurd (false≢true q)
-minus_not_below (inf true) q = unfold le in tt
-minus_not_below (inf false) q = absurd (false≢true q)
-minus_not_below (fin true m e) q = plain_not_below m e
-minus_not_below (fin false m e) q = absurd (omega (arith, ltb-true (m * up e * 1) (0 * down e) q))
+-- a number with another sign
+abbrev signed : Bool → Float → Float
+signed s nan = nan
+signed s (inf t) = inf s
+signed s (fin t m e) = fin s m e
 
-minus_word : (x : Float) → lt x zero_f ≡ true → (2 ^ 24 - word_size (neg x)) % 2 ^ 24 ≡ to_word x
-unfolding lt neg to_word
-minus_word nan q = absurd (false≢true q)
-minus_word (inf true) q = refl
-minus_word (inf false) q = absurd (false≢true q)
-minus_word (fin true m e) q = sym (minus_pattern (min (nearest_size m e) (2 ^ 23)))
-minus_word (fin false m e) q = absurd (omega (arith, ltb-true (m * up e * 1) (0 * down e) q))
+odd_signed : (d : ℕ) (s t : Bool) (q k l : ℕ) → odd d s q k l ≡ signed s (odd d t q k l)
+unfolding odd
+odd_signed d s t zero k l = refl
+odd_signed d s t (suc q) k l = refl
 
--- what equals itself and is not below zero
-other_not_below : (x : Float) → ne x x ≡ false → lt x zero_f ≡ false → T (le zero_f x)
-unfolding lt
-other_not_below nan r q = absurd (true≢false (sym nan_differs ∙ r))
-other_not_below (inf true) r q = absurd (true≢false q)
-other_not_below (inf false) r q = unfold le in tt
-other_not_below (fin true m e) r q =
-    zero_not_below m e (no_product m (up e) (up_pos e) (omega (arith, ltb-false 0 (m * up e * 1 + 0 * down e) q)))
-other_not_below (fin false m e) r q = plain_not_below m e
-
-plain_word : (x : Float) → T (le zero_f x) → min (word_size x) (2 ^ 23 - 1) ≡ to_word x
-unfolding to_word
-plain_word nan p = absurd (unfold le in p)
-plain_word (inf true) p = absurd (unfold le in p)
-plain_word (inf false) p = refl
-plain_word (fin true m e) p =
-    let none : nearest_size m e ≡ 0 = ap (λ (k : ℕ). closest k (down e)) (ap (λ (k : ℕ). k * up e * 2 ^ 23) (not-below m e p) ∙ omega arith) ∙ closest_whole 0 (down e) (down_pos e) in
-    rw none
-plain_word (fin false m e) p = omega arith
-
--- a NaN is what is unlike itself
-unlike : (x : Float) → ne x x ≡ is_nan x
-unlike x = go (ne x x) refl
+-- the sign's bit stands apart from the fields
+fields_signed : (s t : Bool) (x r : ℕ) → of_fields binary32 s x r ≡ signed s (of_fields binary32 t x r)
+unfolding of_fields
+fields_signed s t zero r = odd_signed 24 s t r 0 149
+fields_signed s t (suc x) r = go (eqb (suc x) 255) (eqb r 0)
   where
-    go : (b : Bool) → ne x x ≡ b → ne x x ≡ is_nan x
-    go true q = q ∙ sym (nan_test x q)
-    go false q = q ∙ sym (no_nan_test x q)
+    go : (a b : Bool) → cond a (cond b (inf s) nan) (odd 24 s (2 ^ 23 + r) x 149) ≡ signed s (cond a (cond b (inf t) nan) (odd 24 t (2 ^ 23 + r) x 149))
+    go true true = refl
+    go true false = refl
+    go false b = odd_signed 24 s t (2 ^ 23 + r) x 149
 
-pub absolute_not_below : (x : Float) → is_nan x ≡ false → T (le zero_f (absolute_of x))
-absolute_not_below x r = go (lt x zero_f) refl
-  where
-    go : (b : Bool) → lt x zero_f ≡ b → T (le zero_f (cond b (neg x) x))
-    go true q = minus_not_below x q
-    go false q = other_not_below x (unlike x ∙ r) q
+-- a pattern without its sign's bit
+module _ (w : ℕ) (few : w % 0x8000_0000 ≤ 0x7f80_0000) where
+  abbrev plain : Float
+  plain = of_bits binary32 (w % 0x8000_0000)
 
--- what is no NaN, by its size and its sign
-pub signed_word : (x : Float) → is_nan x ≡ false → as_pattern (clipped (lt x zero_f) (word_size (absolute_of x))) ≡ to_word x
-signed_word x r = go (lt x zero_f) refl
-  where
-    go : (b : Bool) → lt x zero_f ≡ b → as_pattern (clipped b (word_size (cond b (neg x) x))) ≡ to_word x
-    go true q =
-        minus_pattern (min (word_size (neg x)) (2 ^ 23))
-        ∙ ap (λ (n : ℕ). (2 ^ 24 - n) % 2 ^ 24) (min-eq_left (size-le (neg x)))
-        ∙ minus_word x q
-    go false q = plain_word x (other_not_below x (unlike x ∙ r) q)
+  abbrev fields : Bool → Float
+  fields s = of_fields binary32 s (w % 0x8000_0000 / 2 ^ 23) (w % 2 ^ 23)
 
-pub nan_word : (x : Float) → is_nan x ≡ true → 0 ≡ to_word x
-unfolding to_word
-nan_word x e = sym (ap to_word (differs_from_itself x (subst T (sym (unlike x ∙ e)) tt)))
+  plain_is : plain ≡ fields false
+  unfolding of_bits
+  plain_is =
+      let upper : w % 0x8000_0000 % 0x8000_0000 ≡ w % 0x8000_0000 = omega arith in
+      let lower : w % 0x8000_0000 % 2 ^ 23 ≡ w % 2 ^ 23 = omega arith in
+      λ i. of_fields binary32 (lt-leb 0x8000_0000 (w % 0x8000_0000) (omega arith) i) (upper i / 2 ^ 23) (lower i)
+
+  number : is_nan plain ≡ false
+  number =
+      let again : w % 0x8000_0000 % 0x8000_0000 ≤ 0x7f80_0000 = omega arith in
+      is_false (is_nan plain) (subst (λ (b : Bool). T (not b)) (nan_bits_is binary32 (w % 0x8000_0000)) (up_to_inf (w % 0x8000_0000) again))
+
+  pub plain_not_below_zero : T (le zero_f plain)
+  unfolding is_nan le
+  plain_not_below_zero = subst (λ (y : Float). T (le zero_f y)) (sym whole) (go plain number)
+    where
+      whole : plain ≡ signed false plain
+      whole = plain_is ∙ fields_signed false false (w % 0x8000_0000 / 2 ^ 23) (w % 2 ^ 23) ∙ ap (signed false) (sym plain_is)
+
+      go : (y : Float) → is_nan y ≡ false → T (le zero_f (signed false y))
+      go nan e = absurd (true≢false e)
+      go (inf t) e = tt
+      go (fin t m e') e = plain_not_below m e'
+
+  pub signed_word : as_pattern (clipped (leb 0x8000_0000 w) (word_size plain)) ≡ to_word (of_bits binary32 w)
+  unfolding of_bits to_word is_nan
+  signed_word =
+      let s = leb 0x8000_0000 w in
+      go s plain number
+      ∙ ap to_word (ap (signed s) plain_is ∙ sym (fields_signed s false (w % 0x8000_0000 / 2 ^ 23) (w % 2 ^ 23)))
+    where
+      held : (s : Bool) (n : ℕ) → clipped s (min n (2 ^ 23)) ≡ clipped s n
+      held true n = let e : min (min n (2 ^ 23)) (2 ^ 23) ≡ min n (2 ^ 23) = omega arith in ap (λ (k : ℕ). neg_ℤ (pos k)) e
+      held false n = let e : min (min n (2 ^ 23)) (2 ^ 23 - 1) ≡ min n (2 ^ 23 - 1) = omega arith in ap pos e
+
+      go : (s : Bool) (y : Float) → is_nan y ≡ false → as_pattern (clipped s (word_size y)) ≡ to_word (signed s y)
+      go s nan e = absurd (true≢false e)
+      go s (inf t) e = refl
+      go s (fin t m e') e = ap as_pattern (held s (nearest_size m e'))

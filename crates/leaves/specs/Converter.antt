@@ -2,11 +2,13 @@
 --     as_number, as_pattern    a number and its pattern of 24 bits, in which the negative ones stand from 2^23 on
 --     of_word                 going in: a word w is the float w / 2^23
 --     to_word                 going out: the whole number nearest to 2^23 × x, of two the even one, held at -2^23 and 2^23 - 1; a NaN gives 0
-use Rattle.std.specs.Prelude.{ℕ, suc, ◌-◌, ◌*◌, ◌^◌, min, Bool, cond, ltb, ℤ, pos, negsuc, neg_ℤ, Float}
-use Rattle.std.specs.Float.{nan, inf, fin}
-use Rattle.std.specs.Float.Ieee.{up, down, neg, lt}
+--     triples, floats_of, words_of    blocks of words, three bytes each, the least significant first, and float blocks, four bytes a sample
+use Rattle.std.specs.Prelude.{ℕ, suc, ◌+◌, ◌-◌, ◌*◌, ◌^◌, min, Bool, cond, List, [], ◌∷◌, ◌++◌, map, ltb, ℤ, pos, negsuc, neg_ℤ, Float}
+use Rattle.std.specs.Float.{nan, inf, fin, binary32}
+use Rattle.std.specs.Float.Ieee.{of_bits, to_bits, up, down}
 use Rattle.std.specs.Float.Ieee.Nearest.{closest}
-use Rattle.values.specs.Floors.{zero_f}
+use Rattle.values.specs.Bytes.{u24_bytes}
+use Rattle.values.specs.Words.{unwords}
 use Rattle.leaves.specs.Sine.{over23}
 
 -- the number that a pattern below 2^24 stands for, and the pattern of a number from -2^23 to 2^23 - 1
@@ -36,10 +38,6 @@ nearest_number nan = pos 0
 nearest_number (inf s) = clipped s (2 ^ 23)
 nearest_number (fin s m e) = clipped s (nearest_size m e)
 
--- a sample without its sign
-abbrev pub absolute_of : Float → Float
-absolute_of x = cond (lt x zero_f) (neg x) x
-
 -- the size of a sample's word, its sign aside: at most 2^23
 abbrev pub word_size : Float → ℕ
 word_size nan = 0
@@ -49,3 +47,21 @@ word_size (fin s m e) = min (nearest_size m e) (2 ^ 23)
 -- the pattern of a sample's word
 unfoldable pub to_word : Float → ℕ
 to_word x = as_pattern (nearest_number x)
+
+-- ---- blocks of words
+
+-- each three bytes as the pattern of a word; one or two bytes at the end stand for no word
+unfoldable pub triples : List ℕ → List ℕ
+triples [] = []
+triples (a ∷ []) = []
+triples (a ∷ b ∷ []) = []
+triples (a ∷ b ∷ c ∷ m) = (a + b * 256 + c * 65536) ∷ triples m
+
+-- going in: the float block of a packed one, each word as its sample
+abbrev pub floats_of : List ℕ → List ℕ
+floats_of x = unwords (map (λ u. to_bits binary32 (of_word u)) (triples x))
+
+-- going out: the bytes of the words of samples
+unfoldable pub words_of : List ℕ → List ℕ
+words_of [] = []
+words_of (w ∷ ws) = u24_bytes (to_word (of_bits binary32 w)) ++ words_of ws

@@ -3,6 +3,7 @@
 --     cells_next, cells_wrong, cells_end        check 8, node by node
 --     needed_long                               check 7
 --     then_both, then_assoc                     one check after another
+--     lengths_accepted, lengths_passed          three lengths held to one
 --     test_checked                              the answer of a test as a result
 --     checked_passed, checked_refused           what the answer of a check says as a result
 --     checked_then, checked_first               and one after another
@@ -13,7 +14,7 @@ use mathlib.Core.Bool.{Bool, true, false, cond}
 use mathlib.Core.List.{List}
 use native.Mathlib.Numerals.{add-one}
 use native.Mathlib.Omega.{arith}
-use borrow.Author.Tests.{eqb-true, eqb-false, ne_eqb}
+use borrow.Author.Tests.{eqb-true, eqb-false, eq-eqb, ne_eqb}
 use lib.Dec.{eqb}
 use lib.ListN.{length, drop, drop_of_length-le}
 use lib.Seq.{drop-cons}
@@ -72,6 +73,25 @@ then_assoc a b c = go (eqb a.number 0) refl
     go : (q : Bool) → eqb a.number 0 ≡ q → and_then (and_then a b) c ≡ and_then a (and_then b c)
     go true e = rw e
     go false e = rw (e, e)
+
+-- ---- three lengths held to one
+
+module _ (needed : ℕ) (refusal : Answer) where
+  abbrev pub held_to : ℕ → Answer
+  held_to lent = cond (eqb lent needed) passed refusal
+
+  held_long : (refusal.number ≡ 0 → ⊥) → (lent : ℕ) → (held_to lent).number ≡ 0 → lent ≡ needed
+  held_long refuses lent z = eqb-true lent needed (passes (eqb lent needed) passed refusal refuses z).0
+
+  module _ (x l r : ℕ) where
+    pub lengths_accepted : (refusal.number ≡ 0 → ⊥) → (and_then (held_to x) (and_then (held_to l) (held_to r))).number ≡ 0 → (x ≡ needed) × (l ≡ needed) × (r ≡ needed)
+    lengths_accepted refuses z =
+        let one = then_both (held_to x) (and_then (held_to l) (held_to r)) z in
+        let two = then_both (held_to l) (held_to r) one.1 in
+        (held_long refuses x one.0, held_long refuses l two.0, held_long refuses r two.1)
+
+    pub lengths_passed : (x ≡ needed) × (l ≡ needed) × (r ≡ needed) → and_then (held_to x) (and_then (held_to l) (held_to r)) ≡ passed
+    lengths_passed e = rw (eq-eqb x needed e.0, eq-eqb l needed e.1, eq-eqb r needed e.2)
 
 -- ---- the answer of a check as a result
 

@@ -1,35 +1,21 @@
 -- The samples of words are finite, so a block of them passes check 10 (`words_finite`). Assumes nothing.
 use Prim.Native.Nat.{ℕ, suc, ◌+◌, ◌*◌, ◌^◌, ◌<◌}
 use mathlib.Core.Path.{◌≡◌, refl, ◌∙◌}
-use mathlib.Core.Bool.{Bool, true, false}
+use mathlib.Core.Bool.{Bool, true}
 use mathlib.Core.List.{List, [], ◌∷◌, map}
 use native.Mathlib.Omega.{arith}
-use lib.Dec.{T}
-use lib.IntN.{ℤ, pos, negsuc}
-use lib.Ieee.{Float, nan, inf, fin, binary32, fits, to_bits}
+use lib.Ieee.{Float, nan, inf, fin, binary32, to_bits}
 use lib.Ieee.Exact.{HasValue}
-use lib.Ieee.Fits.{round-fits}
 use Rattle.values.specs.Words.{Bytes, words, words-unwords}
 use Rattle.values.specs.Floats.{finite_bits}
 use Rattle.values.specs.Floors.{finite_f}
 use Rattle.values.proofs.Patterns.{pattern_finite}
-use Rattle.leaves.specs.Sine.{over23}
-use Rattle.leaves.specs.Converter.{as_number, of_word}
-use Rattle.leaves.proofs.WordLaws.{word_exact}
+use Rattle.leaves.specs.Converter.{of_word, triples, floats_of}
+use Rattle.leaves.proofs.WordLaws.{word_exact, word_fits}
 use Rattle.memory.specs.Memory.{passed}
 use Rattle.context.specs.Block.{check_samples}
-use Rattle.packed.specs.Packed.{triples, floats_of}
 
 -- ---- one word
-
-over_fits : (z : ℤ) → T (fits binary32 (over23 z))
-unfolding over23
-over_fits (pos n) = round-fits binary32 false n (2 ^ 23)
-over_fits (negsuc n) = round-fits binary32 true (suc n) (2 ^ 23)
-
-word_fits : (u : ℕ) → T (fits binary32 (of_word u))
-unfolding of_word
-word_fits u = over_fits (as_number u)
 
 -- what has a value is finite
 valued : (x : Float) (s : Bool) (a c : ℕ) → HasValue x s a c → finite_f x ≡ true

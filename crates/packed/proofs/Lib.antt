@@ -1,6 +1,4 @@
 -- Laws of packed blocks.
-pub mod Triples
-pub mod Blocks
 pub mod Finite
 pub mod Head
 pub mod PackedLengths

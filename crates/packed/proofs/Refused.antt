@@ -14,12 +14,13 @@ use Rattle.records.specs.declared.answer.Answer.{Answer}
 use Rattle.boards.specs.Board.{Parsed, whole, memory_length}
 use Rattle.boards.specs.BoardParts.{Refuses}
 use Rattle.boards.specs.Judge.{read_board}
+use Rattle.leaves.specs.Converter.{floats_of}
 use Rattle.memory.specs.Memory.{listed}
 use Rattle.memory.specs.Calls.{check_needed, check_values}
 use Rattle.memory.specs.Stages.{read_open, read_judged}
 use Rattle.memory.proofs.CallBy.{held_told, judged_call, call_refused, call_lacking}
 use Rattle.context.specs.Block.{Outcome, as_left, ran_block}
-use Rattle.packed.specs.Packed.{floats_of, packed, check_packed_blocks, packed_in, packed_of}
+use Rattle.packed.specs.Packed.{packed, check_packed_blocks, packed_in, packed_of}
 use Rattle.packed.specs.Said.{size_said, lengths_fit}
 use Rattle.packed.proofs.Head.{said_is}
 use Rattle.packed.proofs.PackedLengths.{other_lengths}

@@ -1,12 +1,9 @@
 -- A block run whose blocks hold converter words (document 02, [1]): 24 bits each, in three bytes, the least significant first. It is its input
 -- converted, a float block's run, and its outputs converted: the answer, and every byte afterwards. A refused call leaves every byte as found.
 -- Definitions only.
-use Rattle.std.specs.Prelude.{ℕ, ◌+◌, ◌*◌, cond, List, [], ◌∷◌, ◌++◌, map, eqb, length}
-use Rattle.std.specs.Float.{binary32}
-use Rattle.std.specs.Float.Ieee.{of_bits, to_bits}
-use Rattle.values.specs.Words.{words, unwords}
-use Rattle.values.specs.Bytes.{u24_bytes}
-use Rattle.leaves.specs.Converter.{of_word, to_word}
+use Rattle.std.specs.Prelude.{ℕ, ◌*◌, cond, List, eqb, length}
+use Rattle.values.specs.Words.{words}
+use Rattle.leaves.specs.Converter.{floats_of, words_of}
 use Rattle.records.specs.Answer.{answer}
 use Rattle.boards.specs.Board.{Parsed}
 use Rattle.boards.specs.Judge.{read_board}
@@ -14,24 +11,6 @@ use Rattle.memory.specs.Memory.{passed, listed}
 use Rattle.memory.specs.Calls.{and_then, check_memory, call_by}
 use Rattle.context.specs.Block.{Outcome, as_left, ran_block}
 use Rattle.records.specs.declared.answer.Answer.{Answer}
-
--- ---- blocks of words
-
--- each three bytes as the pattern of a word; one or two bytes at the end stand for no word
-unfoldable pub triples : List ℕ → List ℕ
-triples [] = []
-triples (a ∷ []) = []
-triples (a ∷ b ∷ []) = []
-triples (a ∷ b ∷ c ∷ m) = (a + b * 256 + c * 65536) ∷ triples m
-
--- going in: the float block of a packed one, each word as its sample
-abbrev pub floats_of : List ℕ → List ℕ
-floats_of x = unwords (map (λ u. to_bits binary32 (of_word u)) (triples x))
-
--- going out: the bytes of the words of samples
-unfoldable pub words_of : List ℕ → List ℕ
-words_of [] = []
-words_of (w ∷ ws) = u24_bytes (to_word (of_bits binary32 w)) ++ words_of ws
 
 -- the outputs of a float block, packed
 abbrev pub packed : Outcome → Outcome

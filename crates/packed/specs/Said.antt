@@ -1,7 +1,11 @@
 -- The block size that a board's head says, before the board is judged, and the lengths of packed blocks that go with it. Scaffolding.
 -- Definitions only.
-use Rattle.std.specs.Prelude.{ℕ, ◌*◌, ◌≤◌, ◌≡◌, Bool, cond, ◌&&◌, List, ltb, leb, eqb, length, Option, Some, None}
+use Rattle.std.specs.Prelude.{ℕ, ◌*◌, ◌≤◌, ◌≡◌, ◌⊎◌, Bool, cond, ◌&&◌, List, ltb, leb, eqb, length, Option, Some, None}
 use Rattle.values.specs.Bytes.{u16_at}
+use Rattle.records.specs.Answer.{answer}
+use Rattle.boards.specs.Board.{Parsed, Progress, whole}
+use Rattle.boards.specs.BoardParts.{Refuses}
+use Rattle.records.specs.declared.answer.Answer.{Answer}
 
 -- its bytes 4 and 5, where they are there and say 128 at most
 abbrev pub size_said : List ℕ → Option ℕ
@@ -18,3 +22,7 @@ pub record Fits (s : List ℕ) (x l r n : ℕ) : Type 0 where
   pub input : x ≡ 3 * n
   pub left : l ≡ 3 * n
   pub right : r ≡ 3 * n
+
+-- a refusal where blocks are of other lengths, on a board that reads and is judged as v: v's own, or 13
+abbrev pub Lacks : Progress → Answer → Type 0
+Lacks v a = Refuses v a ⊎ ((p : Parsed) × (v ≡ whole p) × (a ≡ answer 13 p.size))

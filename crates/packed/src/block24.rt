@@ -1,18 +1,17 @@
 // The block run with packed blocks: the input's words become a float block, that is run as any other, and
 // its outputs go out as words. The call judges everything first, so a refusal leaves every byte as found.
 ghost use Rattle.std.specs.Prelude.{◌≡◌, ℕ, ◌*◌, ◌/◌, ◌≤◌, false, Some, None, IfSome, length};
-ghost use Rattle.values.specs.Words.{words};
 ghost use Rattle.records.specs.Answer.{told};
 ghost use Rattle.context.specs.Block.{as_left};
-ghost use Rattle.packed.specs.Packed.{floats_of, words_of, packed_of};
-ghost use Rattle.packed.specs.Said.{size_said, lengths_fit, Fits};
+ghost use Rattle.packed.specs.Packed.{packed_of};
+ghost use Rattle.memory.specs.Stages.{read_judged};
+ghost use Rattle.packed.specs.Said.{size_said, lengths_fit, Fits, Lacks};
 
 use context::block::block;
-use leaves::converter::{of_word, to_word};
+use leaves::converter::{give_words, take_words};
 use memory::open::judged;
 use records::answer::Answer;
-use values::bytes::{put_u24, u16_at, u24_at};
-use values::float::{load, store};
+use values::bytes::u16_at;
 
 // The block size that the board's head says. Only the judge knows whether there is a board; if there is,
 // this is its block size.
@@ -41,27 +40,6 @@ fn size_lent(s: &[u8], input: usize, left: usize, right: usize) -> Option<usize>
     }
 }
 
-// Going in: words as floats. An index. Tried with the chunks of both blocks zipped: the proof didn't
-// close, as what is written stands in lent chunks and the laws speak of the first i words.
-fn take_words(input: &[u8], floats: &mut [u8])
-    requires { (length floats.old ≤ 512) × (4 * length input.now ≡ 3 * length floats.old) }
-    ensures { floats.new ≡ floats_of input.now }
-{
-    for i in 0..floats.len() / 4 {
-        store(floats, i, of_word(u24_at(input, 3 * i)));
-    }
-}
-
-// Going out: floats as words. An index, as going in.
-fn give_words(floats: &[u8], out: &mut [u8])
-    requires { (length floats.now ≤ 512) × (4 * length out.old ≡ 3 * length floats.now) }
-    ensures { out.new ≡ words_of (words floats.now) }
-{
-    for i in 0..floats.len() / 4 {
-        put_u24(out, 3 * i, to_word(load(floats, i)));
-    }
-}
-
 // The call where each block is of the length that the board's head says: a board that is accepted has that
 // block size, so the float block's answer is the call's. The three float blocks are room to work in. Memory
 // and blocks are no struct: the C interface lends them apart, and `block` takes them so.
@@ -87,6 +65,17 @@ fn converted(
     Ok(())
 }
 
+// The refusal of blocks of other lengths than the board's head says: what checks 1 to 8 refuse, else 13. A
+// function of its own: the board that it judges takes room, which would be cleared for every call.
+fn lengths_refused(s: &[u8], memory: &[u8]) -> Answer
+    ensures { Lacks (read_judged s.now memory.now) result }
+{
+    match judged(s, memory) {
+        Ok(board) => Answer::new(13, board.size),
+        Err(refusal) => refusal,
+    }
+}
+
 // The same for any lengths: another is refused, and before it what checks 1 to 8 refuse.
 fn run_words(
     s: &[u8],
@@ -99,8 +88,7 @@ fn run_words(
         ≡ packed_of s.now memory.old input.now out0.old out1.old }
 {
     let Some(n) = size_lent(s, input.len(), out0.len(), out1.len()) else {
-        let board = judged(s, memory)?;
-        return Err(Answer::new(13, board.size));
+        return Err(lengths_refused(s, memory));
     };
     let size = 4 * n;
     let mut floats = [0u8; 512];

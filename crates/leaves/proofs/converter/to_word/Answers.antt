@@ -1,22 +1,27 @@
--- `leaves::converter::to_word` meets its contract: the NaN's word is 0, any other is of its size and its sign. Assumes nothing.
-use mathlib.Core.Path.{sym, ap, subst, ◌∙◌}
-use Prim.Native.Nat.{ℕ}
-use lib.Dec.{T, lit<}
-use lib.Ieee.{Float, of_bits, le, lt}
-use Rattle.values.specs.Floors.{zero_f}
-use Rattle.leaves.specs.Converter.{as_pattern, clipped, word_size}
-use Rattle.leaves.proofs.WordCode.{nan_word, absolute_not_below, signed_word}
+-- `leaves::converter::to_word` meets its contract: the test finds the NaN's patterns, whose word is 0; any other is of its size and its sign.
+-- Assumes nothing.
+use borrow.Author.Rules.{rules}
+use mathlib.Core.Path.{sym, ap, ◌∙◌}
+use Prim.Native.Nat.{ℕ, ◌%◌}
+use native.Mathlib.Omega.{arith}
+use lib.Dec.{leb, lit<}
+use Rattle.values.proofs.Patterns.{above_inf, up_to_inf}
+use Rattle.leaves.specs.Converter.{as_pattern, clipped, to_word}
+use Rattle.leaves.proofs.WordCode.{plain_not_below_zero, signed_word}
 use Rattle.leaves.proofs.converter.to_word.Goals as goal
 
-pub returns-then-is_nan : goal.returns-then-is_nan
-returns-then-is_nan c = (nan_word c.args.x (sym c.is_nan.ensures.value ∙ c.if-is_nan.true), lit< tt)
+pub returns-then-plain-gt2139095040 : goal.returns-then-plain-gt2139095040
+unfolding to_word
+returns-then-plain-gt2139095040 c = (sym (ap to_word (above_inf c.args.bits (search rules))), lit< tt)
+
+pub float_from_bits-plain : goal.float_from_bits-plain
+float_from_bits-plain c = let w = c.args.bits % 0x8000_0000 in up_to_inf w (omega arith)
 
 pub size_of-requires : goal.size_of-requires
-size_of-requires c =
-    subst (λ (y : Float). T (le zero_f y)) (sym c.absolute.ensures) (absolute_not_below c.args.x (sym c.is_nan.ensures.value ∙ c.if-is_nan.false))
+size_of-requires c = plain_not_below_zero c.args.bits (search rules)
 
 pub returns : goal.returns
-unfolding of_bits
-returns c =
-    let size = c.size_of.ensures.0 ∙ ap word_size c.absolute.ensures in
-    (c.pattern_of.ensures.0 ∙ ap (λ (n : ℕ). as_pattern (clipped (lt c.args.x zero_f) n)) size ∙ signed_word c.args.x (sym c.is_nan.ensures.value ∙ c.if-is_nan.false), c.pattern_of.ensures.1)
+returns c = (
+  c.pattern_of.ensures.0 ∙ ap (λ (n : ℕ). as_pattern (clipped (leb 0x8000_0000 c.args.bits) n)) c.size_of.ensures.0 ∙ signed_word c.args.bits (search rules),
+  c.pattern_of.ensures.1,
+)

@@ -12,8 +12,7 @@ use lib.Ieee.{binary32, of_bits}
 use lib.ListN.{length, get_or, set, take, drop, length-append, length-map, get_or-map}
 use lib.Seq.{sets, sets-eq, take_all, take-suc, take-suc-set, take_at, length-take-le}
 use Rattle.values.specs.Bytes.{u24_bytes}
-use Rattle.leaves.specs.Converter.{to_word}
-use Rattle.packed.specs.Packed.{words_of}
+use Rattle.leaves.specs.Converter.{to_word, words_of}
 
 -- ---- going in
 

@@ -1,4 +1,4 @@
--- `packed::block24::take_words` meets its contract: after i turns the first i samples stand in the float block. Assumes nothing.
+-- `leaves::converter::take_words` meets its contract: after i turns the first i samples stand in the float block. Assumes nothing.
 use Prim.Native.Nat.{ℕ, ◌/◌}
 use mathlib.Core.Path.{◌≡◌, refl, sym, ap, ◌∙◌}
 use native.Mathlib.Omega.{arith}
@@ -6,11 +6,10 @@ use lib.Ieee.{binary32, to_bits}
 use lib.ListN.{length}
 use Rattle.values.specs.Words.{words, length-words, unwords, unwords-words}
 use Rattle.values.specs.Floats.{set_float}
-use Rattle.leaves.specs.Converter.{of_word}
-use Rattle.packed.specs.Packed.{triples}
-use Rattle.packed.proofs.Triples.{length-triples, triples_at}
-use Rattle.packed.proofs.Blocks.{taken_next, taken_all}
-use Rattle.packed.proofs.block24.take_words.Goals as goal
+use Rattle.leaves.specs.Converter.{of_word, triples}
+use Rattle.leaves.proofs.Triples.{length-triples, triples_at}
+use Rattle.leaves.proofs.WordBlocks.{taken_next, taken_all}
+use Rattle.leaves.proofs.converter.take_words.Goals as goal
 
 -- the pattern of a word's sample
 abbrev pattern : ℕ → ℕ
@@ -19,18 +18,15 @@ pattern u = to_bits binary32 (of_word u)
 pub loop-i-init : goal.loop-i-init
 loop-i-init c = (refl, (λ k. omega (arith, c.type_inv.floats k)), refl)
 
-pub of_word-requires : goal.of_word-requires
-of_word-requires c = c.u24_at.ensures.1
-
 pub loop-i-preserved : goal.loop-i-preserved
 loop-i-preserved c =
     let l = c.loop-i in
     let input = c.args.input.now in
-    let word = c.u24_at.ensures.0 ∙ sym (triples_at input l.i (omega arith)) in (
+    let word = sym (triples_at input l.i (omega arith)) in (
       omega arith,
       (λ k. omega (arith, c.type_inv.floats k)),
       taken_next pattern (triples input) (words l.floats) _ l.i (omega (arith, length-words l.floats)) (omega (arith, length-triples input)) l.invariant.2
-          (c.store.ensures ∙ ap (set_float (words l.floats) l.i) (c.of_word.ensures ∙ ap of_word word)),
+          (c.store.ensures ∙ ap (set_float (words l.floats) l.i) (c.take_word.ensures ∙ ap of_word word)),
     )
 
 pub returns : goal.returns
