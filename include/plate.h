@@ -17,11 +17,13 @@
  *   lent bytes is read or written. With exceptions unmasked a call may trap half-way. The mode is neither read nor
  *   changed.
  * - Samples. Input samples must be finite. Outputs need not be: a board whose loops or numbers amplify can reach
- *   infinities and NaN, which are answered as any other output. A NaN is always 7FC00000.
+ *   infinities and NaN, which are answered as any other output. A NaN is always 7FC00000. A converter's words need no
+ *   care: every word is a finite sample, and every output is held to a word (plate_block24).
  * - Machine. libplate.a is for x86-64 with the System V calling convention (Linux): the compiler behind it makes
  *   nothing else today. It uses SSE2 and no later extension, and wants memcpy and memset from its host, no more.
  *
- * Numbers in boards, memory and sample blocks are little-endian; samples are 32-bit floats. Sample rate 44,100.
+ * Numbers in boards, memory and sample blocks are little-endian; samples are 32-bit floats, in packed blocks signed
+ * words of 24 bits. Sample rate 44,100.
  */
 #ifndef PLATE_H
 #define PLATE_H
@@ -37,9 +39,9 @@ extern "C" {
    the second may change or add calls, answers, boards or the memory's layout, and a host should be looked at again; a
    change of the third changes none of these. */
 #define PLATE_VERSION_MAJOR 0
-#define PLATE_VERSION_MINOR 1
+#define PLATE_VERSION_MINOR 2
 #define PLATE_VERSION_PATCH 0
-#define PLATE_VERSION "0.1.0"
+#define PLATE_VERSION "0.2.0"
 
 typedef struct {
     uint32_t number;
@@ -61,6 +63,7 @@ enum {
     PLATE_INPUT = 10,     /* index of the first infinite or NaN input sample */
     PLATE_TARGET = 11,    /* node that is missing or takes no number; for plate_mix, that is no mul */
     PLATE_VALUE = 12,     /* node whose value is outside its range; 41 for a mix, 0 for milliseconds */
+    PLATE_BLOCKS24 = 13,  /* block size N: a packed block is not of 3 x N bytes */
     PLATE_ROOM = 15,      /* length needed, at most 4,294,967,295: fewer bytes are lent to a change of wires */
     PLATE_NO_WIRE = 16    /* target: there is no such wire to pull */
 };
@@ -75,6 +78,10 @@ enum {
 #define PLATE_MOST_LINES 262144u   /* values of all lines together; an all-pass of n has 2 n */
 #define PLATE_MOST_BOARD 1932u     /* bytes of a board: no accepted board is longer */
 #define PLATE_MOST_MEMORY 1113856u /* bytes of memory: no accepted board needs more */
+
+/* The least and the most that a word of a packed block can be. */
+#define PLATE_LEAST_WORD (-8388608)
+#define PLATE_MOST_WORD 8388607
 
 /* The tail of a board whose output may never end. */
 #define PLATE_ENDLESS 4294967295u
@@ -101,6 +108,15 @@ plate_answer plate_fresh(const uint8_t *board, size_t board_len, uint8_t *memory
 plate_answer plate_block(const uint8_t *board, size_t board_len, uint8_t *memory, size_t memory_len,
                          const uint8_t *input, size_t input_len, uint8_t *out0, size_t out0_len, uint8_t *out1,
                          size_t out1_len);
+
+/* The same with packed blocks, as converters give and take them: N signed words of 24 bits, three bytes each, the
+   least significant first. In, a word w is the sample w / 2^23, with nothing lost. Out, a sample x is the whole number
+   nearest to x * 2^23, of two the even one; past PLATE_LEAST_WORD or PLATE_MOST_WORD it is held there, infinities too,
+   and a NaN is 0. A word that goes straight through comes out unchanged. The memory afterwards is that of plate_block
+   with the same samples in, so the two calls may take turns on one memory. Answers 0 and 0, or 1 to 6, 7, 8, 13. */
+plate_answer plate_block24(const uint8_t *board, size_t board_len, uint8_t *memory, size_t memory_len,
+                           const uint8_t *input, size_t input_len, uint8_t *out0, size_t out0_len, uint8_t *out1,
+                           size_t out1_len);
 
 /* A change of wires: number and place as above, and the new board's visiting list, its nodes in the order in which a
    block runs them. The first count bytes of listed are the list, those behind it 0; a refusal has count 0. */

@@ -26,6 +26,7 @@ static inline const char *plate_words(uint32_t number)
     case PLATE_INPUT: return "an input sample is infinite or NaN";
     case PLATE_TARGET: return "the node is missing or takes no number";
     case PLATE_VALUE: return "the value is outside its range";
+    case PLATE_BLOCKS24: return "a packed block is not of the block size";
     case PLATE_ROOM: return "the bytes lent are too few for the change";
     case PLATE_NO_WIRE: return "there is no such wire to pull";
     default: return "a number that this version does not give";
@@ -48,7 +49,8 @@ static inline const char *plate_place_words(uint32_t number)
     case PLATE_NO_WIRE: return "node";
     case PLATE_LENGTH:
     case PLATE_ROOM: return "bytes needed";
-    case PLATE_BLOCKS: return "samples a block";
+    case PLATE_BLOCKS:
+    case PLATE_BLOCKS24: return "samples a block";
     case PLATE_INPUT: return "sample of the input block";
     default: return "";
     }

@@ -30,12 +30,13 @@ sanitizes() {
 }
 
 # run DIR: the programs of a folder; all but the first run are silent unless they fail.
-run() { (cd "$1" && ./host impulse.wav && ./rewire && ./claims) >"$1/said" 2>&1 || { cat "$1/said"; echo "failed: $2"; exit 1; }; }
+run() { (cd "$1" && ./host impulse.wav && ./packed packed.wav && ./rewire && ./claims) >"$1/said" 2>&1 || { cat "$1/said"; echo "failed: $2"; exit 1; }; }
 
 first=gcc
 has gcc || first=cc
 make -s clean all CC=$first
 ./host impulse.wav
+./packed packed.wav
 ./rewire
 ./claims
 
@@ -65,7 +66,7 @@ for cxx in g++ clang++; do
 done
 
 if has valgrind; then
-    for program in "host impulse.wav" rewire claims; do
+    for program in "host impulse.wav" "packed packed.wav" rewire claims; do
         valgrind -q --error-exitcode=1 ./$program >"$out/said" 2>&1 || { cat "$out/said"; echo "failed: $program under valgrind"; exit 1; }
     done
     echo "valgrind: nothing found"

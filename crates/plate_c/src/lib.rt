@@ -9,6 +9,7 @@ ghost use Rattle.graph.specs.Tail.{tail_answer};
 ghost use Rattle.wiring.specs.Rewire.{add_of, pull_of};
 ghost use Rattle.context.specs.Block.{as_left, block_of};
 ghost use Rattle.memory.specs.Calls.{fresh_of, message_of};
+ghost use Rattle.packed.specs.Packed.{packed_of};
 ghost use Rattle.plate_board.specs.Plate.{write_of};
 ghost use Rattle.mixing.specs.Mix.{mix_of};
 ghost use Rattle.plate.specs.Lengths.{length_answer};
@@ -54,6 +55,21 @@ pub extern "C" fn plate_block(
         ≡ block_of board.now memory.old input.now out0.old out1.old }
 {
     plate::plate_block(board, memory, input, out0, out1)
+}
+
+// A block run with packed blocks.
+#[unsafe(no_mangle)]
+pub extern "C" fn plate_block24(
+    board: &[u8],
+    memory: &mut [u8],
+    input: &[u8],
+    out0: &mut [u8],
+    out1: &mut [u8],
+) -> Answer
+    ensures { as_left result memory.new out0.new out1.new
+        ≡ packed_of board.now memory.old input.now out0.old out1.old }
+{
+    plate::plate_block24(board, memory, input, out0, out1)
 }
 
 // A number message.
