@@ -11,6 +11,7 @@ use borrow.Author.Tests.{eqb-true, eq-eqb}
 use lib.Dec.{eqb}
 use lib.ListN.{length, get_or}
 use Rattle.values.specs.Words.{Bytes, unwords}
+use Rattle.leaves.specs.Converter.{floats_of}
 use Rattle.kinds.specs.Kind.{channels_of}
 use Rattle.kinds.specs.Rule.{Frame}
 use Rattle.kinds.specs.Cell.{values_of}
@@ -26,8 +27,10 @@ use Rattle.boards.specs.Judge.{read_board}
 use Rattle.boards.specs.BoardParts.{wired as with_wires}
 use Rattle.memory.specs.Memory.{kind_at, listed}
 use Rattle.context.specs.Block.{Outcome, as_left, check_block, ran_block, block_in}
-use Rattle.memory.specs.Calls.{call_by}
-use Rattle.samples.specs.Reading.{Call, block, message, accepts, done, effects, Fixed, mono, silence, reached, ago_n, brought_to, IsReading, IsReadingOn, samples_of, Reply, reply_to, replies_to}
+use Rattle.memory.specs.Calls.{check_memory, call_by}
+use Rattle.packed.specs.Packed.{packed, check_packed_blocks, packed_in}
+use Rattle.records.specs.declared.answer.Answer.{Answer}
+use Rattle.samples.specs.Reading.{Call, block, block24, message, accepts, done, effects, Fixed, mono, silence, reached, ago_n, brought_to, IsReading, IsReadingOn, samples_of, Reply, reply_to, replies_to}
 use Rattle.samples.specs.Reading as base
 use Rattle.samples.specs.Claim.{replied as replied-by, call_in, fresh_memory, AsRead, Claim, Demand}
 use Rattle.memory.specs.Fine.{Fine}
@@ -78,6 +81,7 @@ module _ (l : Lent) where
     where
       one : (d : Call) → done d ≡ lifted (done d)
       one (block x y z) = refl
+      one (block24 x y z) = refl
       one (message k w) = refl
 
       go : (b : Bool) → cond b (done c) [] ≡ lifted (cond b (done c) [])
@@ -187,20 +191,25 @@ module _ (p : Parsed) (order : Parsed → List ℕ) where
       go true q = subst (λ (vs : List Wire). Reorders vs (listed (with_wires p vs)) (order p)) (sym (wires_equal ws p.wires q)) fit
       go false q = own_order p board h ws e
 
--- a call on a board that is read as p looks at no other order
-call_alike : (board : List ℕ) (p : Parsed) → read_board board ≡ whole p → (o order : Parsed → List ℕ) → o p ≡ order p → (c : Call) (m : List ℕ)
-    → call_in o board c m ≡ call_in order board c m
-unfolding block_in
-call_alike board p reads o order e (block x l r) m =
-    ap (by o) reads ∙ ap (λ (k : List ℕ). of (cond (eqb (check_block p m x l r).number 0) (ran_block p k x m) (as_left (check_block p m x l r) m l r))) e
-    ∙ sym (ap (by order) reads)
-  where
+-- A call on a board that is read as p looks at no other order. A block run, by what finds it refused, its check, and its run in an order:
+module _ (board : List ℕ) (p : Parsed) (reads : read_board board ≡ whole p) (o order : Parsed → List ℕ) (e : o p ≡ order p) where
+  module _ (found : Answer → Outcome) (check : Parsed → Answer) (ran : Parsed → List ℕ → Outcome) where
     of : Outcome → List ℕ × Reply
     of d = (d.memory, replied-by d)
 
     by : (Parsed → List ℕ) → Progress → List ℕ × Reply
-    by f d = of (call_by (λ a. as_left a m l r) (λ q. check_block q m x l r) (λ q. ran_block q (f q) x m) d)
-call_alike board p reads o order e (message k w) m = refl
+    by f d = of (call_by found check (λ q. ran q (f q)) d)
+
+    run_alike : by o (read_board board) ≡ by order (read_board board)
+    unfolding by
+    run_alike = ap (by o) reads ∙ ap (λ (k : List ℕ). of (cond (eqb (check p).number 0) (ran p k) (found (check p)))) e ∙ sym (ap (by order) reads)
+
+  call_alike : (c : Call) (m : List ℕ) → call_in o board c m ≡ call_in order board c m
+  unfolding block_in packed_in by of
+  call_alike (block x l r) m = run_alike (λ a. as_left a m l r) (λ q. check_block q m x l r) (λ q k. ran_block q k x m)
+  call_alike (block24 x l r) m =
+      run_alike (λ a. as_left a m l r) (λ q. check_memory q m (check_packed_blocks q x l r)) (λ q k. packed (ran_block q k (floats_of x) m))
+  call_alike (message k w) m = refl
 
 plain : List Said → List Reply
 plain [] = []

@@ -1,4 +1,5 @@
--- Every call as the reading by samples says it (Shown..), and the theorems: demand 3 (Demand), the tail (Silence), the trial values (Trials).
+-- Every call as the reading by samples says it (Shown..), and the theorems: demand 3 (Demand), the tail (Silence), words that come straight
+-- back (Straight), the trial values (Trials).
 pub mod ShownCells
 pub mod ShownRun
 pub mod ShownBlock
@@ -17,4 +18,6 @@ pub mod SilenceNodes
 pub mod SilenceLags
 pub mod Silence
 pub mod SilenceWorked
+pub mod Straight
+pub mod StraightWorked
 pub mod Trials

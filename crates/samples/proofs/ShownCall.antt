@@ -3,14 +3,14 @@
 --     block_whole          the input block of an accepted block run is whole
 --     message_given        the node of an accepted message is there, and its value in range
 --     effects_fit, effects-whole, effects_leave, effects-wiring    so what calls set is in range, their blocks are whole, and the wiring stays
---     call_writes          a call runs no block, or one whose outputs it writes
+--     Writes, call_writes  a call runs no block, or one whose outputs it writes
 --     call_shown           the promise
--- A new call has its case in `done_proper`, `call_writes` and `call_shown`. Assumes nothing.
+-- A new call has its case in `done_proper`, `call_writes` and `call_shown`; a new form of blocks takes `block_by`. Assumes nothing.
 use Prim.Native.Nat.{ℕ, ◌+◌, ◌*◌, ◌<◌}
 use mathlib.Core.Path.{◌≡◌, refl, sym, ap, ◌∙◌}
 use mathlib.Core.Logic.{◌⊎◌, inl, inr}
 use mathlib.Core.Bool.{Bool, true, false, cond}
-use mathlib.Core.List.{List, [], ◌∷◌}
+use mathlib.Core.List.{List, [], ◌∷◌, map}
 use native.Mathlib.Omega.{arith}
 use borrow.Author.Tests.{eqb-true}
 use lib.Dec.{eqb}
@@ -19,6 +19,8 @@ use lib.Ieee.Bits.{of_bits-fits}
 use lib.ListN.{length, get_or}
 use Rattle.values.specs.Parts.{part}
 use Rattle.values.specs.Words.{words, unwords, length-words, words-unwords}
+use Rattle.leaves.specs.Converter.{floats_of, words_of}
+use Rattle.leaves.proofs.Triples.{floats_long}
 use Rattle.kinds.specs.Kind.{samples_from}
 use Rattle.kinds.specs.Rule.{Frame}
 use Rattle.kinds.specs.Cell.{value_fits, number_fits}
@@ -36,7 +38,7 @@ use Rattle.memory.specs.Memory.{kind_at, passed}
 use Rattle.running.specs.Run.{run_nodes, run_block as run_block_of}
 use Rattle.context.specs.Block.{Outcome, check_blocks, check_samples, as_left, check_block, ran_block, block_in}
 use Rattle.memory.specs.Calls.{and_then, check_memory, call_by, change_by, check_message, put_number, message_of}
-use Rattle.samples.specs.Reading.{mono, Call, block, message, value_of, answer_to, accepts, done, effects, Fixed, Reply, outputs, reply_to}
+use Rattle.samples.specs.Reading.{mono, Call, block, block24, message, value_of, answer_to, accepts, done, effects, Fixed, Form, as_floats, as_words, form_of, bytes_in, Reply, outputs, reply_by, reply_to}
 use Rattle.samples.specs.Claim.{replied, call_in}
 use Rattle.samples.specs.Instance.{Cells, net_of, board_with, memory_rules, memory_with, shown, memory_of, Held}
 use Rattle.memory.specs.Fine.{Fine}
@@ -46,6 +48,8 @@ use Rattle.samples.proofs.ShownBlock.{OfBoard, order_long, order_shown, message_
 use Rattle.memory.proofs.CallChecks.{then_both}
 use Rattle.context.proofs.BlockChecks.{sizes_accepted, sizes_passed, samples_passed}
 use Rattle.memory.proofs.CallMessage.{number_told}
+use Rattle.packed.specs.Packed.{packed, check_packed_blocks, packed_in}
+use Rattle.packed.proofs.PackedLengths.{packed_accepted, packed_passed}
 use Rattle.samples.proofs.ShownBytes.{memory_passes}
 
 -- ---- what an accepted call's checks say
@@ -66,6 +70,16 @@ module _ (p : Parsed) (x l r : List ℕ) (yes' : accepts p (block x l r) ≡ tru
   pub block_whole : length (words x) ≡ p.size
   block_whole = length-words x ∙ omega (arith, sizes.0)
 
+module _ (p : Parsed) (x l r : List ℕ) (yes' : accepts p (block24 x l r) ≡ true) where
+  threes : (length x ≡ 3 * p.size) × (length l ≡ 3 * p.size) × (length r ≡ 3 * p.size)
+  threes = packed_accepted p.size (length x) (length l) (length r) (accepted-answer p (block24 x l r) yes')
+
+  packed_pass : answer_to p (block24 x l r) ≡ passed
+  packed_pass = packed_passed p.size (length x) (length l) (length r) threes
+
+  words_whole : length (words (floats_of x)) ≡ p.size
+  words_whole = length-words (floats_of x) ∙ omega (arith, floats_long x p.size threes.0)
+
 -- the node of an accepted message is there, and its value in range; the answer is 0
 pub message_given : (p : Parsed) (k w : ℕ) → accepts p (message k w) ≡ true
     → (k < length p.nodes) × (value_fits (kind_at p k) (value_of w) ≡ true) × (answer_to p (message k w) ≡ passed)
@@ -79,6 +93,7 @@ Proper p (rewire w) = ⊥
 
 done_proper : (W : Type 0) (p : Parsed) (c : Call) → accepts p c ≡ true → All {A = Effect W ℕ ℕ} (Proper p) (done c)
 done_proper W p (block x l r) e = (block_whole p x l r e, tt)
+done_proper W p (block24 x l r) e = (words_whole p x l r e, tt)
 done_proper W p (message k w) e = (value_number (kind_at p k) (value_of w) (of_bits-fits binary32 w) (message_given p k w e).1, tt)
 
 effects_proper : (W : Type 0) (p : Parsed) (c : Call) → All {A = Effect W ℕ ℕ} (Proper p) (effects p c)
@@ -136,18 +151,19 @@ effects_leave {W} p Ok c = proper_leaves p Ok (effects p c) (effects_proper W p 
 pub effects-wiring : {W : Type 0} (p : Parsed) (w : W) (c : Call) → wiring_after w (effects p c) ≡ w
 effects-wiring {W} p w c = proper_wiring p w (effects p c) (effects_proper W p c)
 
--- a call runs no block, or one whose outputs it writes
-pub call_writes : (p : Parsed) (c : Call) (fs : List Frame)
-    → (blocks_of {W = Fixed} (effects p c) ≡ 0) ⊎ ((blocks_of {W = Fixed} (effects p c) ≡ 1) × (reply_to p c fs ≡ outputs (answer_to p c) fs))
-call_writes p (block x l r) fs = go (accepts p (block x l r))
-  where
-    a : Answer
-    a = answer_to p (block x l r)
+-- a block run, accepted or not
+block_writes : (b : Bool) (form : Form) (xs : List ℕ) (a : Answer) (l r : List ℕ) (fs : List Frame) → (blocks_of {W = Fixed} {Value = ℕ} (cond b (run xs ∷ []) []) ≡ 0)
+    ⊎ ((blocks_of {W = Fixed} {Value = ℕ} (cond b (run xs ∷ []) []) ≡ 1) × (reply_by form b a l r fs ≡ outputs form a fs))
+block_writes true form xs a l r fs = inr (refl, refl)
+block_writes false form xs a l r fs = inl refl
 
-    go : (b : Bool) → (blocks_of {W = Fixed} (cond b (done (block x l r)) []) ≡ 0)
-        ⊎ ((blocks_of {W = Fixed} (cond b (done (block x l r)) []) ≡ 1) × (cond b (outputs a fs) (record { answer = a; left = l; right = r }) ≡ outputs a fs))
-    go true = inr (refl, refl)
-    go false = inl refl
+-- a call runs no block, or one whose outputs it writes
+abbrev pub Writes : Parsed → Call → List Frame → Type 0
+Writes p c fs = (blocks_of {W = Fixed} (effects p c) ≡ 0) ⊎ ((blocks_of {W = Fixed} (effects p c) ≡ 1) × (reply_to p c fs ≡ outputs (form_of c) (answer_to p c) fs))
+
+pub call_writes : (p : Parsed) (c : Call) (fs : List Frame) → Writes p c fs
+call_writes p (block x l r) fs = block_writes (accepts p (block x l r)) as_floats (words x) (answer_to p (block x l r)) l r fs
+call_writes p (block24 x l r) fs = block_writes (accepts p (block24 x l r)) as_words (words (floats_of x)) (answer_to p (block24 x l r)) l r fs
 call_writes p (message k w) fs = inl (go (accepts p (message k w)))
   where
     go : (b : Bool) → blocks_of {W = Fixed} (cond b (done (message k w)) []) ≡ 0
@@ -189,20 +205,21 @@ module _ {C W : Type 0} (p : Parsed) (first : W) (wires : W → List Wire) (does
 
   -- ---- a block run
 
-  module _ (x l r : List ℕ) where
-    abbrev c : Call
-    c = block x l r
-
+  -- of a float block that is whole
+  module _ (x : List ℕ) (whole-block : length (words x) ≡ p.size) where
     abbrev put : Cells
     put = blocks.put_input (net_of q) (λ i. mono (get_or (words x) i 0)) m
 
     abbrev after : Cells
     after = blocks.run_nodes (net_of q) (memory_rules q) o put
 
-    ran_block_lem : accepts p c ≡ true
-        → ◌≡◌ {A = List ℕ × Reply} ((ran_block q o x M).memory, replied (ran_block q o x M)) (memory_of p after, outputs (answer_to p c) (after 0).samples)
-    ran_block_lem e =
-        let whole-block : length (words x) ≡ p.size = block_whole p x l r e in
+    ran_block_lem : ran_block q o x M ≡ record {
+      answer = passed;
+      memory = memory_of p after;
+      left = unwords (map (λ (f : Frame). f.left) (after 0).samples);
+      right = unwords (map (λ (f : Frame). f.right) (after 0).samples);
+    }
+    ran_block_lem =
         let before-long : Long q put = input_long q fine m long' (words x) whole-block in
         let after-long : Long q after = order_long q o put before-long in
         let values : run_block_of q o (words x) (words M) ≡ shown q after =
@@ -211,27 +228,58 @@ module _ {C W : Type 0} (p : Parsed) (first : W) (wires : W → List Wire) (does
         ∙ order_shown q fine o nodes put before-long in
         let ls = ap (λ (v : List ℕ). part v samples_from p.size) values ∙ left_out q fine after after-long in
         let rs = ap (λ (v : List ℕ). part v (samples_from + p.size) p.size) values ∙ right_out q fine after after-long in
-        let a = sym (blocks_pass p x l r e) in
-        λ i. (unwords (values i), record { answer = a i; left = unwords (ls i); right = unwords (rs i) })
+        λ i. record { answer = passed; memory = unwords (values i); left = unwords (ls i); right = unwords (rs i) }
 
-    block_shown : call_in order board c M ≡ (memory_of p (leaves (effects p c)), reply_to p c (leaves (effects p c) 0).samples)
+  abbrev left_by : Outcome → List ℕ × Reply
+  left_by d = (d.memory, replied d)
+
+  module _ (x l r : List ℕ) where
+    -- what the two forms share: `does` is the run, and `form` what its outputs are written as
+    block_by : (form : Form) (xs : List ℕ) (a : Answer) (does : Outcome)
+        → (eqb a.number 0 ≡ true → does ≡ record {
+          answer = a;
+          memory = memory_of p (leaves (run xs ∷ []));
+          left = bytes_in form (map (λ (f : Frame). f.left) (leaves (run xs ∷ []) 0).samples);
+          right = bytes_in form (map (λ (f : Frame). f.right) (leaves (run xs ∷ []) 0).samples);
+        })
+        → (b : Bool) → eqb a.number 0 ≡ b
+        → left_by (cond b does (as_left a M l r)) ≡ (memory_of p (leaves (cond b (run xs ∷ []) [])), reply_by form b a l r (leaves (cond b (run xs ∷ []) []) 0).samples)
+    block_by form xs a does ran true e = ap left_by (ran e)
+    block_by form xs a does ran false e = refl
+
+    block_shown : call_in order board (block x l r) M ≡ (memory_of p (leaves (effects p (block x l r))), reply_to p (block x l r) (leaves (effects p (block x l r)) 0).samples)
     unfolding block_in
     block_shown =
+        let c : Call = block x l r in
         ap (λ (d : Progress). left_by (call_by (λ a. as_left a M l r) (λ v. check_block v M x l r) (λ v. ran_block v (order v) x M) d)) reads
         ∙ ap (λ (a : Answer). left_by (cond (eqb a.number 0) (ran_block q o x M) (as_left a M l r))) (checks_rest (answer_to p c))
-        ∙ go (accepts p c) refl
-      where
-        left_by : Outcome → List ℕ × Reply
-        left_by d = (d.memory, replied d)
+        ∙ block_by as_floats (words x) (answer_to p c) (ran_block q o x M)
+        (λ e. ran_block_lem x (block_whole p x l r e) ∙ ap (λ (a : Answer). record {
+          answer = a;
+          memory = memory_of p (after x (block_whole p x l r e));
+          left = unwords (map (λ (f : Frame). f.left) (after x (block_whole p x l r e) 0).samples);
+          right = unwords (map (λ (f : Frame). f.right) (after x (block_whole p x l r e) 0).samples);
+        }) (sym (blocks_pass p x l r e)))
+        (accepts p c) refl
 
-        go : (b : Bool) → accepts p c ≡ b
-            → left_by (cond b (ran_block q o x M) (as_left (answer_to p c) M l r))
-            ≡ (
-              memory_of p (leaves (cond b (done c) [])),
-              cond b (outputs (answer_to p c) (leaves (cond b (done c) []) 0).samples) (record { answer = answer_to p c; left = l; right = r }),
-            )
-        go true e = ran_block_lem e
-        go false e = refl
+    packed_shown : call_in order board (block24 x l r) M
+        ≡ (memory_of p (leaves (effects p (block24 x l r))), reply_to p (block24 x l r) (leaves (effects p (block24 x l r)) 0).samples)
+    unfolding packed_in
+    packed_shown =
+        let c : Call = block24 x l r in
+        ap (λ (d : Progress). left_by (call_by (λ a. as_left a M l r) (λ v. check_memory v M (check_packed_blocks v x l r)) (λ v. packed (ran_block v (order v) (floats_of x) M)) d)) reads
+        ∙ ap (λ (a : Answer). left_by (cond (eqb a.number 0) (packed (ran_block q o (floats_of x) M)) (as_left a M l r))) (checks_rest (answer_to p c))
+        ∙ block_by as_words (words (floats_of x)) (answer_to p c) (packed (ran_block q o (floats_of x) M))
+        (λ e.
+        let done = after (floats_of x) (words_whole p x l r e) 0 in
+        ap packed (ran_block_lem (floats_of x) (words_whole p x l r e))
+        ∙ (λ i. record {
+          answer = sym (packed_pass p x l r e) i;
+          memory = memory_of p (after (floats_of x) (words_whole p x l r e));
+          left = words_of (words-unwords (map (λ (f : Frame). f.left) done.samples) i);
+          right = words_of (words-unwords (map (λ (f : Frame). f.right) done.samples) i);
+        }))
+        (accepts p c) refl
 
   -- ---- a number message
 
@@ -243,15 +291,15 @@ module _ {C W : Type 0} (p : Parsed) (first : W) (wires : W → List Wire) (does
         ≡ (memory_of p (leaves (effects p (message k v))), reply_to p (message k v) (leaves (effects p (message k v)) 0).samples)
     unfolding message_of memory_rules
     message_by =
-        ap (λ (d : Progress). left_by (change_by M (λ y. check_message y M k (value_of v)) (λ y. put_number y k (value_of v) (words M)) d)) reads
-        ∙ ap (λ (a : Answer). left_by (cond (eqb a.number 0) (passed, told) (a, M))) (checks_rest (answer_to p (message k v)))
+        ap (λ (d : Progress). told_by (change_by M (λ y. check_message y M k (value_of v)) (λ y. put_number y k (value_of v) (words M)) d)) reads
+        ∙ ap (λ (a : Answer). told_by (cond (eqb a.number 0) (passed, told) (a, M))) (checks_rest (answer_to p (message k v)))
         ∙ go (accepts p (message k v)) refl
       where
-        left_by : Answer × List ℕ → List ℕ × Reply
-        left_by r = (r.1, record { answer = r.0; left = []; right = [] })
+        told_by : Answer × List ℕ → List ℕ × Reply
+        told_by r = (r.1, record { answer = r.0; left = []; right = [] })
 
         go : (b : Bool) → accepts p (message k v) ≡ b
-            → left_by (cond b (passed, told) (answer_to p (message k v), M))
+            → told_by (cond b (passed, told) (answer_to p (message k v), M))
             ≡ (memory_of p (leaves (cond b (done (message k v)) [])), record { answer = answer_to p (message k v); left = []; right = [] })
         go true e =
             let given = message_given p k v e in
@@ -263,4 +311,5 @@ module _ {C W : Type 0} (p : Parsed) (first : W) (wires : W → List Wire) (does
   pub call_shown : (c : Call) → call_in order board c (memory_of p m)
       ≡ (memory_of p (doing p first wires does order (effects p c) (w, m)).1, reply_to p c ((doing p first wires does order (effects p c) (w, m)).1 0).samples)
   call_shown (block x l r) = block_shown x l r
+  call_shown (block24 x l r) = packed_shown x l r
   call_shown (message k v) = message_by k v

@@ -13,8 +13,11 @@ use native.Mathlib.Nat.{div-add-mod', div-lt_iff_lt-mul, mod-lt, zero-add}
 use native.Mathlib.Omega.{arith}
 use borrow.Author.Tests.{eqb-true}
 use lib.Dec.{eqb}
+use lib.Ieee.{binary32, of_bits}
 use lib.ListN.{length, get_or}
-use Rattle.values.specs.Words.{words, unwords, words-unwords, Bytes}
+use Rattle.values.specs.Words.{words-unwords, Bytes}
+use Rattle.leaves.specs.Converter.{to_word}
+use Rattle.leaves.proofs.Triples.{triples_words}
 use Rattle.kinds.specs.Kind.{line_of}
 use Rattle.kinds.specs.Rule.{Frame}
 use Rattle.kinds.specs.History.{Heard}
@@ -37,12 +40,12 @@ use Rattle.boards.specs.Board.{Parsed, Progress, blank, going, refused, whole}
 use Rattle.boards.specs.Judge.{read_board, answer_by}
 use Rattle.graph.specs.Late.{is_late, late_wires}
 use Rattle.memory.specs.Memory.{kind_at, listed}
-use Rattle.samples.specs.Reading.{Call, Reply, answer_to, effects, Fixed, accepted, outputs, reply_to, mono, silence, reached, end, input_at, IsReading, replies_to}
+use Rattle.samples.specs.Reading.{Call, Form, as_floats, as_words, form_of, bytes_in, Reply, answer_to, effects, Fixed, accepted, outputs, reply_to, mono, silence, reached, end, input_at, IsReading, replies_to}
 use Rattle.samples.specs.Claim.{Claim}
 use Rattle.samples.specs.Instance.{net_of}
 use Rattle.memory.specs.Fine.{Fine}
 use Rattle.graph.specs.Tail.{delays, only_delays, listed_lines, endless, tail_of, tail_answer}
-use Rattle.samples.specs.Silence.{QuietInput, played, output_at, Silent, Tailed}
+use Rattle.samples.specs.Silence.{QuietInput, played, forms, samples_in, output_at, Silent, Tailed}
 use Rattle.records.specs.declared.answer.Answer.{Answer}
 use Rattle.boards.proofs.Ending.{Ended, board_ends}
 use Rattle.graph.proofs.Lines.{tail-late, tail_on_time}
@@ -131,22 +134,42 @@ module _ (p : Parsed) (fine : Fine p) (f : Figure p) where
 
 -- ---- the output blocks that the calls write
 
--- g takes a reply's block of one channel, and w is the reading's samples of that channel
-module _ (p : Parsed) (s : Timed Frame) (g : Reply → List ℕ) (channel : Frame → ℕ)
-    (writes : (a : Answer) (fs : List Frame) → g (outputs a fs) ≡ unwords (map channel fs)) where
-  abbrev block_at : ℕ → List ℕ
-  block_at b = unwords (tab p.size (λ i. channel (s (b * p.size + i) 0)))
+-- what stands in a block for a sample's pattern: itself, or the pattern of its word
+abbrev pub sent : Form → ℕ → ℕ
+sent as_floats w = w
+sent as_words w = to_word (of_bits binary32 w)
 
-  -- node 0's last block after b + 1 blocks is block b
-  last_at : (b : ℕ) → map channel (last_block p.size silence s (suc b) 0) ≡ tab p.size (λ i. channel (s (b * p.size + i) 0))
-  last_at b =
-      map_tab channel p.size (λ i. block_ago p.size silence s (suc b * p.size + i) 0)
-      ∙ tab_agree p.size _ _ (λ i h. ap channel (earlier_block p.size silence s (suc b) i 0 h))
+sent_same : (ws : List ℕ) → ws ≡ map (sent as_floats) ws
+sent_same [] = refl
+sent_same (w ∷ ws) = ap (λ (l : List ℕ). w ∷ l) (sent_same ws)
+
+samples_sent : (form : Form) (ws : List ℕ) → samples_in form (bytes_in form ws) ≡ map (sent form) ws
+samples_sent as_floats ws = words-unwords ws ∙ sent_same ws
+samples_sent as_words ws = triples_words ws
+
+-- silence goes out as 0
+sent_zero : (form : Form) → sent form 0 ≡ 0
+unfolding to_word of_bits
+sent_zero as_floats = refl
+sent_zero as_words = refl
+
+-- node 0's last block after b + 1 blocks is block b
+pub last_at : (p : Parsed) (s : Timed Frame) (channel : Frame → ℕ) (b : ℕ) → map channel (last_block p.size silence s (suc b) 0)
+    ≡ tab p.size (λ i. channel (s (b * p.size + i) 0))
+last_at p s channel b =
+    map_tab channel p.size (λ i. block_ago p.size silence s (suc b * p.size + i) 0)
+    ∙ tab_agree p.size _ _ (λ i h. ap channel (earlier_block p.size silence s (suc b) i 0 h))
+
+-- g takes a reply's block of one channel
+module _ (p : Parsed) (s : Timed Frame) (g : Reply → List ℕ) (channel : Frame → ℕ)
+    (writes : (form : Form) (a : Answer) (fs : List Frame) → g (outputs form a fs) ≡ bytes_in form (map channel fs)) where
+  abbrev block_at : Form → ℕ → List ℕ
+  block_at form b = bytes_in form (tab p.size (λ i. channel (s (b * p.size + i) 0)))
 
   -- the blocks that the accepted block runs write, where b have been accepted before
-  played_from : (v : Fixed) (cs : List Call) (b : ℕ)
-      → map g (played p cs (replies_to p s b cs)) ≡ tab (blocks (heard (λ x c. effects p c) v cs)) (λ j. block_at (b + j))
-  unfolding played replies_to heard
+  played_from : (v : Fixed) (cs : List Call) (b : ℕ) → map g (played p cs (replies_to p s b cs))
+      ≡ tab (blocks (heard (λ x c. effects p c) v cs)) (λ j. block_at (get_or (forms p cs) j as_floats) (b + j))
+  unfolding played forms replies_to heard
   played_from v [] b = refl
   played_from v (c ∷ cs) b =
       ⊎_elim
@@ -156,17 +179,20 @@ module _ (p : Parsed) (s : Timed Frame) (g : Reply → List ℕ) (channel : Fram
       ap (λ (m : ℕ). shape m (b + m)) z
       ∙ ap (λ (x : ℕ). map g (played p cs (replies_to p s x cs))) n
       ∙ played_from (wiring_after v (effects p c)) cs b
-      ∙ ap (λ (x : ℕ). tab x (λ j. block_at (b + j))) (sym (total z ∙ m)))
+      ∙ ap (λ (x : ℕ). tab x (λ j. block_at (get_or (forms p cs) j as_floats) (b + j))) (sym (total z ∙ m))
+      ∙ ap said (sym z))
       (λ w.
       let n : b + 1 ≡ suc b = omega arith in
       let m : 1 + blocks rest ≡ suc (blocks rest) = omega arith in
       let z : b ≡ b + 0 = omega arith in
-      let head = ap g w.1 ∙ writes (answer_to p c) (last_block p.size silence s (b + 1) 0)
-      ∙ ap (λ (x : ℕ). unwords (map channel (last_block p.size silence s x 0))) n ∙ ap unwords (last_at b) ∙ ap block_at z in
-      let others = tab_agree (blocks rest) (λ j. block_at (b + 1 + j)) (λ j. block_at (b + suc j)) (λ j _. let e : b + 1 + j ≡ b + suc j = omega arith in ap block_at e) in
+      let head = ap g w.1 ∙ writes (form_of c) (answer_to p c) (last_block p.size silence s (b + 1) 0)
+      ∙ ap (λ (x : ℕ). bytes_in (form_of c) (map channel (last_block p.size silence s x 0))) n ∙ ap (bytes_in (form_of c)) (last_at p s channel b) ∙ ap (block_at (form_of c)) z in
+      let others = tab_agree (blocks rest) (λ j. block_at (get_or (forms p cs) j as_floats) (b + 1 + j)) (λ j. block_at (get_or (forms p cs) j as_floats) (b + suc j))
+      (λ j _. let e : b + 1 + j ≡ b + suc j = omega arith in ap (block_at (get_or (forms p cs) j as_floats)) e) in
       ap (λ (m : ℕ). shape m (b + m)) w.0
       ∙ (λ i. head i ∷ (played_from (wiring_after v (effects p c)) cs (b + 1) ∙ others) i)
-      ∙ ap (λ (x : ℕ). tab x (λ j. block_at (b + j))) (sym (total w.0 ∙ m)))
+      ∙ ap (λ (x : ℕ). tab x (λ j. block_at (get_or (form_of c ∷ forms p cs) j as_floats) (b + j))) (sym (total w.0 ∙ m))
+      ∙ ap said (sym w.0))
       (call_writes p c (last_block p.size silence s (b + 1) 0))
     where
       rest : List (Effect Fixed ℕ ℕ)
@@ -177,23 +203,30 @@ module _ (p : Parsed) (s : Timed Frame) (g : Reply → List ℕ) (channel : Fram
       shape m n =
           map g (cond (eqb m 0) (played p cs (replies_to p s n cs)) (reply_to p c (last_block p.size silence s n 0) ∷ played p cs (replies_to p s n cs)))
 
+      -- the blocks in their forms, where the call runs m
+      said : ℕ → List (List ℕ)
+      said m = tab (blocks (effects p c ++ rest)) (λ j. block_at (get_or (cond (eqb m 0) (forms p cs) (form_of c ∷ forms p cs)) j as_floats) (b + j))
+
       total : {n : ℕ} → blocks {W = Fixed} (effects p c) ≡ n → blocks (effects p c ++ rest) ≡ n + blocks rest
       total e = blocks_append (effects p c) rest ∙ ap (λ (m : ℕ). m + blocks rest) e
 
   pub played_is : (cs : List Call) (b : ℕ) → map g (played p cs (replies_to p s b cs))
-      ≡ tab (blocks (accepted p cs)) (λ j. unwords (tab p.size (λ i. channel (s ((b + j) * p.size + i) 0))))
+      ≡ tab (blocks (accepted p cs)) (λ j. bytes_in (get_or (forms p cs) j as_floats) (tab p.size (λ i. channel (s ((b + j) * p.size + i) 0))))
   played_is cs b = played_from tt cs b
 
-  -- so the output sample of a time is the reading's
-  output_is : 0 < p.size → (cs : List Call) (t : ℕ) → t < end p (accepted p cs) → output_at p (map g (played p cs (replies_to p s 0 cs))) t ≡ channel (s t 0)
+  -- so the output sample of a time is the reading's, as it stands in the block
+  output_is : 0 < p.size → (cs : List Call) (t : ℕ) → t < end p (accepted p cs)
+      → output_at p (forms p cs) (map g (played p cs (replies_to p s 0 cs))) t ≡ sent (get_or (forms p cs) (t / p.size) as_floats) (channel (s t 0))
   output_is pos cs t h =
       let N : ℕ = p.size in
       let b : ℕ = 0 + t / N in
-      ap (λ (bs : List (List ℕ)). get_or (words (get_or bs (t / N) [])) (t % N) 1) (played_is cs 0)
-      ∙ ap (λ (l : List ℕ). get_or (words l) (t % N) 1) (get_d_tab (blocks (accepted p cs)) (λ j. block_at (0 + j)) (t / N) [] ((div-lt_iff_lt-mul pos).1 h))
-      ∙ ap (λ (l : List ℕ). get_or l (t % N) 1) (words-unwords (tab N (λ i. channel (s (b * N + i) 0))))
-      ∙ get_d_tab N (λ i. channel (s (b * N + i) 0)) (t % N) 1 (mod-lt t pos)
-      ∙ ap (λ (r : ℕ). channel (s r 0)) (rw zero-add (div-add-mod' t N))
+      let form = get_or (forms p cs) (t / N) as_floats in
+      ap (λ (bs : List (List ℕ)). get_or (samples_in form (get_or bs (t / N) [])) (t % N) 1) (played_is cs 0)
+      ∙ ap (λ (l : List ℕ). get_or (samples_in form l) (t % N) 1)
+      (get_d_tab (blocks (accepted p cs)) (λ j. block_at (get_or (forms p cs) j as_floats) (0 + j)) (t / N) [] ((div-lt_iff_lt-mul pos).1 h))
+      ∙ ap (λ (l : List ℕ). get_or l (t % N) 1) (samples_sent form (tab N (λ i. channel (s (b * N + i) 0))) ∙ map_tab (sent form) N (λ i. channel (s (b * N + i) 0)))
+      ∙ get_d_tab N (λ i. sent form (channel (s (b * N + i) 0))) (t % N) 1 (mod-lt t pos)
+      ∙ ap (λ (r : ℕ). sent form (channel (s r 0))) (rw zero-add (div-add-mod' t N))
 
 -- ---- the theorem
 
@@ -207,8 +240,8 @@ falls_silent bytes b p e other cs since input = record {
       let same = (claim.as_read s claim.known claim.reads order fit).replies in
       let zero-frame = quiet s claim.known claim.reads t l m in
       rw same (
-        output_is p s (λ r. r.left) (λ f. f.left) (λ a fs. refl) fine.least_size cs t m ∙ ap (λ (f : Frame). f.left) zero-frame,
-        output_is p s (λ r. r.right) (λ f. f.right) (λ a fs. refl) fine.least_size cs t m ∙ ap (λ (f : Frame). f.right) zero-frame,
+        output_is p s (λ r. r.left) (λ f. f.left) (λ form a fs. refl) fine.least_size cs t m ∙ ap (λ (f : Frame). sent (form t) f.left) zero-frame ∙ sent_zero (form t),
+        output_is p s (λ r. r.right) (λ f. f.right) (λ form a fs. refl) fine.least_size cs t m ∙ ap (λ (f : Frame). sent (form t) f.right) zero-frame ∙ sent_zero (form t),
       );
 }
   where
@@ -217,6 +250,9 @@ falls_silent bytes b p e other cs since input = record {
 
     claim : Claim bytes p cs
     claim = board_claim bytes b p e cs
+
+    form : ℕ → Form
+    form t = get_or (forms p cs) (t / p.size) as_floats
 
     quiet : (s : Timed Frame) (u : Timed Heard) → IsReading p (accepted p cs) s u → (t : ℕ) → since + tail_of p ≤ t
         → t < end p (accepted p cs) → s t 0 ≡ silence

@@ -14,7 +14,8 @@ use Rattle.boards.specs.Judge.{read_board}
 use Rattle.memory.specs.Memory.{fresh_values, listed}
 use Rattle.context.specs.Block.{Outcome, block_in}
 use Rattle.memory.specs.Calls.{fresh_of, message_of}
-use Rattle.samples.specs.Reading.{Call, block, message, value_of, Reply, IsReading, accepted, replies_to, memory_after}
+use Rattle.packed.specs.Packed.{packed_in}
+use Rattle.samples.specs.Reading.{Call, block, block24, message, value_of, Reply, IsReading, accepted, replies_to, memory_after}
 
 -- ---- a call on a board's bytes and its memory
 
@@ -26,6 +27,7 @@ replied d = record { answer = d.answer; left = d.left; right = d.right }
 -- `listed` for the block run of the contracts
 abbrev pub call_in : (Parsed → List ℕ) → List ℕ → Call → List ℕ → List ℕ × Reply
 call_in order board (block x l r) m = ((block_in order board m x l r).memory, replied (block_in order board m x l r))
+call_in order board (block24 x l r) m = ((packed_in order board m x l r).memory, replied (packed_in order board m x l r))
 call_in order board (message k w) m =
     ((message_of board m k (value_of w)).1, record { answer = (message_of board m k (value_of w)).0; left = []; right = [] })
 

@@ -6,6 +6,7 @@ use Rattle.std.specs.Prelude.{ℕ, suc, ◌+◌, ◌*◌, ◌/◌, ◌%◌, ◌<
 use Rattle.std.specs.Float.{binary32}
 use Rattle.std.specs.Float.Ieee.{of_bits, to_bits}
 use Rattle.values.specs.Words.{words, unwords}
+use Rattle.leaves.specs.Converter.{floats_of, words_of}
 use Rattle.kinds.specs.Kind.{channels_of}
 use Rattle.kinds.specs.Rule.{Brought, Frame, with_number}
 use Rattle.kinds.specs.Cell.{Cell, values_of, number_of, fresh_cell}
@@ -19,29 +20,33 @@ use Rattle.boards.specs.Board.{Parsed}
 use Rattle.memory.specs.Memory.{kind_at, listed}
 use Rattle.memory.specs.Calls.{and_then, check_number}
 use Rattle.context.specs.Block.{check_blocks, check_samples}
+use Rattle.packed.specs.Packed.{check_packed_blocks}
 use Rattle.records.specs.declared.answer.Answer.{Answer}
 
 -- ---- calls: a line for each in what it answers, what it does and what it replies
 
--- a call as it comes: a block run with the bytes of its input block and of the two output blocks, or a number message with its node and its
--- value's 32 bits
+-- a call as it comes: a block run with the bytes of its input block and of the two output blocks, float blocks or packed ones (document 02, [1]),
+-- or a number message with its node and its value's 32 bits
 pub data Call : Type 0 where
   block : List ℕ → List ℕ → List ℕ → Call
+  block24 : List ℕ → List ℕ → List ℕ → Call
   message : ℕ → ℕ → Call
 
 -- a message's value
 abbrev pub value_of : ℕ → Float
 value_of w = of_bits binary32 w
 
--- 9, 10 for blocks, 11, 12 for messages: a board that is read, and its memory as calls leave it, pass the checks before these, and 8 never
--- occurs
+-- 9, 10 for float blocks, 13 for packed ones, 11, 12 for messages: a board that is read, and its memory as calls leave it, pass the checks before
+-- these, and 8 never occurs
 abbrev pub answer_to : Parsed → Call → Answer
 answer_to p (block x l r) = and_then (check_blocks p x l r) (check_samples 0 (words x))
+answer_to p (block24 x l r) = check_packed_blocks p x l r
 answer_to p (message k w) = check_number p k (value_of w)
 
--- what an accepted call does: a block is run with its samples' patterns, a message sets its node's number
+-- what an accepted call does: a block is run with its samples' patterns, those that its words are converted to, a message sets its node's number
 abbrev pub done : {W : Type 0} → Call → List (Effect W ℕ ℕ)
 done (block x l r) = run (words x) ∷ []
+done (block24 x l r) = run (words (floats_of x)) ∷ []
 done (message k w) = set k (to_bits binary32 (value_of w)) ∷ []
 
 -- the answer, and the output blocks as the call left them (a message has none)
@@ -53,14 +58,32 @@ pub record Reply : Type 0 where
 abbrev pub accepts : Parsed → Call → Bool
 accepts p c = eqb (answer_to p c).number 0
 
--- two channels as output blocks
-abbrev pub outputs : Answer → List Frame → Reply
-outputs a fs = record { answer = a; left = unwords (map (λ f. f.left) fs); right = unwords (map (λ f. f.right) fs) }
+-- the form of the blocks that a call writes: floats of 4 bytes, or words of 3 bytes; a message writes none
+pub data Form : Type 0 where
+  as_floats : Form
+  as_words : Form
 
--- the reply, from node 0's last block after the call: the outputs are node 0's channels
+abbrev pub form_of : Call → Form
+form_of (block x l r) = as_floats
+form_of (block24 x l r) = as_words
+form_of (message k w) = as_floats
+
+-- the bytes of samples, from their patterns
+abbrev pub bytes_in : Form → List ℕ → List ℕ
+bytes_in as_floats ws = unwords ws
+bytes_in as_words ws = words_of ws
+
+-- two channels as output blocks
+abbrev pub outputs : Form → Answer → List Frame → Reply
+outputs form a fs = record { answer = a; left = bytes_in form (map (λ f. f.left) fs); right = bytes_in form (map (λ f. f.right) fs) }
+
+-- the reply, from node 0's last block after the call: the outputs are node 0's channels; a refused call leaves its blocks as found
+abbrev pub reply_by : Form → Bool → Answer → List ℕ → List ℕ → List Frame → Reply
+reply_by form accepted a l r fs = cond accepted (outputs form a fs) (record { answer = a; left = l; right = r })
+
 abbrev pub reply_to : Parsed → Call → List Frame → Reply
-reply_to p (block x l r) fs =
-    cond (accepts p (block x l r)) (outputs (answer_to p (block x l r)) fs) (record { answer = answer_to p (block x l r); left = l; right = r })
+reply_to p (block x l r) fs = reply_by as_floats (accepts p (block x l r)) (answer_to p (block x l r)) l r fs
+reply_to p (block24 x l r) fs = reply_by as_words (accepts p (block24 x l r)) (answer_to p (block24 x l r)) l r fs
 reply_to p (message k w) fs = record { answer = answer_to p (message k w); left = []; right = [] }
 
 -- ---- what calls do

@@ -4,13 +4,12 @@
 --     one_line_sounds      all of it, of the request's boards; size_only_sounds, of boards of which no wire is late
 --     sounds_back          the claims do not depend on which board is named first
 -- Assumes nothing.
-use Prim.Native.Nat.{ℕ, ◌+◌, ◌*◌}
+use Prim.Native.Nat.{ℕ, ◌*◌}
 use mathlib.Core.Path.{◌≡◌, refl, sym, ap, subst, ◌∙◌}
 use mathlib.Core.Bool.{true}
 use mathlib.Core.List.{List, map}
-use native.Mathlib.Omega.{arith}
 use lib.ListN.{length, replicate}
-use Rattle.values.specs.Words.{Bytes, unwords}
+use Rattle.values.specs.Words.{Bytes}
 use Rattle.kinds.specs.Rule.{Frame}
 use Rattle.reading.specs.Table.{tab, All}
 use Rattle.reading.proofs.Table.{tab_agree}
@@ -23,15 +22,15 @@ use Rattle.records.specs.declared.answer.Answer.{Answer}
 use Rattle.memory.specs.Memory.{passed, listed}
 use Rattle.memory.specs.Calls.{fresh_of}
 use Rattle.memory.specs.Fine.{Fine}
-use Rattle.samples.specs.Reading.{Call, Reply, reached, accepted, end, outputs, replies_to}
+use Rattle.samples.specs.Reading.{Call, Form, bytes_in, Reply, reached, accepted, end, outputs, replies_to}
 use Rattle.samples.specs.Silence.{played}
 use Rattle.samples.specs.Claim.{Claim, call_in, fresh_memory}
 use Rattle.samples.proofs.DemandAfter.{accepted-whole}
 use Rattle.memory.proofs.FineBoard.{fine_board}
 use Rattle.samples.proofs.Demand.{board_claim, own_order, demand}
-use Rattle.sizes.specs.Sizes.{OneLine, SizeOnly, join, input_stream, stereo_of, output_stream, SameSound, events, AllFinite, runs_of, plays, SamePlayed, SoundsAs}
-use Rattle.sizes.proofs.Streams.{stream_is, same_events}
-use Rattle.sizes.proofs.Plays.{Taken, played_taken, answers_taken, replies_long, runs_taken, runs_inputs, runs_still, runs_long, join-cut}
+use Rattle.sizes.specs.Sizes.{OneLine, SizeOnly, join, form_at, SameForms, input_stream, stereo_of, output_stream, SameSound, events, AllFinite, runs_of, plays, SamePlayed, SoundsAs}
+use Rattle.sizes.proofs.Streams.{bytes_of, stream_is, same_events}
+use Rattle.sizes.proofs.Plays.{Taken, played_taken, answers_taken, replies_long, runs_taken, runs_inputs, runs_still, runs_floats, runs_long, join-cut}
 use Rattle.sizes.proofs.Apart.{one_line_alike, size_only_alike}
 use Rattle.sizes.proofs.Carried.{Alike, resized, ReadsToo, carried}
 
@@ -63,7 +62,7 @@ module _ (P Q : List ℕ) (bytes : Bytes P) (bytes' : Bytes Q) (p q : Parsed) (r
   alike_other : (j : ℕ) → reached p j ≡ true → Alike p (resized p q.size q.nodes) j
   alike_other j r = subst (λ (x : Parsed). Alike p x j) as_other (alike j r)
 
-  module _ (cs ds : List Call) (same : events (accepted p cs) ≡ events (accepted q ds)) where
+  module _ (cs ds : List Call) (same : events (accepted p cs) ≡ events (accepted q ds)) (alike-forms : SameForms p q cs ds) where
     abbrev claim : Claim P p cs
     claim = board_claim P bytes p reads cs
 
@@ -84,26 +83,26 @@ module _ (P Q : List ℕ) (bytes : Bytes P) (bytes' : Bytes Q) (p q : Parsed) (r
     is_q = ((board_claim Q bytes' q reads' ds).as_read s there.known there.reads listed (own_order Q bytes' q reads')).replies
 
     -- g takes a reply's block of one channel
-    same_channel : (g : Reply → List ℕ) (channel : Frame → ℕ) → ((a : Answer) (fs : List Frame) → g (outputs a fs) ≡ unwords (map channel fs))
+    same_channel : (g : Reply → List ℕ) (channel : Frame → ℕ) → ((form : Form) (a : Answer) (fs : List Frame) → g (outputs form a fs) ≡ bytes_in form (map channel fs))
         → join (map g (played p cs (replies (call_in listed P) cs (fresh_memory p)))) ≡ join (map g (played q ds (replies (call_in listed Q) ds (fresh_memory q))))
     same_channel g channel writes =
         let w : ℕ → ℕ = λ t. channel (s t 0) in
         ap (λ (rs : List Reply). join (map g (played p cs rs))) is_p
-        ∙ stream_is p s g channel writes cs
-        ∙ ap unwords (tab_agree (end p (accepted p cs)) (λ i. w (0 * p.size + i)) (λ i. w (0 * q.size + i))
-        (λ i h. let e : 0 * p.size + i ≡ 0 * q.size + i = omega arith in ap w e))
-        ∙ ap (λ (n : ℕ). unwords (tab n (λ i. w (0 * q.size + i)))) there.same_end
-        ∙ sym (stream_is q s g channel writes ds)
+        ∙ stream_is p fine.least_size s g channel writes cs
+        ∙ ap join (tab_agree (end p (accepted p cs)) (λ t. bytes_of (form_at p cs t) (w t)) (λ t. bytes_of (form_at q ds t) (w t))
+        (λ t h. ap (λ (f : Form). bytes_of f (w t)) (alike-forms t)))
+        ∙ ap (λ (n : ℕ). join (tab n (λ t. bytes_of (form_at q ds t) (w t)))) there.same_end
+        ∙ sym (stream_is q (fine_board Q bytes' q reads').least_size s g channel writes ds)
         ∙ ap (λ (rs : List Reply). join (map g (played q ds rs))) (sym is_q)
 
     same_stream : output_stream P p cs ≡ output_stream Q q ds
     same_stream =
-        let lefts = same_channel (λ r. r.left) (λ f. f.left) (λ a fs. refl) in
-        let rights = same_channel (λ r. r.right) (λ f. f.right) (λ a fs. refl) in
+        let lefts = same_channel (λ r. r.left) (λ f. f.left) (λ form a fs. refl) in
+        let rights = same_channel (λ r. r.right) (λ f. f.right) (λ form a fs. refl) in
         λ i. record { left = lefts i; right = rights i }
 
   same_sound : SameSound P Q p q
-  same_sound cs ds still still' same = same_stream cs ds (same_events p q cs ds still still' same)
+  same_sound cs ds still still' same alike-forms = same_stream cs ds (same_events p q cs ds still still' same) alike-forms
 
   -- ---- of one list of samples
 
@@ -148,7 +147,7 @@ module _ (P Q : List ℕ) (bytes : Bytes P) (bytes' : Bytes Q) (p q : Parsed) (r
       accepted = answers P bytes p reads m judged b long;
       accepted_too = answers Q bytes' q reads' m' judged' c long';
       same = all_played P bytes p reads m judged b long
-          ∙ same_sound cs ds (runs_still p b xs long number) (runs_still q c xs long' number) same_samples
+          ∙ same_sound cs ds (runs_still p b xs long number) (runs_still q c xs long' number) same_samples (λ t. runs_floats p b xs t ∙ sym (runs_floats q c xs t))
           ∙ sym (all_played Q bytes' q reads' m' judged' c long');
     }
 
@@ -170,8 +169,8 @@ module _ (P Q : List ℕ) (bytes : Bytes P) (bytes' : Bytes Q) (p q : Parsed) (r
 
 pub sounds_back : (P Q : List ℕ) (p q : Parsed) → SoundsAs P Q p q → SoundsAs Q P q p
 sounds_back P Q p q h = record {
-  same_sound = λ cs ds still still' same. sym (h.same_sound ds cs still' still (sym same));
-  with_messages = λ cs ds same. sym (h.with_messages ds cs (sym same));
+  same_sound = λ cs ds still still' same forms. sym (h.same_sound ds cs still' still (sym same) (λ t. sym (forms t)));
+  with_messages = λ cs ds same forms. sym (h.with_messages ds cs (sym same) (λ t. sym (forms t)));
   carries_over = λ m m' judged judged' xs b c number long long'.
       let r = h.carries_over m' m judged' judged xs c b number long' long in
       record { accepted = r.accepted_too; accepted_too = r.accepted; same = sym r.same };

@@ -1,7 +1,7 @@
 -- One preset at two block sizes (document 02, request 12). Two accepted boards differ only in block size, N above M, and in one line. Exactly
 -- one wire is late; its target is a delay with that one wire in, of n samples on the N board and n + N − M on the M board. Without messages,
 -- from fresh memory, the same input gives the same stereo stream, sample for sample. Definitions only; the theorem is in proofs/Sizes.antt.
-use Rattle.std.specs.Prelude.{ℕ, zero, suc, ◌+◌, ◌-◌, ◌*◌, ◌<◌, ◌≡◌, true, List, [], ◌∷◌, ◌++◌, map, length, get_or, set, take, drop, replicate}
+use Rattle.std.specs.Prelude.{ℕ, zero, suc, ◌+◌, ◌-◌, ◌*◌, ◌/◌, ◌<◌, ◌≡◌, true, List, [], ◌∷◌, ◌++◌, map, length, get_or, set, take, drop, replicate}
 use Rattle.values.specs.Words.{unwords}
 use Rattle.values.specs.Floats.{finite_bits}
 use Rattle.kinds.specs.declared.kind.NodeKind.TheVariants.{Delay}
@@ -15,9 +15,9 @@ use Rattle.boards.specs.Judge.{judge_of}
 use Rattle.graph.specs.Late.{late_wires}
 use Rattle.memory.specs.Memory.{kind_at, kinds, passed, listed}
 use Rattle.memory.specs.Calls.{fresh_of}
-use Rattle.samples.specs.Reading.{Call, block, Reply, Fixed, accepted}
+use Rattle.samples.specs.Reading.{Call, block, Form, as_floats, Reply, Fixed, accepted}
 use Rattle.samples.specs.Claim.{call_in, fresh_memory}
-use Rattle.samples.specs.Silence.{played}
+use Rattle.samples.specs.Silence.{played, forms}
 
 -- ---- the two boards
 
@@ -80,12 +80,20 @@ stereo_of rs = record { left = join (map (λ r. r.left) rs); right = join (map (
 abbrev pub output_stream : List ℕ → Parsed → List Call → Stereo
 output_stream board p cs = stereo_of (played p cs (replies (call_in listed board) cs (fresh_memory p)))
 
+-- each sample is written in the same form by both lists, as a float or as a word: block runs of both boards may be of float blocks or of packed
+-- ones, where at each time they are of the same
+abbrev pub form_at : Parsed → List Call → ℕ → Form
+form_at p cs t = get_or (forms p cs) (t / p.size) as_floats
+
+abbrev pub SameForms : Parsed → Parsed → List Call → List Call → Type 0
+SameForms p q cs ds = (t : ℕ) → form_at p cs t ≡ form_at q ds t
+
 -- Boards' bytes P and Q, read as p and q: without messages, from fresh memory, the same input stream gives the same stereo stream. Refused
 -- calls may stand among the others: they count for nothing. That both sizes divide the stream's length is what its being cut into whole
 -- blocks says.
 abbrev pub SameSound : List ℕ → List ℕ → Parsed → Parsed → Type 0
 SameSound P Q p q = (cs ds : List Call) → NoMessage (accepted p cs) → NoMessage (accepted q ds) → input_stream p cs ≡ input_stream q ds
-    → output_stream P p cs ≡ output_stream Q q ds
+    → SameForms p q cs ds → output_stream P p cs ≡ output_stream Q q ds
 
 -- ---- beyond the request: the same messages between the same samples
 
@@ -103,7 +111,8 @@ events (rewire w ∷ es) = events es
 -- from fresh memory, the same accepted samples and messages in the same order give the same stereo stream. As messages stand between blocks, it
 -- speaks of those that stand where blocks of both sizes end
 abbrev pub SameWithMessages : List ℕ → List ℕ → Parsed → Parsed → Type 0
-SameWithMessages P Q p q = (cs ds : List Call) → events (accepted p cs) ≡ events (accepted q ds) → output_stream P p cs ≡ output_stream Q q ds
+SameWithMessages P Q p q = (cs ds : List Call) → events (accepted p cs) ≡ events (accepted q ds) → SameForms p q cs ds
+    → output_stream P p cs ≡ output_stream Q q ds
 
 -- ---- the request's claim of one list of finite samples
 
