@@ -12,6 +12,7 @@ import os
 import struct
 import subprocess
 import sys
+from fractions import Fraction
 
 import card_vectors
 from card_vectors import Bad, float_bits
@@ -219,7 +220,22 @@ def riff(*chunks):
     return b"RIFF" + struct.pack("<I", len(body)) + body
 
 
-def out_file(frames):
+def word_of(x):
+    """A float's word of 24 bits: the whole number nearest to 2^23 times it, of two the even one, held at both ends; a NaN is 0."""
+    if x != x:
+        n = 0
+    elif math.isinf(x):
+        n = 2**23 if x > 0 else -(2**23)
+    else:
+        n = round(Fraction(x) * 2**23)
+    return max(-(2**23), min(n, 2**23 - 1)).to_bytes(3, "little", signed=True)
+
+
+def out_file(frames, words):
+    """The WAV file of some frames of floats, as they are or as words of 24 bits."""
+    if words:
+        data = b"".join(word_of(x) for x, in struct.iter_unpack("<f", frames))
+        return riff(fmt(1, 2, 24), chunk(b"data", data))
     n = len(frames) // 8
     head = struct.pack("<HHIIHHH", 3, 2, 44100, 44100 * 8, 8, 32, 0)
     return riff(chunk(b"fmt ", head), chunk(b"fact", struct.pack("<I", n)), chunk(b"data", frames))
@@ -359,6 +375,16 @@ def unsized(file, bytes, length):
     return file[:at] + struct.pack("<I", length) + file[at + 4:]
 
 
+def ties():
+    """Samples halfway between two words, beside these, at the ends and past them, either sign; and some with nothing to round."""
+    halves = [n + 0.5 for n in (0, 1, 2, 3, 100, 101, 2**22 - 1, 2**22, 2**23 - 3, 2**23 - 2, 2**23 - 1)]
+    out = []
+    for n in halves:
+        out += [n, single(n * (1 - 2**-24)), single(n * (1 + 2**-23))]
+    out += [2**23 - 1, 2**23, 2**23 + 1, 1.5 * 2**23, 2**24, 1e-30, 1, 0, 2**-149 * 2**23]
+    return [sign * n / 2**23 for n in out for sign in (1, -1)] + [3e38, -3e38]
+
+
 def make_files():
     sounds = noise(41)
     edges = [0x8000, 0x7FFF, 0xFFFF, 1, 0, 0x8001]
@@ -376,9 +402,13 @@ def make_files():
         "moving.board": MOVING,
         # a product of a sound with itself; a sound times four
         "square.board": board(3, 1, [(3,), (1,), (5,), (1,)], [(1, 2), (3, 2), (1, 3), (2, 0)]),
+        # the square of a sound to the left, and zero times the square to the right: NaN where the square is infinite
+        "nothing.board": board(4, 1, [(3,), (1,), (5,), (1,), (5, 0, 0.0), (4,)], [(1, 2), (3, 2), (1, 3), (2, 4), (2, 5), (4, 5), (5, 0)]),
         "loud.board": board(4, 1, [(3,), (1,), (5, 0, 4.0)], [(1, 2), (2, 0)]),
         # the sound to the left, and half of it to the right
         "sides.board": board(4, 1, [(3,), (1,), (5, 0, 0.5), (4,)], [(1, 2), (1, 3), (2, 3), (3, 0)]),
+        # the sound to both sides, as it is
+        "pass.board": board(6, 1, [(3,), (1,)], [(1, 0)]),
         "loop16.board": loop(16, 5),
         "loop4.board": loop(4, 17),
         "loop4_uncorrected.board": loop(4, 5),
@@ -408,6 +438,7 @@ def make_files():
         "extreme.wav": riff(fmt(3, 1, 32), data(floats([0.5, 1.0, -1.0, 1.0000001, -3e38, 2e38, 0.0, 3e38] + noise(9)))),
         "one_loud.wav": riff(fmt(3, 1, 32), data(floats([0.5, 1.0] + [x / 2 for x in noise(1500)] + [-1.5, 0.75]))),
         "quiet.wav": riff(fmt(1, 2, 16), data(whole([x / 8 for x in noise(20, 3)], 16))),
+        "ties.wav": riff(fmt(3, 1, 32), data(floats(ties()))),
         "taken.wav.part": b"of another render\n",
         "text.wav": b"no sound at all\n",
         "nothing.wav": b"",
@@ -487,6 +518,23 @@ extreme.wav extreme_out.wav board square.board 0
 long.wav loud_out.wav board loud.board 0
 one_loud.wav one_out.wav board sides.board 0
 
+# words of 24 bits: rounded, held at full scale; a sound of such words comes back as it was
+ties.wav - board pass.board 0                     # what is rounded next
+ties.wav - board pass.board 0 24bit
+extreme.wav - board printed.board 0 24bit
+extreme.wav - board nothing.board 0               # infinite to the left, NaN to the right
+extreme.wav extreme_24.wav board nothing.board 24bit 0
+extreme_24.wav - board pass.board left 24bit
+extreme_24.wav - board pass.board right 24bit
+one_loud.wav - board sides.board 24bit 0 mono
+mono24.wav words.wav board pass.board 0 24bit
+words.wav - board pass.board left 24bit
+words.wav - board pass.board 24bit 0
+stereo24.wav - board tail.board right 24bit 0
+stereo32.wav - board moving.board 24bit 0
+long.wav - plate 0.3 0 24bit
+empty.wav - board pass.board 24bit
+
 # to what is no file, and beside a file that is taken
 mono16.wav /dev/null board tail.board
 mono16.wav taken.wav board tail.board
@@ -544,6 +592,9 @@ mono16.wav ./list board tail.board
 mono16.wav - plate
 mono16.wav - plate 0.5 1 1
 mono16.wav - plate 0.5 left 1 right
+mono16.wav - plate 0.5 24bit 1 24bit
+mono16.wav - plate 0.5 progress 24bit progress
+mono16.wav - plate 0.5 24bits
 mono16.wav - plate 0.5 loud
 mono16.wav - plate 0.5 1.5
 mono16.wav - plate 0.5 left
@@ -551,12 +602,12 @@ mono16.wav - plate 0.5 1 right
 half_nan.wav - plate 0.5 right
 """
 
-USAGE = """render IN.wav OUT.wav plate MIX [SECONDS] [mono|left|right] [progress]
-render IN.wav OUT.wav board FILE [SECONDS] [mono|left|right] [progress]
-render IN.wav OUT.wav card FILE [SECONDS] [mono|left|right] [progress]
+USAGE = """render IN.wav OUT.wav plate MIX [SECONDS] [mono|left|right] [24bit] [progress]
+render IN.wav OUT.wav board FILE [SECONDS] [mono|left|right] [24bit] [progress]
+render IN.wav OUT.wav card FILE [SECONDS] [mono|left|right] [24bit] [progress]
 render list FILE, render check FILE
 IN: WAV, 44100 Hz, mono or stereo, 8, 16, 24 or 32 bit whole numbers or 32 bit floats
-OUT: WAV, 32 bit floats in stereo; - is standard output
+OUT: WAV, stereo, 32 bit floats, or 24 bit whole numbers by 24bit; - is standard output
 MIX: 0 is the sound alone, 1 the plate alone; SECONDS: how long OUT goes on after IN, up to 600
 docs/RENDER.md has more
 """
@@ -617,22 +668,27 @@ def card_of(data):
 
 
 def asked(words):
-    """Seconds and channel, each None where no word says it; or the word that is refused, and why."""
+    """Seconds and channel, each None where no word says it, and whether words of 24 bits are asked for; or the word that is refused, and why."""
     seconds = channel = None
+    said = set()
     for word in words:
         if word in ("mono", "left", "right"):
             if channel:
-                return word, "a channel is named already"
+                return word, "a channel is named already", None
             channel = word
+        elif word in ("24bit", "progress"):
+            if word in said:
+                return word, "is said already", None
+            said.add(word)
         elif word.isdigit() and int(word) <= 600:
             if seconds is not None:
-                return word, "seconds are given already"
+                return word, "seconds are given already", None
             seconds = int(word)
         elif word[0] in "0123456789-+.":
-            return word, "seconds are a whole number up to 600"
+            return word, "seconds are a whole number up to 600", None
         else:
-            return word, "neither seconds nor mono, left, right or progress"
-    return seconds, channel
+            return word, "neither seconds nor mono, left, right, 24bit or progress", None
+    return seconds, channel, "24bit" in said
 
 
 def level(out, places, words):
@@ -658,7 +714,7 @@ def rendered(files, words):
     if len(words) < 4:
         return USAGE.encode()
     name, out, form, what = words[:4]
-    seconds, channel = asked(words[4:])
+    seconds, channel, in_words = asked(words[4:])
     if isinstance(seconds, str):
         return ("%s: %s\n" % (seconds, channel)).encode()
     there = os.path.normpath(out)
@@ -689,8 +745,8 @@ def rendered(files, words):
         frames = played(b, sounds, len(sounds) + more)
         said = warnings(out, frames) + ("%s: %s\n" % (name, MIXED) if stereo and channel is None else "")
         if out == "-":
-            return out_file(frames) + said.encode()
-        files[out] = out_file(frames)
+            return out_file(frames, in_words) + said.encode()
+        files[out] = out_file(frames, in_words)
         return ("%s: %d samples in, %d out\n" % (out, len(sounds), len(sounds) + more) + said).encode()
     except Problem as p:
         return ("%s: %s\n" % (at, p)).encode()

@@ -1,7 +1,8 @@
 #!/bin/bash
 # Tries the built programs (target/bin/card, order, render) and the scripts as those who use them do: the cards of examples/
-# and of the documents, where answers go, files that must not be lost, the words of play, a picture. What the gate's stored
-# outputs cannot show. Takes seconds, needs python3; prints one line for each part and ends with status 1 at the first that fails.
+# and of the documents, where answers go, files that must not be lost, words of 24 bits, the words of play, a picture. What the
+# gate's stored outputs cannot show. Takes seconds, needs python3; prints one line for each part and ends with status 1 at the
+# first that fails.
 set -u
 cd "$(dirname "$0")/.."
 bin=$PWD/target/bin
@@ -132,6 +133,71 @@ done
 grep -q 'links without an end' "$work/err" && [ -L "$work/round.wav" ] || fail "round.wav: $(cat "$work/err")"
 cmp -s examples/sound.wav "$work/in.wav" || fail "a render writes over what it reads"
 echo "users.sh: no file is lost"
+
+# ---- words of 24 bits: each is the nearest to the float that is written without them, of two the even one, held at full scale; a sound of
+# such words comes back word for word
+printf 'block 4 input in\nout: destination\nin: pass\nloud: mul 4\nwire in loud\nwire loud out\n' >"$work/loud.card"
+python3 - "$work" write <<'END' || fail "no sounds of 24 bits"
+import random, struct, sys, wave
+random.seed(24)
+edges = [0, 1, -1, 2, -2, 2**23 - 1, -2**23, 2**22, -2**22, 2**23 - 2, 1 - 2**23]
+words = edges + [random.randrange(-2**23, 2**23) for _ in range(5000)]
+for name, channels in ("mono", 1), ("stereo", 2):
+    with wave.open("%s/%s24.wav" % (sys.argv[1], name), "wb") as f:
+        f.setparams((channels, 3, 44100, 0, "NONE", ""))
+        f.writeframes(b"".join(w.to_bytes(3, "little", signed=True) for w in words[:len(words) // channels * channels]))
+# halfway between two words, beside that, and past full scale
+halves = [s * (n + 0.5 + d) / 2**23 for n in range(2000) for d in (0, 2**-14, -2**-14) for s in (1, -1)]
+halves += [s * (2**23 - k / 2) / 2**23 for k in range(-40, 40) for s in (1, -1)]
+data = struct.pack("<%df" % len(halves), *halves)
+form = struct.pack("<HHIIHH", 3, 1, 44100, 4 * 44100, 4, 32)
+with open(sys.argv[1] + "/halves.wav", "wb") as f:
+    f.write(b"RIFF" + struct.pack("<I", 36 + len(data)) + b"WAVEfmt \x10\0\0\0" + form + b"data" + struct.pack("<I", len(data)) + data)
+END
+for sound in examples/sound.wav "$work/halves.wav"; do
+    for board in "plate 0.7" "plate 0" "card $work/loud.card"; do
+        # the words stand apart by spaces
+        tools/status.sh "$bin/render" "$sound" "$work/floats.wav" $board 1 2>"$work/err" || fail "$board: $(cat "$work/err")"
+        tools/status.sh "$bin/render" "$sound" "$work/words.wav" $board 24bit 1 2>"$work/err24" || fail "$board 24bit: $(cat "$work/err24")"
+        sed 's/floats\.wav/words.wav/' "$work/err" | cmp -s - "$work/err24" || fail "$board 24bit: other answers: $(cat "$work/err24")"
+        python3 - "$work" "$board" <<'END' || fail "$sound, $board 24bit: not the nearest words"
+import fractions, struct, sys, wave
+data = open(sys.argv[1] + "/floats.wav", "rb").read()[58:]
+with wave.open(sys.argv[1] + "/words.wav") as f:
+    if f.getparams()[:3] != (2, 3, 44100) or f.getnframes() != len(data) // 8:
+        sys.exit("header: %s" % (f.getparams(),))
+    words = f.readframes(f.getnframes())
+low, high, limited = -2**23, 2**23 - 1, set()
+wanted = bytearray()
+for x, in struct.iter_unpack("<f", data):
+    n = round(fractions.Fraction(x) * 2**23)
+    if not low <= n <= high:
+        limited.add("below" if n < low else "above")
+    wanted += max(low, min(n, high)).to_bytes(3, "little", signed=True)
+if bytes(wanted) != words:
+    sys.exit("at byte %d" % next(i for i in range(len(words)) if wanted[i] != words[i]))
+if "card" in sys.argv[2] and len(limited) < 2:
+    sys.exit("nothing is held at full scale")
+END
+    done
+done
+for words in mono "stereo left" "stereo right"; do
+    set -- $words
+    tools/status.sh "$bin/render" "$work/${1}24.wav" "$work/back.wav" plate 0 0 24bit ${2-} 2>"$work/err" || fail "$words: $(cat "$work/err")"
+    python3 - "$work/${1}24.wav" "$work/back.wav" "${2-}" <<'END' || fail "$words: a sound of 24 bits is changed on its way"
+import sys, wave
+def words(path):
+    with wave.open(path) as f:
+        data = f.readframes(f.getnframes())
+        return f.getnchannels(), [data[i:i + 3] for i in range(0, len(data), 3)]
+channels, there = words(sys.argv[1])
+both, back = words(sys.argv[2])
+one = there[sys.argv[3] == "right"::channels]
+sys.exit(both != 2 or len(one) < 2500 or back[0::2] != one or back[1::2] != one)
+END
+done
+python3 tools/picture.py "$work/back.wav" "$work/back.svg" || fail "tools/picture.py does not draw words of 24 bits"
+echo "users.sh: words of 24 bits are the nearest, and come back as they were"
 
 # ---- play judges its words before it proves anything, and says how it is used
 ./play --help | grep -q 'IN OUT' || fail "play --help"

@@ -1,3 +1,4 @@
 -- What the contracts of `render` cite.
 pub mod Turn
 pub mod Run
+pub mod Written

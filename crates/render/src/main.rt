@@ -1,9 +1,9 @@
 // Plays a sound through the plate or any board, from WAV file to WAV file. docs/RENDER.md has the
 // formats and the answers.
 //
-//     render IN.wav OUT.wav plate MIX [SECONDS] [mono|left|right] [progress]
-//     render IN.wav OUT.wav board FILE [SECONDS] [mono|left|right] [progress]
-//     render IN.wav OUT.wav card FILE [SECONDS] [mono|left|right] [progress]
+//     render IN.wav OUT.wav plate MIX [SECONDS] [mono|left|right] [24bit] [progress]
+//     render IN.wav OUT.wav board FILE [SECONDS] [mono|left|right] [24bit] [progress]
+//     render IN.wav OUT.wav card FILE [SECONDS] [mono|left|right] [24bit] [progress]
 //     render list FILE
 //     render check FILE
 //
@@ -16,6 +16,7 @@ mod play;
 mod render;
 mod turn;
 mod words;
+mod written;
 
 use files::name::open_read;
 use input::{fill, is_there, word};
@@ -28,12 +29,12 @@ use std::rt::{Env, Files};
 use text::words::{Lines, find, nth_word, word_count};
 use words::{Asked, WordError};
 
-const USAGE: &str = "render IN.wav OUT.wav plate MIX [SECONDS] [mono|left|right] [progress]
-render IN.wav OUT.wav board FILE [SECONDS] [mono|left|right] [progress]
-render IN.wav OUT.wav card FILE [SECONDS] [mono|left|right] [progress]
+const USAGE: &str = "render IN.wav OUT.wav plate MIX [SECONDS] [mono|left|right] [24bit] [progress]
+render IN.wav OUT.wav board FILE [SECONDS] [mono|left|right] [24bit] [progress]
+render IN.wav OUT.wav card FILE [SECONDS] [mono|left|right] [24bit] [progress]
 render list FILE, render check FILE
 IN: WAV, 44100 Hz, mono or stereo, 8, 16, 24 or 32 bit whole numbers or 32 bit floats
-OUT: WAV, 32 bit floats in stereo; - is standard output
+OUT: WAV, stereo, 32 bit floats, or 24 bit whole numbers by 24bit; - is standard output
 MIX: 0 is the sound alone, 1 the plate alone; SECONDS: how long OUT goes on after IN, up to 600
 docs/RENDER.md has more
 ";

@@ -1,8 +1,10 @@
 // The second pass: block by block from the input file to the output file.
 ghost use Rattle.std.specs.Prelude.{◌≡◌, ◌+◌, ◌*◌, ◌≤◌, min, length};
 ghost use Rattle.render.specs.Run.{Few};
+ghost use Rattle.render.specs.Written.{most_frames};
 
 use crate::turn::turn;
+use crate::written::Written;
 use input::{fill, room};
 use records::answer::Answer;
 use sounds::say;
@@ -43,21 +45,23 @@ pub struct Needs {
     ghost room_fits: { room ≤ 1114880 },
 }
 
-// A rendering: the open files, the format of the input, what the board needs, how many frames are still
-// to be read and to be written, how many are written, what was found in them, and whether progress is
-// shown. The frames fit a WAV file, and what was found is among those that are written.
+// A rendering: the open files, the format of the input, what is written of the frames, what the board
+// needs, how many frames are still to be read and to be written, how many are written, what was found in
+// them, and whether progress is shown. The frames fit a WAV file, and what was found is among those that
+// are written.
 #[derive(Clone, Copy)]
 pub struct Run<'a> {
     pub input: &'a File,
     pub output: Output<'a>,
     pub format: Format,
+    pub written: Written,
     pub needs: Needs,
     pub reads: usize,
     pub writes: usize,
     pub done: usize,
     pub levels: Levels,
     pub progress: bool,
-    ghost writes_fit: { done + writes ≤ 536870905 },
+    ghost writes_fit: { done + writes ≤ most_frames written },
     ghost found: { Few (2 * done) levels },
 }
 
@@ -69,10 +73,14 @@ pub enum PlayError {
     Refused(Answer),
 }
 
-// The bytes of the longest block's samples, and of its frames.
+// The bytes of the longer header; of the longest block's samples, of its frames, and of these in words.
+const HEAD_BYTES: usize = 58;
+
 const SAMPLE_BYTES: usize = 512;
 
 const FRAME_BYTES: usize = 1024;
+
+const WORD_BYTES: usize = 768;
 
 impl<'a> Run<'a> {
     // The same to another file.
@@ -80,6 +88,13 @@ impl<'a> Run<'a> {
         let mut next = self;
         next.output = Output::File(file);
         next
+    }
+
+    // Writes what stands before the frames.
+    pub fn write_header(self) -> io::Result<()> {
+        let mut head = room::<HEAD_BYTES>();
+        self.output
+            .write_all(self.written.header(self.writes as u32, &mut head))
     }
 
     // The frames of the next block that are read, and those that are written.
@@ -96,13 +111,16 @@ impl<'a> Run<'a> {
     }
 
     // Writes the first of a block's frames, those that are still to be written: what is left after the
-    // block, with what is found in them.
+    // block, with what is found in their floats.
     fn write_frames(self, frames: &[u8]) -> Result<Run<'a>, PlayError>
         requires { length frames.now ≡ 8 * self.needs.size }
     {
         let wrote = self.next_writes();
         let part = &frames[..8 * wrote];
-        self.output.write_all(part).map_err(PlayError::NotWritten)?;
+        let mut words = room::<WORD_BYTES>();
+        self.output
+            .write_all(self.written.bytes_of(part, &mut words))
+            .map_err(PlayError::NotWritten)?;
         let mut next = self;
         next.levels = self.levels.with(part, 2 * self.done);
         next.reads -= self.next_reads();

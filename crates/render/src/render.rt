@@ -19,7 +19,6 @@ use std::io;
 use std::io::{Seek, SeekFrom};
 use std::rt::Files;
 use wav::format::{Channels, Format, Taken};
-use wav::header::{MOST, header};
 use wav::level::Levels;
 
 // What is asked for: IN OUT plate MIX, IN OUT board FILE or IN OUT card FILE, with what the other words
@@ -150,10 +149,7 @@ impl<'a> Rendering<'a> {
 
     // The header and then all blocks, to the output.
     fn written(self) -> Result<Levels, PlayError> {
-        self.run
-            .output
-            .write_all(&header(self.run.writes as u32))
-            .map_err(PlayError::NotWritten)?;
+        self.run.write_header().map_err(PlayError::NotWritten)?;
         let levels = self.blocks();
         if self.run.progress {
             say::percent_end(self.job.to);
@@ -288,7 +284,8 @@ fn from_open<'a, R: Files<File = File> + Alloc>(
     let taken = job.asked.channel.unwrap_or(Taken::Mean);
     let sound = survey(&mut reader, taken).map_err(Failure::Sound)?;
     let total = sound.frames + frames_after(job.asked, board);
-    if MOST < total {
+    let written = job.asked.written;
+    if written.most() < total {
         return Err(Failure::TooLong);
     }
     if is_open_file(rt, opened, job.output) {
@@ -299,6 +296,7 @@ fn from_open<'a, R: Files<File = File> + Alloc>(
         input: opened,
         output: Output::Standard(job.to.output),
         format: sound.format,
+        written,
         needs,
         reads: sound.frames,
         writes: total,

@@ -1,6 +1,7 @@
 // The words after the fourth, in any order: how many seconds the output goes on, which channel of a
-// stereo sound is taken, and whether progress is shown. A word that is not understood, or that says
-// again what was said, is refused.
+// stereo sound is taken, whether words of 24 bits are written, and whether progress is shown. A word that
+// is not understood, or that says again what was said, is refused.
+use crate::written::Written;
 use decimals::number::whole_of;
 use std::fmt;
 use wav::format::Taken;
@@ -10,6 +11,7 @@ use wav::format::Taken;
 pub struct Asked {
     pub seconds: Option<u16>,
     pub channel: Option<Taken>,
+    pub written: Written,
     pub progress: bool,
 }
 
@@ -17,7 +19,7 @@ pub struct Asked {
 #[derive(Clone, Copy)]
 pub enum WordError {
     SecondChannel,
-    SecondProgress,
+    SaidAlready,
     SecondSeconds,
     NoSeconds,
     Unknown,
@@ -27,10 +29,13 @@ impl fmt::Display for WordError {
     fn fmt<W: fmt::Write>(&self, f: &mut fmt::Formatter<W>) -> fmt::Result {
         match self {
             WordError::SecondChannel => write!(f, "a channel is named already"),
-            WordError::SecondProgress => write!(f, "is said already"),
+            WordError::SaidAlready => write!(f, "is said already"),
             WordError::SecondSeconds => write!(f, "seconds are given already"),
             WordError::NoSeconds => write!(f, "seconds are a whole number up to 600"),
-            WordError::Unknown => write!(f, "neither seconds nor mono, left, right or progress"),
+            WordError::Unknown => write!(
+                f,
+                "neither seconds nor mono, left, right, 24bit or progress"
+            ),
         }
     }
 }
@@ -46,6 +51,7 @@ impl Asked {
         Asked {
             seconds: None,
             channel: None,
+            written: Written::Floats,
             progress: false,
         }
     }
@@ -60,9 +66,19 @@ impl Asked {
         })
     }
 
+    fn with_words(self) -> Result<Asked, WordError> {
+        if self.written == Written::Words {
+            return Err(WordError::SaidAlready);
+        }
+        Ok(Asked {
+            written: Written::Words,
+            ..self
+        })
+    }
+
     fn with_progress(self) -> Result<Asked, WordError> {
         if self.progress {
-            return Err(WordError::SecondProgress);
+            return Err(WordError::SaidAlready);
         }
         Ok(Asked {
             progress: true,
@@ -93,6 +109,7 @@ impl Asked {
             b"mono" => self.with_channel(Taken::Mean),
             b"left" => self.with_channel(Taken::Left),
             b"right" => self.with_channel(Taken::Right),
+            b"24bit" => self.with_words(),
             b"progress" => self.with_progress(),
             _ => self.with_seconds(word),
         }

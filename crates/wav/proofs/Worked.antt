@@ -1,4 +1,4 @@
--- Worked values, under one statement: the ends of the whole numbers, a stereo frame, and the format of a file that is written, which is read again.
+-- Worked values, under one statement: the ends of the whole numbers, a stereo frame, and the formats of the files that are written, which are read again.
 -- Assumes nothing.
 use mathlib.Core.Path.{◌≡◌, refl}
 use mathlib.Core.Bool.{true, false}
@@ -7,9 +7,10 @@ use mathlib.Core.List.{[], ◌∷◌}
 use lib.IntN.{pos, negsuc}
 use lib.Ieee.{fin, add, mul, neg, round}
 use Rattle.leaves.specs.Sine.{over23}
+use Rattle.leaves.specs.Converter.{of_word}
 use Rattle.wav.specs.Format.{judged_coding, judged_as, format_of}
-use Rattle.wav.specs.Frames.{whole_of, byte_of, long_of, sample_of, halved, frame_at}
-use Rattle.wav.specs.Header.{format_body}
+use Rattle.wav.specs.Frames.{byte_of, long_of, sample_of, halved, frame_at}
+use Rattle.wav.specs.Header.{float_format, word_format}
 use Rattle.wav.specs.declared.format.Coding.TheVariants.{Whole8, Whole16, Whole24, Whole32, Float32}
 use Rattle.wav.specs.declared.format.Taken.TheVariants.{Mean, Right}
 use Rattle.wav.specs.declared.format.Channels.TheVariants.{Stereo}
@@ -28,10 +29,11 @@ pub record Worked : Type 0 where
   -- 1/2 and -1 become -1/4, and -1 if the right is taken alone
   pub mean : frame_at (record { coding = Whole16; channels = Stereo Mean }) (0 ∷ 64 ∷ 0 ∷ 128 ∷ []) 0 ≡ fin true 1 (negsuc 1)
   pub right_alone : frame_at (record { coding = Whole16; channels = Stereo Right }) (0 ∷ 64 ∷ 0 ∷ 128 ∷ []) 0 ≡ fin true 1 (pos 0)
-  pub written_is_read : format_of format_body ≡ Ok (record { coding = Float32; channels = Stereo Mean })
+  pub floats_are_read : format_of float_format ≡ Ok (record { coding = Float32; channels = Stereo Mean })
+  pub words_are_read : format_of word_format ≡ Ok (record { coding = Whole24; channels = Stereo Mean })
 
 pub worked : Worked
-unfolding whole_of byte_of long_of over23 neg round frame_at halved add mul format_of judged_as judged_coding
+unfolding of_word byte_of long_of over23 neg round frame_at halved add mul format_of judged_as judged_coding
 worked =
     record {
       lowest = refl;
@@ -43,5 +45,6 @@ worked =
       highest_long = refl;
       mean = refl;
       right_alone = refl;
-      written_is_read = refl;
+      floats_are_read = refl;
+      words_are_read = refl;
     }

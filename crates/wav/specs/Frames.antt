@@ -1,11 +1,11 @@
 -- Samples, frames and blocks: the float of a sample's bytes, the one that a frame becomes, the block of 4-byte values that a board takes, and the frames
 -- that are made of the two blocks that it gives. Definitions only.
-use Rattle.std.specs.Prelude.{ℕ, zero, suc, ◌+◌, ◌-◌, ◌*◌, ◌/◌, ◌^◌, false, cond, List, [], ◌∷◌, ◌++◌, length, get_or, ltb, pos, negsuc, Float, Option, None, Some}
+use Rattle.std.specs.Prelude.{ℕ, zero, suc, ◌+◌, ◌-◌, ◌*◌, ◌/◌, ◌^◌, false, cond, List, [], ◌∷◌, ◌++◌, length, get_or, ltb, negsuc, Float, Option, None, Some}
 use Rattle.std.specs.Float.{fin, binary32}
 use Rattle.std.specs.Float.Ieee.{of_bits, to_bits, round, add, mul, neg}
 use Rattle.values.specs.Bytes.{u16_at, u24_at, u32_at}
 use Rattle.values.specs.Floors.{zero_f, finite_f}
-use Rattle.leaves.specs.Sine.{over23}
+use Rattle.leaves.specs.Converter.{of_word}
 use Rattle.wav.specs.Format.{width_of, frame_of}
 use Rattle.wav.specs.declared.format.Format.{Format}
 use Rattle.wav.specs.declared.format.Coding.{Coding}
@@ -15,10 +15,6 @@ use Rattle.wav.specs.declared.format.Channels.TheVariants.{Mono, Stereo}
 use Rattle.wav.specs.declared.format.Taken.{Taken}
 use Rattle.wav.specs.declared.format.Taken.TheVariants.{Mean, Left, Right}
 
--- a whole number of 24 bits, negative from 2^23 on, over 2^23
-unfoldable pub whole_of : ℕ → Float
-whole_of w = cond (ltb w (2 ^ 23)) (over23 (pos w)) (neg (over23 (pos (2 ^ 24 - w))))
-
 -- a byte, in which 128 is zero, over 128
 unfoldable pub byte_of : ℕ → Float
 byte_of b = cond (ltb b 128) (neg (round binary32 false (128 - b) 128)) (round binary32 false (b - 128) 128)
@@ -27,11 +23,11 @@ byte_of b = cond (ltb b 128) (neg (round binary32 false (128 - b) 128)) (round b
 unfoldable pub long_of : ℕ → Float
 long_of w = cond (ltb w (2 ^ 31)) (round binary32 false w (2 ^ 31)) (neg (round binary32 false (2 ^ 32 - w) (2 ^ 31)))
 
--- the sample at a byte; one of 16 bits is the upper 16 of 24, so its w over 2^15 is 256 × w over 2^23
+-- the sample at a byte; one of 24 bits is a converter's word, and one of 16 the upper 16 of 24, so its w over 2^15 is 256 × w over 2^23
 abbrev pub sample_of : Coding → List ℕ → ℕ → Float
 sample_of Whole8 s at = byte_of (get_or s at 0)
-sample_of Whole16 s at = whole_of (u16_at s at * 256)
-sample_of Whole24 s at = whole_of (u24_at s at)
+sample_of Whole16 s at = of_word (u16_at s at * 256)
+sample_of Whole24 s at = of_word (u24_at s at)
 sample_of Whole32 s at = long_of (u32_at s at)
 sample_of Float32 s at = of_bits binary32 (u32_at s at)
 

@@ -6,8 +6,8 @@ ghost use Rattle.wav.specs.Format.{width_of, frame_of};
 ghost use Rattle.wav.specs.Frames.{byte_of, long_of, sample_of, halved, taken_of, frame_at};
 
 use crate::format::{Channels, Coding, Format, Taken, width};
-use leaves::converter::of_word;
-use values::bytes::{u16_at, u24_at, u32_at};
+use leaves::converter::{of_word, take_word};
+use values::bytes::{u16_at, u32_at};
 use values::float::of_bits;
 
 // A byte, in which 128 is zero, over 128: nothing is lost.
@@ -42,9 +42,8 @@ fn long(w: u32) -> f32
     }
 }
 
-// The sample at byte `at`. One of 16 bits is the upper 16 of 24. Ruled out: a negative number whose sign
-// is lost; a byte that is read as one with a sign.
-#[tactic(auto, using(crate::proofs::Nearest::word_whole))]
+// The sample at byte `at`. One of 24 bits is a converter's word, and one of 16 its upper 16. Ruled out: a
+// negative number whose sign is lost; a byte that is read as one with a sign.
 pub fn sample_at(s: &[u8], at: usize, coding: Coding) -> f32
     requires { at + width_of coding ≤ length s.now }
     ensures { result ≡ sample_of coding s.now at }
@@ -52,7 +51,7 @@ pub fn sample_at(s: &[u8], at: usize, coding: Coding) -> f32
     match coding {
         Coding::Whole8 => eight(s[at]),
         Coding::Whole16 => of_word(u32::from(u16_at(s, at)) * 256),
-        Coding::Whole24 => of_word(u24_at(s, at)),
+        Coding::Whole24 => take_word(s, at),
         Coding::Whole32 => long(u32_at(s, at)),
         Coding::Float32 => of_bits(u32_at(s, at)),
     }
