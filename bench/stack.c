@@ -7,7 +7,7 @@
 
 #include "plate.h"
 
-enum { SPACE = 1 << 20, PAINT = 0xA5, IDLE = 9 };
+enum { SPACE = 1 << 20, PAINT = 0xA5, IDLE = 10 };
 
 static uint8_t board[4096], in[512], out0[512], out1[512], written[PLATE_BYTES];
 static size_t board_len, memory_len;
@@ -34,6 +34,7 @@ static void *call(void *unused)
     /* From the input node to an all-pass at the far end of the walk; pulled again, so that the board is as before. */
     case 7: wiring = plate_add_wire(board, sizeof board, board_len, board[6], far); break;
     case 8: wiring = plate_pull_wire(board, sizeof board, board_len + 8, board[6], far); break;
+    case 9: answer = plate_block24(board, board_len, memory, memory_len, in, 384, out0, 384, out1, 384); break;
     }
     return NULL;
 }
@@ -72,7 +73,7 @@ static void chain(void)
 
 int main(void)
 {
-    static const char *names[] = {"judge", "tail", "fresh", "block", "message", "mix", "write", "add wire", "pull wire"};
+    static const char *names[] = {"judge", "tail", "fresh", "block", "message", "mix", "write", "add wire", "pull wire", "block24"};
     size_t idle = used(IDLE);
     int too_much = 0;
     for (int deep = 0; deep < 2; deep++) {

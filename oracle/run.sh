@@ -1,6 +1,7 @@
 #!/bin/sh
-# run.sh [boards N] [plate M] [seed S]: compares the library with the original Rust and with a model of document 01; see
-# README.md. PLATE_LIB names the library (target/staticlib/libplate.a), GLICOL_SYNTH the original Rust (build.sh).
+# run.sh [boards N] [plate M] [seed S] [floats K]: compares the library with the original Rust and with a model of the
+# documents; see README.md. PLATE_LIB names the library (target/staticlib/libplate.a), GLICOL_SYNTH the original Rust
+# (build.sh).
 set -eu
 root=$(cd "$(dirname "$0")/.." && pwd -P)
 PLATE_LIB=$(realpath "${PLATE_LIB:-$root/target/staticlib/libplate.a}")

@@ -2,8 +2,8 @@
 """Writes the questions and the expected lines of the program leaves_trial: leaves_vectors.py FOLDER.
 
 FOLDER/stdin has the questions, four little-endian words each: which leaf, and what it is asked. FOLDER/stdout has a line
-with two words for each. The answers are worked out here from document 01 alone, in exact fractions, with one rounding to a
-32-bit float after each operation. Nothing is random: the spread values come from a fixed sequence.
+with two words for each. The answers are worked out here from document 01, and of a converter's words from document 02 [1], in exact
+fractions, with one rounding to a 32-bit float after each operation. Nothing is random: the spread values come from a fixed sequence.
 """
 import os
 import struct
@@ -173,6 +173,24 @@ def one_pole(b, y1, x):
     return a, add(mul(x, a), mul(b, y1))
 
 
+# ---- document 02 [1]: words are patterns of 24 bits
+
+def word_in(word):
+    if word >= 2**24:
+        return OUTSIDE
+    return rounded(Fraction(word if word < 2**23 else word - 2**24, 2**23)), 0
+
+
+def word_out(w):
+    if is_nan(w):
+        return 0, 0
+    if is_inf(w):
+        whole = -(2**23) if w >= SIGN else 2**23
+    else:
+        whole = round(value(w) * 2**23)  # of a fraction: the nearest whole number, at a tie the even one
+    return max(-(2**23), min(2**23 - 1, whole)) % 2**24, 0
+
+
 def answer(leaf, a, b, c):
     if leaf == 0:
         return (NAN if is_nan(a) else a), 0
@@ -190,7 +208,9 @@ def answer(leaf, a, b, c):
         return phase_step(a, b)
     if leaf == 7:
         return one_pole(a, b, c)
-    return B_SEVEN_FIFTHS, B_ONE_FIFTH
+    if leaf == 8:
+        return B_SEVEN_FIFTHS, B_ONE_FIFTH
+    return word_in(a) if leaf == 9 else word_out(a)
 
 
 # ---- the questions
@@ -232,6 +252,19 @@ def questions():
         for y1, x in ((0, 0), (SIGN, SIGN), (INF, 0), (NAN, ONE), (ONE, bits(-1.0)), (1, 1), (part(2.0), part(1.0)), (part(1e-3), part(1e3))):
             yield 7, b, y1, x
     yield 8, 0, 0, 0
+    for word in (0, 1, 2, 0x7F_FFFF, 0x80_0000, 0x80_0001, 0xFF_FFFF, 0x100_0000, 0x55_5555, 0xAA_AAAA):
+        yield 9, word, 0, 0
+    for _ in range(32):
+        yield 9, next(some) >> 8, 0, 0
+    # halves, quarters and three quarters of a step beside whole numbers of steps, of either sign
+    ties = [rounded(Fraction(4 * n + k, 2**25)) for n in (0, 1, 2, 3, 2**22 - 2, 2**22 - 1) for k in (1, 2, 3)]
+    ends = [rounded(Fraction(n, 2**24)) for n in (2**24 - 3, 2**24 - 2, 2**24 - 1, 2**24, 2**24 + 1)]
+    for w in odd + ties + ends + [bits(2.0), bits(1e30)]:
+        yield 10, w, 0, 0
+        yield 10, w ^ SIGN, 0, 0
+    for _ in range(64):
+        yield 10, part(1.0) ^ next(some) // 2**31 * SIGN, 0, 0
+        yield 10, next(some), 0, 0
 
 
 def main(folder):

@@ -1,14 +1,17 @@
-//! bench: the plate in the original Rust, in the library and as straight-line Rust; what each node type costs; and how cost
-//! grows with nodes, wires and N. One process, each figure the least of many short runs, so that a shared machine does
-//! little harm. The three plates are held against each other first, bit for bit.
+//! bench: the plate in the original Rust, in the library and as straight-line Rust; packed blocks beside float blocks; what
+//! each node type costs; and how cost grows with nodes, wires and N. One process, each figure the least of many short runs,
+//! so that a shared machine does little harm. The three plates are held against each other first, bit for bit.
 mod straight;
 
 use compare::boards::{node, to_bytes};
 use compare::library::{answer, c, Answer, Wiring};
-use compare::model::{Board, Node, PLATE_BYTES};
+use compare::model::{samples_of_words, words, words_of_samples, Board, Node, PLATE_BYTES};
 use compare::original::{OfPlate, Original};
 use compare::random::Random;
 use std::time::Instant;
+
+type Block =
+    unsafe extern "C" fn(*const u8, usize, *mut u8, usize, *const u8, usize, *mut u8, usize, *mut u8, usize) -> Answer;
 
 /// A board in the library with its memory and blocks, called as firmware calls it.
 struct Library {
@@ -48,10 +51,22 @@ impl Library {
     fn mix(&mut self) -> Answer {
         unsafe { c::plate_mix(self.board.as_ptr(), self.board.len(), self.memory.as_mut_ptr(), self.memory.len(), MIX) }
     }
+    /// From here on its blocks are packed ones, as long as the float blocks were.
+    fn packed(mut self) -> Self {
+        self.input = words_of_samples(&words(&self.input));
+        self.out = self.out.map(|out| vec![0; out.len() / 4 * 3]);
+        self
+    }
     fn block(&mut self) -> Answer {
+        self.run(c::plate_block)
+    }
+    fn block24(&mut self) -> Answer {
+        self.run(c::plate_block24)
+    }
+    fn run(&mut self, block: Block) -> Answer {
         let [out0, out1] = &mut self.out;
         unsafe {
-            c::plate_block(
+            block(
                 self.board.as_ptr(),
                 self.board.len(),
                 self.memory.as_mut_ptr(),
@@ -141,6 +156,22 @@ fn plates<const N: usize>(rounds: usize) {
         [&mut || original.block(&x), &mut || done(library.block()), &mut || line.block(&x, &mut out0, &mut out1)],
     );
     println!("{N:>5} {theirs:>12.0} {ours:>9.0} {bound:>14.0} {:>23.2} {:>20.2}", theirs / ours, ours / bound);
+}
+
+/// Packed blocks of the plate beside float blocks of the same samples: what words cost.
+fn packed<const N: usize>(rounds: usize) {
+    // A multiple of 2^-23 each, so that the words say the same samples.
+    let x = noise(N, &mut Random::new(7));
+    let (mut floats, mut packed) = (Library::plate(N, &x), Library::plate(N, &x).packed());
+    assert_eq!(samples_of_words(&packed.input), words(&floats.input));
+    for _ in 0..3000 / N + 1 {
+        done(floats.block());
+        done(packed.block24());
+        let expected = floats.out.each_ref().map(|out| words_of_samples(&words(out)));
+        assert_eq!(expected, packed.out, "N {N}: packed and float blocks");
+    }
+    let [float, word] = least(rounds, [&mut || done(floats.block()), &mut || done(packed.block24())]);
+    println!("{N:>5} {float:>12.0} {word:>9.0} {:>14.3}", word / float);
 }
 
 fn calls(rounds: usize) {
@@ -277,6 +308,12 @@ fn main() {
     plates::<128>(rounds);
     plates::<64>(rounds);
     plates::<16>(rounds);
+    println!("plate, ns a block, float and packed");
+    println!("{:>5} {:>12} {:>9} {:>14}", "N", "float", "packed", "packed / float");
+    packed::<128>(rounds);
+    packed::<64>(rounds);
+    packed::<16>(rounds);
+    packed::<1>(rounds);
     calls(rounds);
     node_types(rounds);
     growth(rounds);

@@ -13,6 +13,7 @@ pair map_judge(const uint8_t *, size_t);
 pair map_tail(const uint8_t *, size_t);
 pair map_fresh(const uint8_t *, size_t, uint8_t *, size_t);
 pair map_block(const uint8_t *, size_t, uint8_t *, size_t, const uint8_t *, size_t, uint8_t *, size_t, uint8_t *, size_t);
+pair map_block24(const uint8_t *, size_t, uint8_t *, size_t, const uint8_t *, size_t, uint8_t *, size_t, uint8_t *, size_t);
 pair map_message(const uint8_t *, size_t, uint8_t *, size_t, uint32_t, float);
 pair map_mix(const uint8_t *, size_t, uint8_t *, size_t, float);
 pair map_write(uint32_t, float, uint8_t *, size_t);
@@ -35,6 +36,11 @@ plate_answer plate_block(const uint8_t *board, size_t board_len, uint8_t *memory
                          const uint8_t *input, size_t input_len, uint8_t *out0, size_t out0_len, uint8_t *out1,
                          size_t out1_len) {
   return answer(map_block(board, board_len, memory, memory_len, input, input_len, out0, out0_len, out1, out1_len));
+}
+plate_answer plate_block24(const uint8_t *board, size_t board_len, uint8_t *memory, size_t memory_len,
+                           const uint8_t *input, size_t input_len, uint8_t *out0, size_t out0_len, uint8_t *out1,
+                           size_t out1_len) {
+  return answer(map_block24(board, board_len, memory, memory_len, input, input_len, out0, out0_len, out1, out1_len));
 }
 plate_answer plate_message(const uint8_t *board, size_t board_len, uint8_t *memory, size_t memory_len, uint32_t node,
                            float value) {

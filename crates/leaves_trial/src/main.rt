@@ -1,6 +1,6 @@
 // Runs the leaves on the questions on standard input and writes a line with two words for each. A
 // question is four words: which leaf, and what it is asked. `tools/leaves_vectors.py` writes the
-// questions, and the lines by its own reading of document 01.
+// questions, and the lines by its own reading of the documents.
 #![tactic(auto)]
 
 ghost use Rattle.std.specs.Prelude.{◌≡◌, length};
@@ -64,6 +64,15 @@ fn range(x: f32, most: f32) -> Words {
     Words(u32::from(finite(x)), u32::from(within(x, most)))
 }
 
+// A converter's word going in.
+fn word_in(word: u32) -> Words {
+    if word < 0x100_0000 {
+        Words(to_bits(leaves::converter::of_word(word)), 0)
+    } else {
+        OUTSIDE
+    }
+}
+
 // What a question asks, by its first word.
 #[derive(Clone, Copy)]
 enum Leaf {
@@ -76,6 +85,8 @@ enum Leaf {
     Phase,
     Pole,
     Constants,
+    WordIn,
+    WordOut,
 }
 
 // A number that no leaf has.
@@ -96,6 +107,8 @@ impl TryFrom<u32> for Leaf {
             6 => Ok(Leaf::Phase),
             7 => Ok(Leaf::Pole),
             8 => Ok(Leaf::Constants),
+            9 => Ok(Leaf::WordIn),
+            10 => Ok(Leaf::WordOut),
             _ => Err(NoLeaf),
         }
     }
@@ -124,6 +137,8 @@ fn answer(question: &[u8]) -> Words
             leaves::onepole::B_SEVEN_FIFTHS,
             leaves::onepole::B_ONE_FIFTH,
         ),
+        Leaf::WordIn => word_in(a),
+        Leaf::WordOut => Words(leaves::converter::to_word(a), 0),
     }
 }
 

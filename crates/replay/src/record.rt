@@ -10,6 +10,7 @@ use kinds::cell::SAMPLES;
 use memory::fresh::fresh;
 use memory::message::message;
 use mixing::mix::set_mix;
+use packed::block24::block24;
 use plate::{plate_allpass_length, plate_delay_length};
 use plate_board::writer::LENGTH;
 use records::answer::Answer;
@@ -27,6 +28,7 @@ pub enum Call {
     DelayLength,
     AllPassLength,
     Write,
+    Packed,
 }
 
 // A number that no call has.
@@ -46,6 +48,7 @@ impl TryFrom<u32> for Call {
             6 => Ok(Call::DelayLength),
             7 => Ok(Call::AllPassLength),
             8 => Ok(Call::Write),
+            9 => Ok(Call::Packed),
             _ => Err(NoCall),
         }
     }
@@ -103,6 +106,20 @@ fn run(board: &[u8], memory: &mut [u8], input: &[u8]) -> Option<Reply> {
     let out0 = out0.get_mut(..n)?;
     let out1 = out1.get_mut(..n)?;
     let answer = block(board, memory, input, out0, out1);
+    Some(Reply::new(answer, carried(carried(START, out0), out1)))
+}
+
+// Packed: a block run of words of 24 bits. The body is the lengths of the outputs and the input, any of which
+// may be wrong.
+fn run_packed(board: &[u8], memory: &mut [u8], body: &[u8]) -> Option<Reply> {
+    let left = word(body, 0)? as usize;
+    let right = word(body, 4)? as usize;
+    let input = body.get(8..)?;
+    let mut out0 = [0u8; 512];
+    let mut out1 = [0u8; 512];
+    let out0 = out0.get_mut(..left)?;
+    let out1 = out1.get_mut(..right)?;
+    let answer = block24(board, memory, input, out0, out1);
     Some(Reply::new(answer, carried(carried(START, out0), out1)))
 }
 
@@ -167,6 +184,7 @@ pub fn answered<'a>(
     let answer = match call {
         Call::Accept => return accept(body, current, memory),
         Call::Block => return run(board, lent, body),
+        Call::Packed => return run_packed(board, lent, body),
         Call::Cells => return Some(cells(board, lent)),
         Call::Write => return Some(write(first, of_bits(second))),
         Call::Message => message(board, lent, first, of_bits(second)),

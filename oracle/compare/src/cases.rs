@@ -3,13 +3,51 @@
 //! Rust.
 use crate::boards::{text, to_bytes};
 use crate::library::{self, answer, Answer, Lent, Wiring};
-use crate::model::{self, bytes_of, judge, word, words, Board};
+use crate::model::{self, bytes_of, judge, samples_of_words, word, word_of, words, Board, WORD};
 use crate::original::{of_board, Original};
+
+/// What a block's bytes hold: a float or a converter's word for each sample.
+#[derive(Clone, Copy, Debug, PartialEq)]
+pub enum Form {
+    Floats,
+    Words,
+}
+
+impl Form {
+    /// The bytes of a sample.
+    pub fn width(self) -> usize {
+        match self {
+            Form::Floats => 4,
+            Form::Words => WORD,
+        }
+    }
+    /// A block as the patterns of its samples.
+    pub fn samples(self, block: &[u8]) -> Vec<u32> {
+        match self {
+            Form::Floats => words(block),
+            Form::Words => samples_of_words(block),
+        }
+    }
+    pub fn in_model(self, board: &[u8], memory: &mut [u8], input: &[u8], out: [&mut [u8]; 2]) -> Answer {
+        let [out0, out1] = out;
+        match self {
+            Form::Floats => model::block(board, memory, input, out0, out1),
+            Form::Words => model::block24(board, memory, input, out0, out1),
+        }
+    }
+    pub fn in_library(self, board: &Lent, memory: &mut Lent, input: &Lent, out: [&mut Lent; 2]) -> Answer {
+        let [out0, out1] = out;
+        match self {
+            Form::Floats => library::block(board, memory, input, out0, out1),
+            Form::Words => library::block24(board, memory, input, out0, out1),
+        }
+    }
+}
 
 #[derive(Clone, Debug)]
 pub enum Call {
     /// Input bytes and the lengths of the two outputs.
-    Block(Vec<u8>, usize, usize),
+    Block(Form, Vec<u8>, usize, usize),
     Message(u32, f32),
     Mix(f32),
     Wire(Change),
@@ -96,6 +134,40 @@ pub struct Seen {
     pub too_many: u64,
     pub rewired_blocks: u64,
     pub back: u64,
+    pub packed: Packed,
+}
+
+/// Packed blocks, those of them held against the original, and of the samples that went out as words: held at the upper
+/// and at the lower limit, halfway between two whole numbers, NaN as 0.
+#[derive(Clone, Copy, Default)]
+pub struct Packed {
+    pub blocks: u64,
+    pub original_blocks: u64,
+    pub words: u64,
+    pub held: [u64; 2],
+    pub ties: u64,
+    pub nan: u64,
+}
+
+impl Packed {
+    pub fn count(&mut self, sample: u32) {
+        let number = f32::from_bits(sample) as f64 * 8388608.0;
+        self.words += 1;
+        self.held[0] += (number >= 8388607.5) as u64;
+        self.held[1] += (number < -8388608.5) as u64;
+        self.ties += (number.fract().abs() == 0.5) as u64;
+        self.nan += number.is_nan() as u64;
+    }
+}
+
+impl std::fmt::Display for Packed {
+    fn fmt(&self, f: &mut std::fmt::Formatter) -> std::fmt::Result {
+        let Packed { words, held: [upper, lower], ties, nan, .. } = self;
+        write!(
+            f,
+            "{words} words out, {upper} held at the upper limit, {lower} at the lower, {ties} ties, {nan} NaN as 0"
+        )
+    }
 }
 
 /// The board's offset of a cell's samples of a channel.
@@ -196,19 +268,19 @@ impl Running {
     }
 
     /// Output is zero at most a tail after the input turned zero for good.
-    fn tail_holds(&mut self, input: &[u8], outputs: [&[u8]; 2], seen: &mut Seen) -> Result<(), String> {
+    fn tail_holds(&mut self, input: &[u32], outputs: [&[u32]; 2], seen: &mut Seen) -> Result<(), String> {
         if self.tail == model::ENDLESS {
             return Ok(());
         }
         let zero = |bits: u32| bits & 0x7fffffff == 0;
-        for (i, &bits) in words(input).iter().enumerate() {
+        for (i, &bits) in input.iter().enumerate() {
             let now = self.time + i as u64;
             if !zero(bits) {
                 self.zero_from = now + 1;
             }
             if now >= self.zero_from + self.tail as u64 {
                 seen.tails += 1;
-                if !outputs.iter().all(|output| zero(word(output, 4 * i))) {
+                if !outputs.iter().all(|output| zero(output[i])) {
                     return Err(format!(
                         "output at {now} after the tail {} of input zero from {}",
                         self.tail, self.zero_from
@@ -219,38 +291,60 @@ impl Running {
         Ok(())
     }
 
-    fn block(&mut self, input: &[u8], lengths: [usize; 2], seen: &mut Seen) -> Result<Answer, String> {
+    fn block(&mut self, form: Form, input: &[u8], lengths: [usize; 2], seen: &mut Seen) -> Result<Answer, String> {
         let [mut expected0, mut expected1] = lengths.map(|length| vec![0xee; length]);
         let (lent, mut out0, mut out1) = (Lent::new(input), Lent::new(&expected0), Lent::new(&expected1));
-        let expected = model::block(self.panel.board(), &mut self.expected, input, &mut expected0, &mut expected1);
-        same("answer", expected, library::block(&self.board, &mut self.memory, &lent, &mut out0, &mut out1))?;
+        let expected = form.in_model(self.panel.board(), &mut self.expected, input, [&mut expected0, &mut expected1]);
+        same("answer", expected, form.in_library(&self.board, &mut self.memory, &lent, [&mut out0, &mut out1]))?;
         same_bytes("input", input, &lent)?;
         if expected.number == 0 {
             seen.blocks += 1;
             seen.rewired_blocks += self.rewired as u64;
             self.count_back(seen);
+            if form == Form::Words {
+                self.count_packed(seen);
+            }
+            let samples = form.samples(input);
             if let (Some(original), Some(board)) = (&mut self.original, &self.accepted) {
                 seen.original_blocks += 1;
-                original.block(&words(input).into_iter().map(f32::from_bits).collect::<Vec<_>>());
+                seen.packed.original_blocks += (form == Form::Words) as u64;
+                original.block(&samples.iter().map(|&bits| f32::from_bits(bits)).collect::<Vec<_>>());
                 same_samples(board, self.memory.get(), &**original)?;
                 for (channel, out) in [&out0, &out1].into_iter().enumerate() {
-                    for (&bits, &x) in words(out.get()).iter().zip(original.samples(0, channel)) {
-                        if !same_float(bits, x) {
-                            return Err(format!(
-                                "output {channel}: the original has {x:?}, the library {:?}",
-                                f32::from_bits(bits)
-                            ));
+                    for (bytes, &x) in out.get().chunks(form.width()).zip(original.samples(0, channel)) {
+                        let (same, found) = match form {
+                            Form::Floats => (same_float(word(bytes, 0), x), f32::from_bits(word(bytes, 0))),
+                            Form::Words => (bytes == word_of(x.to_bits()), f32::from_bits(samples_of_words(bytes)[0])),
+                        };
+                        if !same {
+                            return Err(format!("output {channel}: the original has {x:?}, the library {found:?}"));
                         }
                         seen.not_finite += !x.is_finite() as u64;
                     }
                 }
             }
-            self.tail_holds(input, [out0.get(), out1.get()], seen)?;
-            self.time += input.len() as u64 / 4;
+            // Of a packed block the samples that its words were made of, as small ones go out as 0 too.
+            let [left, right] = match form {
+                Form::Floats => [words(out0.get()), words(out1.get())],
+                Form::Words => self.outputs(),
+            };
+            self.tail_holds(&samples, [&left, &right], seen)?;
+            self.time += samples.len() as u64;
         }
         same_bytes("output 0 (model)", &expected0, &out0)?;
         same_bytes("output 1 (model)", &expected1, &out1)?;
         Ok(expected)
+    }
+
+    /// Node 0's samples, which are what a block gives out; none on a refused board.
+    fn outputs(&self) -> [Vec<u32>; 2] {
+        let Some(board) = &self.accepted else { return Default::default() };
+        [0, 1].map(|channel| words(&self.memory.get()[samples_at(board, 0, channel)..][..4 * board.size]))
+    }
+
+    fn count_packed(&self, seen: &mut Seen) {
+        seen.packed.blocks += 1;
+        self.outputs().concat().into_iter().for_each(|sample| seen.packed.count(sample));
     }
 
     fn count_back(&mut self, seen: &mut Seen) {
@@ -291,7 +385,7 @@ impl Running {
 
     fn call(&mut self, call: &Call, seen: &mut Seen) -> Result<(), String> {
         let answered = match call {
-            Call::Block(input, length0, length1) => self.block(input, [*length0, *length1], seen)?,
+            Call::Block(form, input, length0, length1) => self.block(*form, input, [*length0, *length1], seen)?,
             Call::Message(node, value) => {
                 let expected = model::message(self.panel.board(), &mut self.expected, *node, *value);
                 same("answer", expected, library::message(&self.board, &mut self.memory, *node, *value))?;
@@ -366,8 +460,12 @@ fn around_node(case: &Case, board: &Board, k: usize) -> Option<Case> {
 /// The case with another block size.
 fn with_size(case: &Case, board: &Board, size: usize) -> Case {
     let calls = case.calls.iter().map(|call| match call {
-        Call::Block(input, ..) if input.len() == 4 * board.size => {
-            Call::Block(input[..4 * size].to_vec(), 4 * size, 4 * size)
+        Call::Block(form, input, length0, length1) => {
+            // What a length is off stays as it is.
+            let off = |length: usize| (length + form.width() * size).saturating_sub(form.width() * board.size);
+            let mut input = input.clone();
+            input.resize(off(input.len()), 0);
+            Call::Block(*form, input, off(*length0), off(*length1))
         }
         other => other.clone(),
     });
@@ -424,13 +522,22 @@ fn smaller(case: &Case) -> Vec<Case> {
                 }
             }
         }
-        if let Call::Block(input, length0, length1) = &case.calls[k] {
-            for i in (0..input.len() / 4).filter(|&i| word(input, 4 * i) != 0).take(16) {
+        if let Call::Block(form, input, length0, length1) = &case.calls[k] {
+            let mut put = |call: Call| {
                 let mut calls = case.calls.clone();
-                let mut silenced = words(input);
-                silenced[i] = 0;
-                calls[k] = Call::Block(bytes_of(&silenced), *length0, *length1);
+                calls[k] = call;
                 found.push(Case { calls, ..case.clone() });
+            };
+            // A packed block as the float block of the same samples, if its lengths are right.
+            let size = input.len() / form.width();
+            if *form == Form::Words && [input.len(), *length0, *length1] == [WORD * size; 3] {
+                put(Call::Block(Form::Floats, bytes_of(&form.samples(input)), 4 * size, 4 * size));
+            }
+            let loud = form.samples(input).into_iter().enumerate().filter(|&(_, bits)| bits != 0);
+            for (i, _) in loud.take(16) {
+                let mut silenced = input.clone();
+                silenced[form.width() * i..form.width() * (i + 1)].fill(0);
+                put(Call::Block(*form, silenced, *length0, *length1));
             }
         }
     }
@@ -461,10 +568,11 @@ pub fn describe(case: &Case) -> String {
     lines.extend(case.changes.iter().map(|(at, bits)| format!("memory byte {at}: word {bits:08x}")));
     for (k, call) in case.calls.iter().enumerate() {
         lines.push(match call {
-            Call::Block(input, length0, length1) => {
-                let samples: Vec<_> = words(input).into_iter().map(f32::from_bits).collect();
-                let mut line = format!("call {k}: block {samples:?}");
-                if [*length0, *length1] != [input.len(); 2] || input.len() % 4 != 0 {
+            Call::Block(form, input, length0, length1) => {
+                let samples: Vec<_> = form.samples(input).into_iter().map(f32::from_bits).collect();
+                let name = if *form == Form::Words { "packed block" } else { "block" };
+                let mut line = format!("call {k}: {name} {samples:?}");
+                if [*length0, *length1] != [input.len(); 2] || input.len() % form.width() != 0 {
                     line += &format!(" of {} bytes, outputs of {length0} and {length1}", input.len());
                 }
                 line

@@ -1,7 +1,7 @@
 //! Random cases: calls on accepted boards from fresh memory, and damaged boards, memories, lengths and values.
 use crate::boards::{node, random_board, to_bytes, Limits};
-use crate::cases::{Call, Case};
-use crate::model::{judge, Board};
+use crate::cases::{Call, Case, Form};
+use crate::model::{judge, Board, WORD};
 use crate::random::Random;
 
 /// A finite input block: noise, impulses, silence, and samples of every size.
@@ -18,7 +18,7 @@ pub fn input(r: &mut Random, size: usize) -> Vec<u8> {
 }
 
 pub fn whole_block(r: &mut Random, size: usize) -> Call {
-    Call::Block(input(r, size), 4 * size, 4 * size)
+    Call::Block(Form::Floats, input(r, size), 4 * size, 4 * size)
 }
 
 /// An input block with an infinite or NaN sample, or of a wrong length.
@@ -30,7 +30,66 @@ pub fn refused_block(r: &mut Random, size: usize) -> Call {
     } else {
         block.resize(4 * size + r.pick(&[1, 4]) - 2, 0);
     }
-    Call::Block(block, 4 * size, 4 * size)
+    Call::Block(Form::Floats, block, 4 * size, 4 * size)
+}
+
+/// A packed input block: silence, an impulse at a limit, words at and around the limits and zero, quiet ones, any bytes.
+pub fn packed_input(r: &mut Random, size: usize) -> Vec<u8> {
+    let manner = r.below(6);
+    let word = |i: usize, r: &mut Random| -> i32 {
+        match manner {
+            0 => 0,
+            1 if i > 0 => 0,
+            1 => r.pick(&[8388607, -8388608]),
+            2 => {
+                r.pick(&[0, 1, -1, 2, -2, 127, 128, -128, 255, 256, 32767, 32768, 65535, 65536, 4194303, 4194304])
+                    * r.pick(&[1, -1])
+            }
+            3 => r.pick(&[8388607, 8388606, -8388608, -8388607, 0]),
+            4 => r.below(2001) as i32 - 1000,
+            _ => r.below(1 << 24) as i32 - (1 << 23),
+        }
+    };
+    (0..size).flat_map(|i| word(i, r).to_le_bytes()[..WORD].to_vec()).collect()
+}
+
+/// A packed block of which one, two or all three blocks have another length, be it the same one or not.
+pub fn refused_packed(r: &mut Random, size: usize) -> Call {
+    let whole = WORD * size;
+    let wrong = [0, whole - 1, whole + 1, 4 * size, whole - WORD, whole + WORD, r.below(whole)];
+    let (which, one, alike) = (r.between(1, 7), r.pick(&wrong), r.one_in(2));
+    let lengths = [0, 1, 2].map(|k| match which >> k & 1 {
+        0 => whole,
+        _ if alike => one,
+        _ => r.pick(&wrong),
+    });
+    let mut block = packed_input(r, size);
+    block.resize(lengths[0], 0);
+    Call::Block(Form::Words, block, lengths[1], lengths[2])
+}
+
+/// Puts packed blocks in place of about half of a case's blocks, so that its calls mix both forms: silence stays silence,
+/// a block that was refused by its length or its samples becomes a packed one of wrong length, and one in `odd` of the
+/// others too; seldom a float block gets the lengths of a packed one.
+pub fn pack_some(r: &mut Random, case: &mut Case, odd: usize) {
+    let size = judge(&case.board).map_or(2, |board| board.size);
+    for call in &mut case.calls {
+        let Call::Block(Form::Floats, input, length0, length1) = call else { continue };
+        let finite = input.chunks_exact(4).all(|b| f32::from_le_bytes(b.try_into().unwrap()).is_finite());
+        let whole = finite && [input.len(), *length0, *length1] == [4 * size; 3];
+        let length = WORD * size;
+        if r.one_in(2) {
+            *call = if !whole || r.one_in(odd) {
+                refused_packed(r, size)
+            } else if input.iter().all(|&byte| byte == 0) {
+                Call::Block(Form::Words, vec![0; length], length, length)
+            } else {
+                Call::Block(Form::Words, packed_input(r, size), length, length)
+            };
+        } else if r.one_in(3 * odd) {
+            *call = Call::Block(Form::Floats, packed_input(r, size), length, length);
+        }
+    }
 }
 
 /// A number message that the board accepts, if it has a node that takes one.
@@ -65,7 +124,7 @@ pub fn accepted_case(r: &mut Random, sizes: &[usize], limits: Limits, blocks: us
     let tail = board.tail() as usize;
     if tail < 40 * board.size {
         for _ in 0..tail / board.size + 2 {
-            calls.push(Call::Block(vec![0; 4 * board.size], 4 * board.size, 4 * board.size));
+            calls.push(Call::Block(Form::Floats, vec![0; 4 * board.size], 4 * board.size, 4 * board.size));
         }
     }
     Case { board: to_bytes(&board), memory_length: None, changes: vec![], calls }
@@ -210,7 +269,7 @@ fn any_call(r: &mut Random, size: usize) -> Call {
                 lengths[which] = if r.one_in(2) { r.below(40) } else { lengths[which] + r.between(0, 2) - 1 };
             }
             block.resize(lengths[0], 0);
-            Call::Block(block, lengths[1], lengths[2])
+            Call::Block(Form::Floats, block, lengths[1], lengths[2])
         }
     }
 }

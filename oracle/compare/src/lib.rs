@@ -1,6 +1,6 @@
 //! Three readings of document 01 side by side: the library (`library`), the original Rust (`original`) and a plain model
-//! (`model`), with random boards (`boards`, `random`), random calls (`damage`, `wires`) and the comparison of call lists
-//! (`cases`).
+//! (`model`), with random boards (`boards`, `random`), random calls (`damage`, `wires`), the comparison of call lists
+//! (`cases`) and of converter words (`words`).
 pub mod boards;
 pub mod cases;
 pub mod damage;
@@ -10,3 +10,4 @@ pub mod model;
 pub mod original;
 pub mod random;
 pub mod wires;
+pub mod words;

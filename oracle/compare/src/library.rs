@@ -44,6 +44,18 @@ pub mod c {
             out1: *mut u8,
             out1_len: usize,
         ) -> Answer;
+        pub fn plate_block24(
+            board: *const u8,
+            board_len: usize,
+            memory: *mut u8,
+            memory_len: usize,
+            input: *const u8,
+            input_len: usize,
+            out0: *mut u8,
+            out0_len: usize,
+            out1: *mut u8,
+            out1_len: usize,
+        ) -> Answer;
         pub fn plate_message(
             board: *const u8,
             board_len: usize,
@@ -109,6 +121,22 @@ pub fn fresh(board: &Lent, memory: &mut Lent) -> Answer {
 pub fn block(board: &Lent, memory: &mut Lent, input: &Lent, out0: &mut Lent, out1: &mut Lent) -> Answer {
     unsafe {
         c::plate_block(
+            board.pointer(),
+            board.len,
+            memory.pointer_mut(),
+            memory.len,
+            input.pointer(),
+            input.len,
+            out0.pointer_mut(),
+            out0.len,
+            out1.pointer_mut(),
+            out1.len,
+        )
+    }
+}
+pub fn block24(board: &Lent, memory: &mut Lent, input: &Lent, out0: &mut Lent, out1: &mut Lent) -> Answer {
+    unsafe {
+        c::plate_block24(
             board.pointer(),
             board.len,
             memory.pointer_mut(),

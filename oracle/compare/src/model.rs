@@ -1,6 +1,6 @@
-//! Document 01 in plain Rust, and document 02's changes of wires, written from the documents alone and with no care for
-//! speed: vectors, one cell for each node, floats as patterns. Every answer, output byte and memory byte of the library is
-//! held against it.
+//! Document 01 in plain Rust, and document 02's packed blocks and changes of wires, written from the documents alone and
+//! with no care for speed: vectors, one cell for each node, floats as patterns. Every answer, output byte and memory byte
+//! of the library is held against it.
 use crate::library::{answer, Answer, Wiring, OK};
 
 pub const NAN: u32 = 0x7fc00000;
@@ -428,29 +428,86 @@ fn run_node(board: &Board, cells: &mut [Cell], k: usize) {
     cell.line = (0..line.len()).map(|p| if pushed[p] { stored(line[p]) } else { old_line[p] }).collect();
 }
 
+/// The bytes of a converter's word.
+pub const WORD: usize = 3;
+
+/// The sample of a converter's word, a signed number of 24 bits, least significant byte first: w / 2^23.
+pub fn sample_of(word: &[u8]) -> u32 {
+    let pattern = word[0] as i64 + 256 * word[1] as i64 + 65536 * word[2] as i64;
+    let w = if pattern < 8388608 { pattern } else { pattern - 16777216 };
+    ((w as f64 / 8388608.0) as f32).to_bits()
+}
+
+/// The converter's word of a sample: the whole number nearest to sample × 2^23, of two the even one, held at the limits;
+/// NaN gives 0. A double holds the product and what is left of it exactly.
+pub fn word_of(sample: u32) -> [u8; WORD] {
+    let product = float(sample) as f64 * 8388608.0;
+    let size = product.abs();
+    let (whole, left) = (size.floor(), size - size.floor());
+    let up = left > 0.5 || left == 0.5 && whole % 2.0 == 1.0;
+    let nearest = if up { whole + 1.0 } else { whole };
+    let w = match product {
+        p if p.is_nan() => 0,
+        p if p < 0.0 => (-nearest).max(-8388608.0) as i64,
+        _ => nearest.min(8388607.0) as i64,
+    };
+    let pattern = if w < 0 { w + 16777216 } else { w };
+    [pattern % 256, pattern / 256 % 256, pattern / 65536].map(|byte| byte as u8)
+}
+
+/// A packed block as samples, and samples as a packed block.
+pub fn samples_of_words(packed: &[u8]) -> Vec<u32> {
+    packed.chunks_exact(WORD).map(sample_of).collect()
+}
+pub fn words_of_samples(samples: &[u32]) -> Vec<u8> {
+    samples.iter().flat_map(|&sample| word_of(sample)).collect()
+}
+
+/// A block run whose blocks are asked to be of `width` bytes a sample, else it is refused with `wrong`.
+fn judged_block(bytes: &[u8], memory: &[u8], lengths: [usize; 3], width: usize, wrong: u32) -> Result<Board, Answer> {
+    let board = judge(bytes)?;
+    memory_judged(&board, memory)?;
+    if lengths.iter().any(|&length| length != width * board.size) {
+        return Err(answer(wrong, board.size as u32));
+    }
+    Ok(board)
+}
+
+/// The blocks of a run on finite samples, as patterns: node 0's channels.
+fn run(board: &Board, memory: &mut [u8], samples: Vec<u32>) -> [Vec<u32>; 2] {
+    let mut cells = cells_of(board, memory);
+    cells[board.input].samples[0] = samples;
+    for k in board.order() {
+        run_node(board, &mut cells, k);
+    }
+    memory.copy_from_slice(&memory_of(&cells));
+    [cells[0].samples[0].clone(), cells[0].samples[1].clone()]
+}
+
 pub fn block(bytes: &[u8], memory: &mut [u8], input: &[u8], out0: &mut [u8], out1: &mut [u8]) -> Answer {
-    let board = match judge(bytes) {
+    let board = match judged_block(bytes, memory, [input.len(), out0.len(), out1.len()], 4, 9) {
         Ok(board) => board,
         Err(refused) => return refused,
     };
-    if let Err(refused) = memory_judged(&board, memory) {
-        return refused;
-    }
-    if [input.len(), out0.len(), out1.len()].iter().any(|&length| length != 4 * board.size) {
-        return answer(9, board.size as u32);
-    }
     let samples = words(input);
     if let Some(index) = samples.iter().position(|&bits| !float(bits).is_finite()) {
         return answer(10, index as u32);
     }
-    let mut cells = cells_of(&board, memory);
-    cells[board.input].samples[0] = samples;
-    for k in board.order() {
-        run_node(&board, &mut cells, k);
-    }
-    memory.copy_from_slice(&memory_of(&cells));
-    out0.copy_from_slice(&bytes_of(&cells[0].samples[0]));
-    out1.copy_from_slice(&bytes_of(&cells[0].samples[1]));
+    let outputs = run(&board, memory, samples);
+    out0.copy_from_slice(&bytes_of(&outputs[0]));
+    out1.copy_from_slice(&bytes_of(&outputs[1]));
+    OK
+}
+
+/// A packed block: every word is a finite sample, so there is no 10.
+pub fn block24(bytes: &[u8], memory: &mut [u8], input: &[u8], out0: &mut [u8], out1: &mut [u8]) -> Answer {
+    let board = match judged_block(bytes, memory, [input.len(), out0.len(), out1.len()], WORD, 13) {
+        Ok(board) => board,
+        Err(refused) => return refused,
+    };
+    let outputs = run(&board, memory, samples_of_words(input));
+    out0.copy_from_slice(&words_of_samples(&outputs[0]));
+    out1.copy_from_slice(&words_of_samples(&outputs[1]));
     OK
 }
 

@@ -4,6 +4,11 @@ use compare::hash::fnv;
 use compare::library::{self, answer, Answer, Lent};
 use compare::model::{half, word};
 
+/// The answer of a block run, and the hash of what it gave out.
+fn given_out(answered: Answer, out0: &Lent, out1: &Lent) -> (Answer, u32) {
+    (answered, if answered.number == 0 { fnv(&[out0.get(), out1.get()].concat()) } else { 0 })
+}
+
 struct Replay {
     board: Lent,
     memory: Lent,
@@ -29,7 +34,14 @@ impl Replay {
         let size = half(self.board.get(), 4) as usize;
         let (mut out0, mut out1) = (Lent::new(&vec![0; 4 * size]), Lent::new(&vec![0; 4 * size]));
         let answered = library::block(&self.board, &mut self.memory, &Lent::new(input), &mut out0, &mut out1);
-        (answered, if answered.number == 0 { fnv(&[out0.get(), out1.get()].concat()) } else { 0 })
+        given_out(answered, &out0, &out1)
+    }
+
+    /// A packed block: the outputs' lengths, then the input.
+    fn packed(&mut self, body: &[u8]) -> (Answer, u32) {
+        let [mut out0, mut out1] = [0, 4].map(|at| Lent::new(&vec![0; word(body, at) as usize]));
+        let answered = library::block24(&self.board, &mut self.memory, &Lent::new(&body[8..]), &mut out0, &mut out1);
+        given_out(answered, &out0, &out1)
     }
 
     fn accept(&mut self, body: &[u8]) -> (Answer, u32) {
@@ -59,6 +71,7 @@ impl Replay {
                 let answered = library::write(word(body, 0), float(4), &mut board);
                 (answered, if answered.number == 0 { fnv(board.get()) } else { 0 })
             }
+            9 => self.packed(body),
             _ => panic!("a record of kind {kind}"),
         }
     }

@@ -1,17 +1,20 @@
-//! run [boards N] [plate M] [seed S]: the library against the original Rust and the model.
+//! run [boards N] [plate M] [seed S] [floats K]: the library against the original Rust and the model.
 //!
 //! N accepted boards with their calls in all three; N cases of damaged boards, memories, lengths and values, and lengths
 //! of milliseconds, in library and model; M blocks of the plate at each block size in library and `Plate`; N boards that
-//! are rewired while they play, in library and model. The first difference is printed with the smallest case found, and
-//! the status is 1.
+//! are rewired while they play, in library and model; every converter word in and out, and of floats out every K-th
+//! pattern among others. The first difference is printed with the smallest case found, and the status is 1.
 use compare::boards::Limits;
-use compare::cases::{compare as compare_case, describe, printed_holds, same_samples, shrink, Case, Seen};
-use compare::damage::{accepted_case, any_case, input};
+use compare::cases::{
+    compare as compare_case, describe, printed_holds, same_samples, shrink, Case, Form, Packed, Seen,
+};
+use compare::damage::{accepted_case, any_case, input, pack_some, packed_input};
 use compare::library::{self, answer, Lent};
-use compare::model::{self, judge, words, PLATE_BYTES};
+use compare::model::{self, judge, words, words_of_samples, PLATE_BYTES};
 use compare::original::{of_plate, SIZES};
 use compare::random::Random;
 use compare::wires::rewired_case;
+use compare::words::{every_word, floats_out};
 
 fn stop(text: String) -> ! {
     println!("{text}");
@@ -64,19 +67,26 @@ fn plate(size: usize, blocks: usize, r: &mut Random) {
             expect("mix", library::mix(&board, &mut memory, mix));
             original.mix(mix);
         }
-        let samples = if wild && k > blocks / 2 {
+        let form = if r.one_in(4) { Form::Words } else { Form::Floats };
+        let block = if form == Form::Words {
+            packed_input(r, size)
+        } else if wild && k > blocks / 2 {
             input(r, size)
         } else {
             (0..size).flat_map(|_| (r.unit() * ((k / 20 % 3) as f32)).to_le_bytes()).collect()
         };
-        let lent = Lent::new(&samples);
-        let (mut out0, mut out1) = (Lent::new(&samples), Lent::new(&samples));
-        expect("block", library::block(&board, &mut memory, &lent, &mut out0, &mut out1));
-        original.block(&words(&samples).into_iter().map(f32::from_bits).collect::<Vec<_>>());
+        let lent = Lent::new(&block);
+        let (mut out0, mut out1) = (Lent::new(&block), Lent::new(&block));
+        expect("block", form.in_library(&board, &mut memory, &lent, [&mut out0, &mut out1]));
+        original.block(&form.samples(&block).into_iter().map(f32::from_bits).collect::<Vec<_>>());
         if let Err(difference) = same_samples(&read, memory.get(), &*original) {
             stop(format!("DIFFERENCE: plate, N {size}, block {k}: {difference}"));
         }
-        let outputs = [memory.get()[12..12 + 4 * size].to_vec(), memory.get()[12 + 4 * size..12 + 8 * size].to_vec()];
+        let outputs = [0, 1].map(|channel| memory.get()[12 + 4 * size * channel..][..4 * size].to_vec());
+        let outputs = outputs.map(|output| match form {
+            Form::Floats => output,
+            Form::Words => words_of_samples(&words(&output)),
+        });
         if outputs[0] != out0.get() || outputs[1] != out1.get() {
             stop(format!("DIFFERENCE: plate, N {size}, block {k}: the output blocks are not node 0's channels"));
         }
@@ -123,14 +133,15 @@ fn numbers(r: &mut Random) {
 
 fn main() {
     let arguments: Vec<String> = std::env::args().skip(1).collect();
-    let (mut boards, mut blocks, mut seed) = (2000, 200, 1);
+    let (mut boards, mut blocks, mut seed, mut step) = (2000, 200, 1, 257);
     for pair in arguments.chunks(2) {
         let value = pair.get(1).and_then(|value| value.parse().ok());
         match (pair[0].as_str(), value) {
             ("boards", Some(value)) => boards = value,
             ("plate", Some(value)) => blocks = value,
             ("seed", Some(value)) => seed = value,
-            _ => stop(format!("run [boards N] [plate M] [seed S], not {arguments:?}")),
+            ("floats", Some(value)) if value > 0 => step = value,
+            _ => stop(format!("run [boards N] [plate M] [seed S] [floats K], not {arguments:?}")),
         }
     }
     if let Err(difference) = printed_holds() {
@@ -141,13 +152,17 @@ fn main() {
     for k in 0..boards {
         // One board in fifty may have lines of any length.
         let limits = Limits { nodes: 64, line: if k % 50 == 0 { 132300 } else { 2000 } };
-        hold(&accepted_case(&mut r, SIZES, limits, 12), &mut seen, &format!("accepted board {k}"));
+        let mut case = accepted_case(&mut r, SIZES, limits, 12);
+        pack_some(&mut r, &mut case, 30);
+        hold(&case, &mut seen, &format!("accepted board {k}"));
     }
     let (original, not_finite, tails) = (seen.original_blocks, seen.not_finite, seen.tails);
     for k in 0..boards {
         let limits = Limits { nodes: 64, line: if k % 50 == 0 { 132300 } else { 100 } };
         let start = (k % 50 == 1).then(|| plate_board(r.between(1, 128), r.unit()).get().to_vec());
-        hold(&any_case(&mut r, start, limits), &mut seen, &format!("damaged case {k}"));
+        let mut case = any_case(&mut r, start, limits);
+        pack_some(&mut r, &mut case, 4);
+        hold(&case, &mut seen, &format!("damaged case {k}"));
         for _ in 0..8 {
             numbers(&mut r);
         }
@@ -158,8 +173,14 @@ fn main() {
     for k in 0..boards {
         let limits = Limits { nodes: 64, line: if k % 50 == 0 { 132300 } else { 100 } };
         let start = (k % 50 == 1).then(|| plate_board(r.between(1, 128), r.unit()).get().to_vec());
-        hold(&rewired_case(&mut r, k, start, limits), &mut seen, &format!("rewired board {k}"));
+        let mut case = rewired_case(&mut r, k, start, limits);
+        pack_some(&mut r, &mut case, 12);
+        hold(&case, &mut seen, &format!("rewired board {k}"));
     }
+    let mut out = Packed::default();
+    let first = r.below(step) as u32;
+    let back = every_word().and_then(|count| floats_out(first, step, &mut out).map(|()| count));
+    let back = back.unwrap_or_else(|difference| stop(format!("DIFFERENCE in converter words: {difference}")));
     println!("seed {seed}: {boards} accepted boards, {original} blocks as in the original ({not_finite} output samples infinite or NaN, {tails} past a tail);");
     println!("{boards} damaged cases as in the model; {} lengths and plate writers; {blocks} plate blocks at each N of {SIZES:?}", 8 * boards);
     println!("{boards} rewired boards as in the model: {} wires added, {} pulled; {} other visiting lists, {} lists of 64 nodes; {} times a 129th wire;", seen.added, seen.pulled, seen.relisted, seen.longest, seen.too_many);
@@ -167,5 +188,10 @@ fn main() {
         "{} blocks afterwards, {} times a node with a line, a pole or a phase that had stood still",
         seen.rewired_blocks, seen.back
     );
+    println!(
+        "of all blocks {} packed, {} of them as in the original: {};",
+        seen.packed.blocks, seen.packed.original_blocks, seen.packed
+    );
+    println!("{back} words in and straight out; floats out, as in the model: {out}");
     println!("answers by number: {:?}", seen.answers);
 }
