@@ -7,4 +7,5 @@ pub mod Series
 pub mod Exponential
 pub mod Sine
 pub mod Converter
+pub mod Noise
 pub mod Worked

@@ -4,6 +4,7 @@
 
 pub mod converter;
 pub mod lengths;
+pub mod noise;
 pub mod onepole;
 pub mod phase;
 pub mod position;
