@@ -1,4 +1,4 @@
--- The samples of words are finite, so a block of them passes check 10 (`words_finite`). Assumes nothing.
+-- The samples of words are finite (`word_finite`), so a block of them passes check 10 (`words_finite`). Assumes nothing.
 use Prim.Native.Nat.{ℕ, suc, ◌+◌, ◌*◌, ◌^◌, ◌<◌}
 use mathlib.Core.Path.{◌≡◌, refl, ◌∙◌}
 use mathlib.Core.Bool.{Bool, true}
@@ -23,7 +23,7 @@ valued nan s a c v = absurd v
 valued (inf t) s a c v = absurd v
 valued (fin t m e) s a c v = refl
 
-word_finite : (u : ℕ) → u < 2 ^ 24 → finite_bits (to_bits binary32 (of_word u)) ≡ true
+pub word_finite : (u : ℕ) → u < 2 ^ 24 → finite_bits (to_bits binary32 (of_word u)) ≡ true
 word_finite u h = pattern_finite (of_word u) (word_fits u) ∙ valued (of_word u) _ _ _ (word_exact u h)
 
 -- ---- a block

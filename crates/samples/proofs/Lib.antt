@@ -20,4 +20,5 @@ pub mod Silence
 pub mod SilenceWorked
 pub mod Straight
 pub mod StraightWorked
+pub mod Burst
 pub mod Trials

@@ -3,4 +3,5 @@ pub mod Reading
 pub mod Claim
 pub mod Silence
 pub mod Straight
+pub mod Burst
 pub mod Instance
