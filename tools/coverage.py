@@ -18,7 +18,7 @@ paths = names = 0
 def text_of(file):
     """The file, without the comments of Rattle and antt."""
     mark = {".rt": "//", ".antt": "--"}.get(file.suffix)
-    lines = file.read_text().splitlines()
+    lines = file.read_text(errors="replace").splitlines()
     return "\n".join(re.sub(rf"(^|\s){mark}(\s.*|$)", "", line) for line in lines) if mark else "\n".join(lines)
 
 

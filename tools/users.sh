@@ -1,8 +1,8 @@
 #!/bin/bash
-# Tries the built programs (target/bin/card, order, render) and the scripts as those who use them do: the cards of examples/
-# and of the documents, where answers go, files that must not be lost, words of 24 bits, the words of play, a picture. What the
-# gate's stored outputs cannot show. Takes seconds, needs python3; prints one line for each part and ends with status 1 at the
-# first that fails.
+# Tries the built programs (target/bin/card, order, render, rig) and the scripts as those who use them do: the cards of
+# examples/ and of the documents, where answers go, files that must not be lost, words of 24 bits, what rig writes, the words
+# of play, a picture. What the gate's stored outputs cannot show. Takes seconds, needs python3; prints one line for each part
+# and ends with status 1 at the first that fails.
 set -u
 cd "$(dirname "$0")/.."
 bin=$PWD/target/bin
@@ -20,8 +20,8 @@ quiet() {
     [ ! -s "$work/out" ] && [ -s "$work/err" ]
 }
 
-for program in card order render; do
-    [ -x "$bin/$program" ] || fail "target/bin/$program is not there: tools/build.sh card order render"
+for program in card order render rig; do
+    [ -x "$bin/$program" ] || fail "target/bin/$program is not there: tools/build.sh card order render rig"
 done
 
 # ---- cards: each of examples/ is accepted, gives a graph and a list, and sounds; the plate's is the plate writer's
@@ -198,6 +198,13 @@ END
 done
 python3 tools/picture.py "$work/back.wav" "$work/back.svg" || fail "tools/picture.py does not draw words of 24 bits"
 echo "users.sh: words of 24 bits are the nearest, and come back as they were"
+
+# ---- the end of the line: what rig writes, its stored output and an independent reading are the same 64 bytes; a full disk is told
+python3 tools/rig_vectors.py >"$work/rig.bytes" || fail "tools/rig_vectors.py"
+"$bin/rig" | cmp -s - "$work/rig.bytes" && cmp -s crates/rig/stdout "$work/rig.bytes" || fail "rig writes other bytes than tools/rig_vectors.py"
+"$bin/rig" >/dev/full 2>"$work/err" && fail "rig takes a full disk for a success"
+[ -s "$work/err" ] || fail "rig does not tell that a disk is full"
+echo "users.sh: rig writes what an independent reading says"
 
 # ---- play judges its words before it proves anything, and says how it is used
 ./play --help | grep -q 'IN OUT' || fail "play --help"

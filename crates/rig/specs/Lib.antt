@@ -1,0 +1,2 @@
+-- What the contracts of `rig` cite.
+pub mod Rig
