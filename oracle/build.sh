@@ -22,6 +22,7 @@ python3 "$root/oracle/edits.py" "$rust" "$work/glicol/src"
 # cp -u: what has not changed is not built again.
 cp -u "$root/oracle/glicol/Cargo.toml" "$work/glicol/"
 cp -ur "$root/oracle/stand-ins/ring" "$root/oracle/stand-ins/slice" "$root/oracle/compare" "$root/oracle/programs" "$root/bench" "$work/"
+cp -u "$root/crates/rig/stdout" "$work/programs/rig"
 cat >"$work/Cargo.toml" <<'EOS'
 [workspace]
 resolver = "2"

@@ -2,8 +2,8 @@
 """Writes the questions and the expected lines of the program leaves_trial: leaves_vectors.py FOLDER.
 
 FOLDER/stdin has the questions, four little-endian words each: which leaf, and what it is asked. FOLDER/stdout has a line
-with two words for each. The answers are worked out here from document 01, and of a converter's words from document 02 [1], in exact
-fractions, with one rounding to a 32-bit float after each operation. Nothing is random: the spread values come from a fixed sequence.
+with two words for each. The answers are worked out here from document 01, and of a converter's words and of noise from document 02 [1] and [2], in
+exact fractions, with one rounding to a 32-bit float after each operation. Nothing is random: the spread values come from a fixed sequence.
 """
 import os
 import struct
@@ -191,6 +191,23 @@ def word_out(w):
     return max(-(2**23), min(2**23 - 1, whole)) % 2**24, 0
 
 
+# ---- document 02 [2]: noise, bit by bit
+
+def shifted(bit, by):
+    """A list of 32 bits, the lowest first, with the bits moved up by so many places; down where that is negative."""
+    return [bit[i - by] if 0 <= i - by < 32 else 0 for i in range(32)]
+
+
+def noise(start, steps):
+    state = start or 2463534242
+    for _ in range(steps):
+        bit = [state >> i & 1 for i in range(32)]
+        for by in (13, -17, 5):
+            bit = [(p + q) % 2 for p, q in zip(bit, shifted(bit, by))]
+        state = sum(b << i for i, b in enumerate(bit))
+    return state, rounded(Fraction(state // 2**8 - 2**23, 2**23))
+
+
 def answer(leaf, a, b, c):
     if leaf == 0:
         return (NAN if is_nan(a) else a), 0
@@ -210,6 +227,8 @@ def answer(leaf, a, b, c):
         return one_pole(a, b, c)
     if leaf == 8:
         return B_SEVEN_FIFTHS, B_ONE_FIFTH
+    if leaf == 11:
+        return noise(a, b)
     return word_in(a) if leaf == 9 else word_out(a)
 
 
@@ -265,6 +284,12 @@ def questions():
     for _ in range(64):
         yield 10, part(1.0) ^ next(some) // 2**31 * SIGN, 0, 0
         yield 10, next(some), 0, 0
+    for start in (0, 1, 2, 2463534242, 0x8000_0000, 0xFFFF_FFFF, 0xFF, 0x100):
+        for steps in (0, 1, 2, 3, 4, 31, 32, 100):
+            yield 11, start, steps, 0
+    for _ in range(32):
+        yield 11, next(some), next(some) % 64, 0
+    yield 11, 0, 3000, 0
 
 
 def main(folder):

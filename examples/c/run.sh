@@ -6,6 +6,8 @@ set -eu
 cd "$(dirname "$0")"
 ../../tools/build.sh plate_c >/dev/null
 lib=../../target/staticlib/libplate.a
+# what the program rig writes; seen from the folder of another build by its whole name
+rig=$PWD/../../crates/rig/stdout
 out=$(mktemp -d)
 trap 'rm -rf "$out"' EXIT
 left_out=
@@ -30,7 +32,7 @@ sanitizes() {
 }
 
 # run DIR: the programs of a folder; all but the first run are silent unless they fail.
-run() { (cd "$1" && ./host impulse.wav && ./packed packed.wav && ./rewire && ./claims) >"$1/said" 2>&1 || { cat "$1/said"; echo "failed: $2"; exit 1; }; }
+run() { (cd "$1" && ./host impulse.wav && ./packed packed.wav && ./rewire && ./burst "$rig" && ./claims) >"$1/said" 2>&1 || { cat "$1/said"; echo "failed: $2"; exit 1; }; }
 
 first=gcc
 has gcc || first=cc
@@ -38,6 +40,7 @@ make -s clean all CC=$first
 ./host impulse.wav
 ./packed packed.wav
 ./rewire
+./burst "$rig"
 ./claims
 
 for cc in gcc clang; do
@@ -66,7 +69,7 @@ for cxx in g++ clang++; do
 done
 
 if has valgrind; then
-    for program in "host impulse.wav" "packed packed.wav" rewire claims; do
+    for program in "host impulse.wav" "packed packed.wav" rewire "burst ../../crates/rig/stdout" claims; do
         valgrind -q --error-exitcode=1 ./$program >"$out/said" 2>&1 || { cat "$out/said"; echo "failed: $program under valgrind"; exit 1; }
     done
     echo "valgrind: nothing found"

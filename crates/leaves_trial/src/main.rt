@@ -6,6 +6,7 @@
 ghost use Rattle.std.specs.Prelude.{◌≡◌, length};
 
 use input::read_full;
+use leaves::noise::Noise;
 use leaves::onepole::OnePole;
 use std::{fmt, io};
 use values::bytes::u32_at;
@@ -73,6 +74,15 @@ fn word_in(word: u32) -> Words {
     }
 }
 
+// Noise: the state and its sample, so many steps after a start.
+fn noise(start: u32, steps: u32) -> Words {
+    let mut noise = Noise::from_start(start);
+    for _ in 0..steps {
+        noise.step();
+    }
+    Words(noise.state(), to_bits(noise.sample()))
+}
+
 // What a question asks, by its first word.
 #[derive(Clone, Copy)]
 enum Leaf {
@@ -87,6 +97,7 @@ enum Leaf {
     Constants,
     WordIn,
     WordOut,
+    Noise,
 }
 
 // A number that no leaf has.
@@ -109,6 +120,7 @@ impl TryFrom<u32> for Leaf {
             8 => Ok(Leaf::Constants),
             9 => Ok(Leaf::WordIn),
             10 => Ok(Leaf::WordOut),
+            11 => Ok(Leaf::Noise),
             _ => Err(NoLeaf),
         }
     }
@@ -139,6 +151,7 @@ fn answer(question: &[u8]) -> Words
         ),
         Leaf::WordIn => word_in(a),
         Leaf::WordOut => Words(leaves::converter::to_word(a), 0),
+        Leaf::Noise => noise(a, b),
     }
 }
 

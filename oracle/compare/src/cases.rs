@@ -595,6 +595,38 @@ pub fn describe(case: &Case) -> String {
     lines.join("\n")
 }
 
+/// What the program `rig` must write, in all three readings: the printed board driven by noise from the default start, of
+/// each block the two output blocks, channel 0 first.
+pub fn rig_holds(written: &[u8]) -> Result<(), String> {
+    let board = crate::boards::printed();
+    let bytes = to_bytes(&board);
+    let lent = Lent::new(&bytes);
+    let mut memory = Lent::new(&vec![0; board.memory_length()]);
+    same("fresh", answer(0, 0), library::fresh(&lent, &mut memory))?;
+    let mut expected = memory.get().to_vec();
+    let mut original = of_board(&board).ok_or("the original has no blocks of two samples")?;
+    let mut noise = model::Noise::new(0);
+    same("bytes", 64, written.len())?;
+    for wanted in written.chunks(16) {
+        let samples: Vec<f32> = (0..2).map(|_| noise.sample()).collect();
+        let input = bytes_of(&samples.iter().map(|x| x.to_bits()).collect::<Vec<_>>());
+        let (mut out0, mut out1) = (Lent::new(&[0; 8]), Lent::new(&[0; 8]));
+        let answered = library::block(&lent, &mut memory, &Lent::new(&input), &mut out0, &mut out1);
+        same("block", answer(0, 0), answered)?;
+        same_bytes("output 0", &wanted[..8], &out0)?;
+        same_bytes("output 1", &wanted[8..], &out1)?;
+        let (mut left, mut right) = ([0; 8], [0; 8]);
+        same("block (model)", answer(0, 0), model::block(&bytes, &mut expected, &input, &mut left, &mut right))?;
+        same("outputs (model)", wanted, &[left, right].concat()[..])?;
+        same_bytes("memory (model)", &expected, &memory)?;
+        original.block(&samples);
+        let given: Vec<u32> =
+            [0, 1].iter().flat_map(|&channel| original.samples(0, channel)).map(|x| x.to_bits()).collect();
+        same("outputs (original)", wanted, &bytes_of(&given)[..])?;
+    }
+    Ok(())
+}
+
 /// Document 01's printed board with its three blocks, and what it gives.
 pub fn printed_holds() -> Result<(), String> {
     let board = crate::boards::printed();

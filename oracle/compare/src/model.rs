@@ -511,6 +511,23 @@ pub fn block24(bytes: &[u8], memory: &mut [u8], input: &[u8], out0: &mut [u8], o
     OK
 }
 
+/// The noise of the end-of-line rig: left 13, right 17, left 5, and of each step the upper 24 bits, less 2^23, over 2^23.
+/// The shifts are products and quotients of whole numbers.
+pub struct Noise(u64);
+
+impl Noise {
+    pub fn new(start: u32) -> Self {
+        Noise(if start == 0 { 2463534242 } else { start as u64 })
+    }
+    pub fn sample(&mut self) -> f32 {
+        let bits = 4294967296;
+        self.0 ^= self.0 * 8192 % bits;
+        self.0 ^= self.0 / 131072;
+        self.0 ^= self.0 * 32 % bits;
+        ((self.0 / 256) as f64 / 8388608.0 - 1.0) as f32
+    }
+}
+
 /// The answer of a change of wires: the list in 64 bytes, zeros behind it.
 fn wiring(answered: Answer, list: &[usize]) -> Wiring {
     let mut listed = [0; 64];

@@ -1,12 +1,13 @@
 //! run [boards N] [plate M] [seed S] [floats K]: the library against the original Rust and the model.
 //!
-//! N accepted boards with their calls in all three; N cases of damaged boards, memories, lengths and values, and lengths
-//! of milliseconds, in library and model; M blocks of the plate at each block size in library and `Plate`; N boards that
-//! are rewired while they play, in library and model; every converter word in and out, and of floats out every K-th
-//! pattern among others. The first difference is printed with the smallest case found, and the status is 1.
+//! The printed board, and what the program rig writes of it, in all three; N accepted boards with their calls in all
+//! three; N cases of damaged boards, memories, lengths and values, and lengths of milliseconds, in library and model; M
+//! blocks of the plate at each block size in library and `Plate`; N boards that are rewired while they play, in library
+//! and model; every converter word in and out, and of floats out every K-th pattern among others. The first difference is
+//! printed with the smallest case found, and the status is 1.
 use compare::boards::Limits;
 use compare::cases::{
-    compare as compare_case, describe, printed_holds, same_samples, shrink, Case, Form, Packed, Seen,
+    compare as compare_case, describe, printed_holds, rig_holds, same_samples, shrink, Case, Form, Packed, Seen,
 };
 use compare::damage::{accepted_case, any_case, input, pack_some, packed_input};
 use compare::library::{self, answer, Lent};
@@ -146,6 +147,9 @@ fn main() {
     }
     if let Err(difference) = printed_holds() {
         stop(format!("DIFFERENCE in the printed board: {difference}"));
+    }
+    if let Err(difference) = rig_holds(include_bytes!("../../rig")) {
+        stop(format!("DIFFERENCE in what rig writes: {difference}"));
     }
     let mut seen = Seen::default();
     let mut r = Random::new(seed as u64);
