@@ -14,7 +14,7 @@ use Rattle.sources.specs.declared.sources.Sources.{Sources}
 use Rattle.boards.specs.Wires.{wires_of}
 use Rattle.reading.specs.Order.{Wire}
 use Rattle.boards.specs.Board.{Parsed, Progress, going, refused, whole, blank, headed, end_by, take_found, step_of, run, read_records}
-use Rattle.boards.specs.BoardParts.{noded, made_of, Refuses, Headed, Noded, NodesRefused, Wired, Counts}
+use Rattle.boards.specs.BoardParts.{noded, made_of, Refuses, Headed, Noded, Wired, Counts}
 use Rattle.boards.specs.Read.{Together}
 use Rattle.records.specs.declared.answer.Answer.{Answer}
 use Rattle.records.specs.declared.record.Found.{Found}
@@ -54,10 +54,11 @@ module _ (s : List ℕ) (h : Head) (head : Headed (step_of s start) h) where
       run_suc s (suc n) start ∙ ap (run (suc n) s) head.reads ∙ run_suc s n (going 8 1 hd) ∙ ap (run n s) (step_one s 8 hd) ∙ sym (run_suc s n (going 8 2 hd))
 
   -- the nodes are refused; the steps so far are fewer than the bytes
-  pub nodes_refuse : (a : Answer) → NodesRefused s h.size a → Refuses (read_records s) a
-  nodes_refuse a n = (n.some, run_ends s (suc (suc n.count)) _ (omega (arith, n.inside)) tt (after_head n.count ∙ n.reads h.input))
+  pub nodes_refuse : (a : Answer) (r : Nodes) → (0 < a.number) × Noded s h.size r (λ _. refused a.number a.place) → Refuses (read_records s) a
+  nodes_refuse a r n =
+      (n.0, run_ends s (suc (suc r.count)) _ (omega (arith, n.1.next_is, n.1.inside)) tt (after_head r.count ∙ n.1.reads h.input))
 
-  module _ (n : Nodes) (nodes : Noded s h.size n) where
+  module _ (n : Nodes) (nodes : Noded s h.size n (λ p. step_of s (going n.next 3 p))) where
     board : Parsed
     board = noded h.size h.input (take n.count n.nodes)
 
@@ -90,7 +91,7 @@ module _ (s : List ℕ) (h : Head) (head : Headed (step_of s start) h) where
 
 -- what the parts hold
 pub made_together : (s : List ℕ) (h : Head) (n : Nodes) (w : Wires) (t : Sources) (next : ℕ) (v : Parsed → Progress) (r : Progress)
-    → r ≡ whole (made_of h n (wires_of w.list w.count)) → (h.size ≤ 128) × (h.input < 65536) → Noded s h.size n → Wired s n.next n.count w next v
+    → r ≡ whole (made_of h n (wires_of w.list w.count)) → (h.size ≤ 128) × (h.input < 65536) → {u : Parsed → Progress} → Noded s h.size n u → Wired s n.next n.count w next v
     → Tabled (wires_of w.list w.count) t.counts t.lists t.seconds → Together r h n w t
 made_together s h n w t next v r reads small nodes wires table = record {
   reads = reads;
@@ -103,7 +104,7 @@ made_together s h n w t next v r reads small nodes wires table = record {
 }
 
 -- what check 6 is given of it
-pub made_counts : (s : List ℕ) (h : Head) (n : Nodes) (ws : List Wire) (counts lists seconds : List ℕ) → Noded s h.size n → Tabled ws counts lists seconds
+pub made_counts : (s : List ℕ) (h : Head) (n : Nodes) (ws : List Wire) (counts lists seconds : List ℕ) {u : Parsed → Progress} → Noded s h.size n u → Tabled ws counts lists seconds
     → Counts (made_of h n ws) n.bounds counts
 made_counts s h n ws counts lists seconds nodes table =
     let long : length (take n.count n.nodes) ≡ n.count = length-take-le n.count n.nodes (omega (arith, nodes.few, nodes.long)) in

@@ -16,9 +16,9 @@ use Rattle.kinds.specs.declared.kind.NodeKind.{NodeKind}
 use Rattle.kinds.specs.declared.kind.NodeRecord.{NodeRecord}
 use Rattle.reading.specs.Order.{Wire}
 use Rattle.records.specs.Record.{found_at}
-use Rattle.boards.specs.Board.{Parsed, going, refused, blank, headed, lines_of, cells_of, end_by, step_of, run}
+use Rattle.boards.specs.Board.{Parsed, Progress, going, refused, blank, headed, lines_of, cells_of, end_by, step_of, run}
 use Rattle.boards.specs.Wires.{Joined, wires_of}
-use Rattle.boards.specs.BoardParts.{noded, wired, node_read, no_bounds, Bounds, Noded, NodesRefused, Wired}
+use Rattle.boards.specs.BoardParts.{noded, wired, node_read, no_bounds, Bounds, Noded, NodesRead, Wired}
 use Rattle.records.specs.declared.answer.Answer.{Answer}
 use Rattle.boards.proofs.NodeSums.{lines_snoc, cells_snoc, samples_few}
 use Rattle.boards.proofs.Run.{run_next}
@@ -119,11 +119,11 @@ module _ (s : List ℕ) (N : ℕ) (nodes : List NodeRecord) (bounds : List NodeB
       inside = here.2;
     }
 
-  -- the next part follows
-  pub nodes_ended : (few : count ≤ 64) (long : length nodes ≡ 64) (wide : length bounds ≡ 64) → NodeStep s next count lines (Ok None)
-      → Noded s N (record { count = count; nodes = nodes; bounds = bounds; values = values; next = next; few = few; long = long; wide = wide })
-  nodes_ended few long wide here = record {
-    reads = λ i. stepped i ∙ here (noded N i (take count nodes)) counted (sym h.lines_sum);
+  -- the nodes that are read, whatever comes then
+  noded_so : (few : count ≤ 64) (long : length nodes ≡ 64) (wide : length bounds ≡ 64) (v : Parsed → Progress) → ((i : ℕ) → run (suc count) s (going 8 2 (headed N i)) ≡ v (noded N i (take count nodes)))
+      → Noded s N (record { count = count; nodes = nodes; bounds = bounds; values = values; next = next; few = few; long = long; wide = wide }) v
+  noded_so few long wide v reads = record {
+    reads = reads;
     long = h.long;
     few = h.few;
     bound = h.bound;
@@ -133,14 +133,17 @@ module _ (s : List ℕ) (N : ℕ) (nodes : List NodeRecord) (bounds : List NodeB
     inside = h.inside;
   }
 
+  -- the next part follows
+  pub nodes_ended : (few : count ≤ 64) (long : length nodes ≡ 64) (wide : length bounds ≡ 64) → NodeStep s next count lines (Ok None)
+      → NodesRead s N (record { count = count; nodes = nodes; bounds = bounds; values = values; next = next; few = few; long = long; wide = wide }) (Ok tt)
+  nodes_ended few long wide here =
+      noded_so few long wide (λ p. step_of s (going next 3 p)) (λ i. stepped i ∙ here (noded N i (take count nodes)) counted (sym h.lines_sum))
+
   -- a refusal follows
-  pub nodes_refused : (a : Answer) → NodeStep s next count lines (Err a) → NodesRefused s N a
-  nodes_refused a here = record {
-    count = count;
-    inside = omega (arith, h.next_is, h.inside);
-    some = here.0;
-    reads = λ i. stepped i ∙ here.1 (noded N i (take count nodes)) counted (sym h.lines_sum);
-  }
+  pub nodes_refused : (few : count ≤ 64) (long : length nodes ≡ 64) (wide : length bounds ≡ 64) (a : Answer) → NodeStep s next count lines (Err a)
+      → NodesRead s N (record { count = count; nodes = nodes; bounds = bounds; values = values; next = next; few = few; long = long; wide = wide }) (Err a)
+  nodes_refused few long wide a here =
+      (here.0, noded_so few long wide (λ _. refused a.number a.place) (λ i. stepped i ∙ here.1 (noded N i (take count nodes)) counted (sym h.lines_sum)))
 
 -- ---- the wires
 

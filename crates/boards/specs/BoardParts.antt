@@ -103,9 +103,9 @@ abbrev pub HeadRead : Progress → Result Head Answer → Type 0
 HeadRead v (Ok h) = Headed v h
 HeadRead v (Err a) = Refuses v a
 
--- from a head with block size N, whatever its input node: so many nodes, and then a step that goes as after a wire
-pub record Noded (s : List ℕ) (N : ℕ) (r : Nodes) : Type 0 where
-  pub reads : (i : ℕ) → run (suc r.count) s (going 8 2 (headed N i)) ≡ step_of s (going r.next 3 (noded N i (take r.count r.nodes)))
+-- from a head with block size N, whatever its input node: so many nodes, and then v of them
+pub record Noded (s : List ℕ) (N : ℕ) (r : Nodes) (v : Parsed → Progress) : Type 0 where
+  pub reads : (i : ℕ) → run (suc r.count) s (going 8 2 (headed N i)) ≡ v (noded N i (take r.count r.nodes))
   pub long : length r.nodes ≡ 64
   pub few : r.count ≤ 64
   pub bound : (i : ℕ) → i < r.count → Bounds (get_or r.nodes i blank) (get_or r.bounds i no_bounds)
@@ -114,16 +114,10 @@ pub record Noded (s : List ℕ) (N : ℕ) (r : Nodes) : Type 0 where
   pub next_is : r.next ≡ 8 + 14 * r.count
   pub inside : r.next ≤ length s
 
--- so many nodes, and then a refusal
-pub record NodesRefused (s : List ℕ) (N : ℕ) (a : Answer) : Type 0 where
-  pub count : ℕ
-  pub inside : 8 + 14 * count ≤ length s
-  pub some : 0 < a.number
-  pub reads : (i : ℕ) → run (suc count) s (going 8 2 (headed N i)) ≡ refused a.number a.place
-
+-- the nodes, and then a step that goes as after a wire, or a refusal
 abbrev pub NodesRead : List ℕ → ℕ → Nodes → Result (Unit {0}) Answer → Type 0
-NodesRead s N r (Ok _) = Noded s N r
-NodesRead s N r (Err a) = NodesRefused s N a
+NodesRead s N r (Ok _) = Noded s N r (λ p. step_of s (going r.next 3 p))
+NodesRead s N r (Err a) = (0 < a.number) × Noded s N r (λ _. refused a.number a.place)
 
 -- from a board of n nodes: so many wires, whether the end record follows or a refusal
 pub record Wired (s : List ℕ) (start n : ℕ) (w : Wires) (next : ℕ) (v : Parsed → Progress) : Type 0 where

@@ -28,6 +28,7 @@ pub struct Wires {
 
 impl Wires {
     // None yet: room to read them into.
+    // Ruled out, and tried by a must-fail edit: one that counts (no_wires_counted).
     pub fn none() -> Wires
         ensures { result.count ≡ 0 }
     {

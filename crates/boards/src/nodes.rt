@@ -20,7 +20,10 @@ pub struct Nodes {
 
 impl Nodes {
     // None yet: room to read them into.
-    pub fn none() -> Nodes {
+    // Ruled out, and tried by a must-fail edit: one that counts (no_nodes_counted).
+    pub fn none() -> Nodes
+        ensures { (result.count ≡ 0) × (result.values ≡ 0) × (result.next ≡ 8) }
+    {
         let blank = NodeRecord {
             kind: NodeKind::Pass,
             channels: 0,

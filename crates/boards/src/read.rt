@@ -125,9 +125,10 @@ fn node_read(s: &[u8], at: usize, i: usize, lines: usize) -> Result<Option<NodeK
 }
 
 // The nodes after a head with this block size, into room that is lent for them: each that hands them on
-// copies them. Each cell starts where those before it end. Locals count, and are stored at the end:
-// faster, since a store into an array could change a count beside it. A `while let`: a turn passes a
-// record, and the first that is no node ends it.
+// copies them. Each cell starts where those before it end. Locals count, and are stored at the end, where a
+// refusal ends the nodes too: faster, since a store into an array could change a count beside it. A `loop`: a
+// turn passes a record, and the first that is no node ends it.
+// Ruled out, and tried by a must-fail edit: nodes of which a refusal tells nothing (refused_nodes_uncounted).
 pub fn read_nodes(s: &[u8], size: usize, nodes: &mut Nodes) -> Result<(), Answer>
     requires { (size ≤ 128) × (8 ≤ length s.now) }
     ensures { NodesRead s.now size nodes.new result }
@@ -136,24 +137,30 @@ pub fn read_nodes(s: &[u8], size: usize, nodes: &mut Nodes) -> Result<(), Answer
     let mut lines = 0;
     let mut values = 0;
     let mut next = 8;
-    while let Some(kind) = node_read(s, next, count, lines)? {
-        let channels = channels_of(kind);
-        let line = line_of(kind);
-        nodes.nodes[count] = NodeRecord {
-            kind,
-            channels,
-            cell: values as u32,
-        };
-        nodes.bounds[count] = bounds_of(kind);
-        count += 1;
-        lines += line;
-        values += SAMPLES + size * usize::from(channels) + line;
-        next += 14;
-    }
+    let read = loop {
+        match node_read(s, next, count, lines) {
+            Ok(Some(kind)) => {
+                let channels = channels_of(kind);
+                let line = line_of(kind);
+                nodes.nodes[count] = NodeRecord {
+                    kind,
+                    channels,
+                    cell: values as u32,
+                };
+                nodes.bounds[count] = bounds_of(kind);
+                count += 1;
+                lines += line;
+                values += SAMPLES + size * usize::from(channels) + line;
+                next += 14;
+            }
+            Ok(None) => break Ok(()),
+            Err(refused) => break Err(refused),
+        }
+    };
     nodes.count = count;
     nodes.values = values;
     nodes.next = next;
-    Ok(())
+    read
 }
 
 // Whether the record at `at` is a wire that may follow w wires, on a board of i nodes.

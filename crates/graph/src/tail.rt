@@ -11,7 +11,7 @@ use kinds::kind::{NodeKind, NodeRecord, line_of};
 use records::answer::Answer;
 
 // The answer of a board whose output may never end: document 01's number, as C is handed it.
-const ENDLESS: usize = 4294967295;
+pub const ENDLESS: usize = 4294967295;
 
 // Whether a node of this type is silent as soon as its sources and its line are.
 fn delays(kind: NodeKind) -> bool

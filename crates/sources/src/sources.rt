@@ -1,7 +1,7 @@
 // The table of each node's sources, filled wire by wire.
 ghost use Rattle.std.specs.Prelude.{◌≡◌, [], ◌+◌, ◌*◌, ◌≤◌, ◌<◌, length, get_or, set, take, drop};
 ghost use Rattle.sources.specs.Sources.{Tabled};
-ghost use Rattle.sources.specs.Gather.{among, Added};
+ghost use Rattle.sources.specs.Gather.{among, count_with, list_with, second_with, Added};
 
 // How many distinct sources each node has, nine standing for more than eight; the first eight of them
 // by first wire, those of node v from 8 * v on; and the source of each node's second wire. Arrays, since
@@ -23,8 +23,37 @@ fn among(lists: &[u8; 512], start: usize, n: usize, x: u8) -> bool
     lists[start..start + n].contains(&x)
 }
 
+// Puts x into the list of a node that starts at `start` and has `count` sources; the new count.
+// Ruled out, and tried by must-fail edits: a repeated source that counts again (repeat_counts), a ninth source
+// that is told as the eighth (ninth_uncounted).
+pub fn add_source(lists: &mut [u8; 512], start: usize, count: u8, x: u8) -> u8
+    requires { (start + 8 ≤ 512) × (count ≤ 9) }
+    ensures { (result ≡ count_with lists.old start count x) × (lists.new ≡ list_with lists.old start count x) }
+{
+    if 8 < count {
+        return count;
+    }
+    let n = usize::from(count);
+    if among(lists, start, n, x) {
+        return count;
+    }
+    if n < 8 {
+        lists[start + n] = x;
+    }
+    count + 1
+}
+
+// The source of a node's second wire, once x comes after n others.
+// Ruled out, and tried by a must-fail edit: the first wire's (second_is_first).
+pub fn second(n: u8, old: u8, x: u8) -> u8
+    ensures { result ≡ second_with n old x }
+{
+    if n == 1 { x } else { old }
+}
+
 impl Sources {
     // The table of a board without wires.
+    // Ruled out, and tried by a must-fail edit: one source of each node (none_counted).
     pub fn none() -> Sources
         ensures { Tabled [] result.counts result.lists result.seconds }
     {
@@ -63,21 +92,8 @@ impl Sources {
         requires { (target < 64) × (get_or self.old.counts target 0 ≤ 9) }
         ensures { Added target nth source self.old self.new }
     {
-        if nth == 1 {
-            self.seconds[target] = source;
-        }
-        let start = 8 * target;
+        self.seconds[target] = second(nth, self.seconds[target], source);
         let count = self.counts[target];
-        if 8 < count {
-            return;
-        }
-        let n = usize::from(count);
-        if among(&self.lists, start, n, source) {
-            return;
-        }
-        if n < 8 {
-            self.lists[start + n] = source;
-        }
-        self.counts[target] = count + 1;
+        self.counts[target] = add_source(&mut self.lists, 8 * target, count, source);
     }
 }

@@ -50,6 +50,7 @@ impl Wiring {
 }
 
 // A refusal, of an empty list.
+// Ruled out, and tried by a must-fail edit: one that passes (refusal_passes).
 impl From<Answer> for Wiring {
     ghost from_gives = { λ refused w. w ≡ refusal refused.number refused.place };
 

@@ -16,7 +16,7 @@ read_nodes-requires c = (c.in_ok-head.ensures.small, head_inside _ _ c.in_ok-hea
 
 pub returns-in_err-read_nodes : goal.returns-in_err-read_nodes
 returns-in_err-read_nodes c =
-    rw (residual_is _ _ c.from_residual-in_err-read_nodes.ensures.1) (six_refuses _ _ (nodes_refuse _ _ c.in_ok-head.ensures _ c.in_err-read_nodes.ensures))
+    rw (residual_is _ _ c.from_residual-in_err-read_nodes.ensures.1) (six_refuses _ _ (nodes_refuse _ _ c.in_ok-head.ensures _ _ c.in_err-read_nodes.ensures))
 
 pub returns-in_err-end : goal.returns-in_err-end
 returns-in_err-end c =
