@@ -1,7 +1,7 @@
 #!/bin/sh
 # Proves and builds the library, builds the examples against it and runs them: with gcc and clang, plain, with their
 # sanitizers for addresses and undefined behaviour, and under valgrind; the headers also as C++. What is not installed is
-# left out, and the last line says so. The archive may need nothing of its host but memcpy, memset and memmove.
+# left out, and the last line says so. The archive may need nothing of its host but memcpy and memset (docs/FIRMWARE.md).
 set -eu
 cd "$(dirname "$0")"
 ../../tools/build.sh plate_c >/dev/null
@@ -14,7 +14,7 @@ left_out=
 
 for name in $(nm "$lib" 2>/dev/null | awk '$1 == "U" { print $2 }' | sort -u); do
     case $name in
-    memcpy | memset | memmove) ;;
+    memcpy | memset) ;;
     *)
         echo "libplate.a needs $name"
         exit 1

@@ -83,13 +83,24 @@ pub fn run(board: &Board, starts: &Starts, order: &Order, memory: &mut [u8])
     }
 }
 
+// Copies bytes into as many. No `copy_from_slice`: of a length that is not known it asks memmove of the host,
+// and the archive for C is to need memcpy and memset alone (docs/FIRMWARE.md).
+fn copy(from: &[u8], to: &mut [u8])
+    requires { length to.old ≡ length from.now }
+    ensures { to.new ≡ from.now }
+{
+    for i in 0..to.len() {
+        to[i] = from[i];
+    }
+}
+
 // The input block into the samples of the input node, whose cell starts at `cell`.
 pub fn put_input(input: &[u8], cell: usize, memory: &mut [u8])
     requires { (4 * (cell + samples_from) + length input.now ≤ length memory.old) × (length memory.old ≤ 1114880) }
     ensures { memory.new ≡ paste memory.old (4 * (cell + samples_from)) input.now (length input.now) }
 {
     let at = 4 * (cell + SAMPLES);
-    memory[at..at + input.len()].copy_from_slice(input);
+    copy(input, &mut memory[at..at + input.len()]);
 }
 
 // The byte at which node 0's samples start: its cell is the first.
@@ -102,6 +113,6 @@ pub fn give(memory: &[u8], out0: &mut [u8], out1: &mut [u8])
         × (out1.new ≡ paste out1.old 0 (drop (4 * samples_from + length out0.old) memory.now) (length out1.old)) }
 {
     let next = FIRST + out0.len();
-    out0.copy_from_slice(&memory[FIRST..next]);
-    out1.copy_from_slice(&memory[next..next + out1.len()]);
+    copy(&memory[FIRST..next], out0);
+    copy(&memory[next..next + out1.len()], out1);
 }
