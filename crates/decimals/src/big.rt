@@ -34,7 +34,8 @@ pub fn times(a: Big, m: u32, c: u32) -> Big
     Big { words }
 }
 
-// a less b, if a is not the less.
+// a less b, if a is not the less. Inlined, so that a caller who asks only whether there is a rest makes none.
+#[inline(always)]
 pub fn minus(a: Big, b: Big) -> Option<Big>
     ensures { MatchOption result (value_of a < value_of b) (λ rest. value_of rest + value_of b ≡ value_of a) }
 {

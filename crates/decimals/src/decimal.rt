@@ -4,7 +4,6 @@ ghost use Rattle.std.specs.Prelude.{◌≡◌, false, ◌^◌, ◌<◌, ◌≤�
 ghost use Rattle.std.specs.Float.Ieee.Exact.{HasValue};
 ghost use Rattle.decimals.specs.Decimal.{over, Prints};
 
-use std::num::nearest_u64_to_f32;
 use values::float::to_bits;
 
 // digits / 10^places.
@@ -16,13 +15,29 @@ pub struct Decimal {
     pub ghost near: { places ≤ 10 },
 }
 
+// Ten to each k up to 10, as a whole number and as a float, which it is exactly. A table: worked out anew for each
+// number of places that is tried, the powers were most of a float's way to text.
+const POWERS: [(u64, f32); 11] = [
+    (1, 1.0),
+    (10, 10.0),
+    (100, 100.0),
+    (1000, 1000.0),
+    (10000, 10000.0),
+    (100000, 100000.0),
+    (1000000, 1000000.0),
+    (10000000, 10000000.0),
+    (100000000, 100000000.0),
+    (1000000000, 1000000000.0),
+    (10000000000, 10000000000.0),
+];
+
 // Ten to k. `k ≤ 10` stands in three contracts: a number of places is tried (`decimal_of`) before there is a
 // `Decimal` that could hold it.
 pub fn power(k: u32) -> u64
     requires { k ≤ 10 }
     ensures { (result ≡ 10 ^ k) × (1 ≤ result) × (result ≤ 10000000000) }
 {
-    10u64.pow(k)
+    POWERS[k as usize].0
 }
 
 // Ten to k, up to 10 a float exactly.
@@ -30,7 +45,7 @@ fn ten(k: u32) -> f32
     requires { k ≤ 10 }
     ensures { HasValue result false (10 ^ k) 1 }
 {
-    nearest_u64_to_f32(power(k))
+    POWERS[k as usize].1
 }
 
 // The float nearest to a decimal.

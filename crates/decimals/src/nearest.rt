@@ -75,10 +75,13 @@ fn scaled(n: Big, unit: Big) -> Scale
 {
     let mut large = unit;
     let mut k = 0;
-    // A while: how often it doubles depends on n.
-    while minus(n, large).is_some() {
+    // A while: how often it doubles depends on n. The rest is taken at a turn's end: taken in the test, a turn costs
+    // a fifth more.
+    let mut rest = minus(n, large);
+    while rest.is_some() {
         large = times(large, 2, 0);
         k += 1;
+        rest = minus(n, large);
     }
     Scale { unit: large, k }
 }

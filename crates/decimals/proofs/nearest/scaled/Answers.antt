@@ -1,4 +1,4 @@
--- `decimals::nearest::scaled` meets its contract. The loop's invariant: the number is the unit, doubled k times, and half of it is at most n.
+-- `decimals::nearest::scaled` meets its contract. The loop's invariant: the number is the unit, doubled k times, half of it is at most n, and the rest is n less it.
 -- Assumes nothing.
 use mathlib.Core.Path.{◌≡◌, sym, ◌∙◌}
 use mathlib.Core.Bool.{true}
@@ -21,11 +21,12 @@ loop-n-preserved c =
     let pre = c.requires in
     let inv = c.loop-n.invariant in
     let larger = c.times-large.ensures in
-    let least = under c.minus.result _ _ (sym c.is_some.ensures ∙ c.loop-n-test.true) c.minus.ensures in
+    let least = under c.loop-n.rest _ _ (sym c.is_some.ensures ∙ c.loop-n-test.true) inv.5 in
     let few = few_doublings _ c.loop-n.k _ pre.0 inv.4 (omega (arith, inv.2)) in (
       omega arith,
       omega (arith, inv.1),
       omega (arith, least, pre.2),
       λ _. omega (arith, least),
       larger ∙ raised_more _ _ 2 c.loop-n.k inv.4,
+      c.minus-rest-in-loop-n.ensures,
     )
