@@ -36,7 +36,7 @@ unfoldable pub label_of : List ℕ → List ℕ
 label_of s = take (cond (is_label (nth_word 0 s)) (length (nth_word 0 s) - 1) 0) (nth_word 0 s)
 
 unfoldable pub body_of : List ℕ → List ℕ
-body_of s = drop (cond (is_label (nth_word 0 s)) (next_word s 0).end 0) s
+body_of s = drop (cond (is_label (nth_word 0 s)) (next_word s 0).to 0) s
 
 -- whether a line with this name says a node
 abbrev pub is_node : Option Name → Bool

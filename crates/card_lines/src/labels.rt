@@ -66,7 +66,7 @@ pub fn body_of(line: &[u8]) -> &[u8]
         return line;
     }
     let passed = next_word(line, 0);
-    &line[passed.end..]
+    &line[passed.to..]
 }
 
 // Whether a line with this name says a node.
@@ -80,7 +80,13 @@ fn is_node(name: Option<Name>) -> bool
 fn nodes_in(line: &[u8]) -> usize
     ensures { (result ≤ 1) × (result ≡ nodes_in line.now) }
 {
-    usize::from(is_node(named(nth_word(body_of(line), 0))))
+    let word = nth_word(body_of(line), 0);
+    // Asked here too, and not left to `named`: each name that is looked up reads the card's lines again, and
+    // most may be blank or a comment, which then cost no call.
+    if word.is_empty() {
+        return 0;
+    }
+    usize::from(is_node(named(word)))
 }
 
 // The first node with a name.

@@ -76,5 +76,9 @@ impl Name {
 pub fn named(word: &[u8]) -> Option<Name>
     ensures { result ≡ named word.now }
 {
+    // No name is empty: a blank line or a comment is answered before any is compared.
+    if word.is_empty() {
+        return None;
+    }
     NAMES.iter().copied().find(|name| word == name.word())
 }

@@ -94,15 +94,18 @@ impl Written {
     }
 
     // The record of what a line says, after those that are written.
+    #[tactic(auto, unfolding(crate::specs::Board::step_of))]
     fn add_line(self, out: &mut [u8], line: Result<Line, Reason>) -> Result<Written, Reason>
         requires { (1932 ≤ length out.old) × Room self }
         ensures { Adds self (step_of self line) (record_bytes line) out.old out.new result }
     {
-        match line? {
-            Line::Blank => Ok(self),
-            Line::Head(size, input) => self.add_head(out, size, input),
-            Line::Node(kind, n, f) => self.add_node(out, kind, n, f),
-            Line::Wire(source, target) => self.add_wire(out, source, target),
+        match line {
+            Ok(Line::Blank) => Ok(self),
+            Ok(Line::Head(size, input)) => self.add_head(out, size, input),
+            Ok(Line::Node(kind, n, f)) => self.add_node(out, kind, n, f),
+            Ok(Line::Wire(source, target)) => self.add_wire(out, source, target),
+            // An arm, not `?`: an edit of it passes over a bad line alone (bad_line_passed).
+            Err(reason) => Err(reason),
         }
     }
 }

@@ -66,18 +66,18 @@ found_at p l r at size sum P e s m f = pick (ltb (position_or_len p l) (length l
 -- ---- the word from a place on, and the words behind it
 
 module _ (s : List ℕ) (at : ℕ) where
-  starts : unspaced (drop at s) ≡ drop (next_word s at).start s
+  starts : unspaced (drop at s) ≡ drop (next_word s at).from s
   unfolding next_word
   starts = drop-drop (ahead is_word (drop at s)) at s
 
-  pub word_here : nth_word 0 (drop at s) ≡ take ((next_word s at).end - (next_word s at).start) (drop (next_word s at).start s)
+  pub word_here : nth_word 0 (drop at s) ≡ take ((next_word s at).to - (next_word s at).from) (drop (next_word s at).from s)
   unfolding nth_word next_word
   word_here =
       let from = at + ahead is_word (drop at s) in
       let size : ahead is_space (drop from s) ≡ from + ahead is_space (drop from s) - from = omega arith in
       ap (λ (l : List ℕ). take (ahead is_space l) l) starts ∙ ap (λ (n : ℕ). take n (drop from s)) size
 
-  pub words_behind : (k : ℕ) → nth_word (suc k) (drop at s) ≡ nth_word k (drop (next_word s at).end s)
+  pub words_behind : (k : ℕ) → nth_word (suc k) (drop at s) ≡ nth_word k (drop (next_word s at).to s)
   unfolding nth_word next_word
   words_behind k =
       let from = at + ahead is_word (drop at s) in

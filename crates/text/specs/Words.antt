@@ -1,6 +1,6 @@
 -- Words of a line: what parts them, which is which, and how many there are; and the lines of a text. Definitions only.
 use Rattle.std.specs.Prelude.{◌≡◌, Bool, false, cond, not, ◌||◌, List, [], ◌∷◌, ℕ, zero, suc, ◌+◌, eqb, take, drop}
-use Rattle.std.specs.declared.ops.Range.{Range}
+use Rattle.text.specs.declared.words.Word.{Word}
 
 -- a space, a tab or a carriage return
 abbrev pub is_space : ℕ → Bool
@@ -24,10 +24,10 @@ ahead p [] = 0
 ahead p (c ∷ s) = cond (p c) 0 (suc (ahead p s))
 
 -- the first word from a place on: where it starts and where it ends
-abbrev pub word_from : List ℕ → ℕ → Range ℕ
-word_from s from = record { start = from; end = from + ahead is_space (drop from s) }
+abbrev pub word_from : List ℕ → ℕ → Word
+word_from s from = record { from = from; to = from + ahead is_space (drop from s) }
 
-unfoldable pub next_word : List ℕ → ℕ → Range ℕ
+unfoldable pub next_word : List ℕ → ℕ → Word
 next_word s at = word_from s (at + ahead is_word (drop at s))
 
 -- a text without the spaces at its start

@@ -3,7 +3,12 @@ ghost use Rattle.std.specs.Prelude.{◌≡◌, Bool, ℕ, ◌+◌, ◌≤◌, le
 ghost use Rattle.std.specs.Iterator.{YieldsFirstRef, item_count};
 ghost use Rattle.text.specs.Words.{Tests, is_byte, is_space, ahead, next_word, nth_word, begins, word_count, lines_of};
 
-use std::ops::Range;
+// A word of a line: where it starts and where it ends. Not std's `Range`, which is no `Copy`.
+#[derive(Clone, Copy)]
+pub struct Word {
+    pub from: usize,
+    pub to: usize,
+}
 
 pub fn is_space(byte: u8) -> bool
     ensures { result ≡ is_space byte }
@@ -26,13 +31,13 @@ pub fn find<F: Fn(u8) -> bool>(s: &[u8], at: usize, stop: F) -> usize
 
 // The first word from `at` on; an empty one where there is none. No Option here and in `nth_word`: an empty
 // word is no name, no number and no float, so each reader would turn None into the empty word again.
-pub fn next_word(s: &[u8], at: usize) -> Range<usize>
+pub fn next_word(s: &[u8], at: usize) -> Word
     requires { at ≤ length s.now }
-    ensures { (at ≤ result.start) × (result.start ≤ result.end) × (result.end ≤ length s.now) × (result ≡ next_word s.now at) }
+    ensures { (at ≤ result.from) × (result.from ≤ result.to) × (result.to ≤ length s.now) × (result ≡ next_word s.now at) }
 {
     let from = find(s, at, |byte| !is_space(byte));
     let to = find(s, from, is_space);
-    from..to
+    Word { from, to }
 }
 
 // Word k of a line, from 0; an empty one where there are fewer.
@@ -42,10 +47,10 @@ pub fn nth_word(line: &[u8], k: usize) -> &[u8]
     let mut at = 0;
     for _ in 0..k {
         let passed = next_word(line, at);
-        at = passed.end;
+        at = passed.to;
     }
     let found = next_word(line, at);
-    &line[found]
+    &line[found.from..found.to]
 }
 
 // One more if a byte that is no space starts a word.

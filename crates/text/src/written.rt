@@ -32,6 +32,15 @@ impl<const N: usize> Text<N> {
         }
     }
 
+    // Takes all back that was written, and touches no byte: so one text, made once and lent, serves for many
+    // boards, where a text for each is zeroed and copied.
+    // Ruled out, and tried by a must-fail edit: a byte that stays (clear_keeps_byte).
+    pub fn clear(&mut self)
+        ensures { self.new ≡ [] }
+    {
+        self.len = 0;
+    }
+
     pub fn as_bytes(&self) -> &[u8]
         ensures { result.now ≡ self.now }
     {

@@ -16,5 +16,5 @@ pub returns : goal.returns
 unfolding body_of
 returns c =
     let e : is_label (nth_word 0 c.args.line.now) ≡ true = rw c.if-is_none.false at (labelled _ c.label_of.result _ c.is_none.result c.is_none.ensures c.label_of.ensures) in
-    let t = take_rest c.args.line.now c.next_word-passed.result.end in
+    let t = take_rest c.args.line.now c.next_word-passed.result.to in
     rw e (cc)

@@ -11,4 +11,4 @@ returns c =
     let first = c.find-from in
     let from = first.ensures.first is_word (λ b r k. search rules) in
     let to = c.find-to.ensures.first is_space (λ b r k. search rules) in
-    (search rules, search rules, search rules, ap (λ (n : ℕ). record { start = first.result; end = n }) to ∙ ap (word_from c.args.s.now) from)
+    (search rules, search rules, search rules, ap (λ (n : ℕ). record { from = first.result; to = n }) to ∙ ap (word_from c.args.s.now) from)

@@ -3,7 +3,7 @@ use mathlib.Core.Path.{◌≡◌, sym, ap, ◌∙◌}
 use Prim.Native.Nat.{ℕ, suc, ◌-◌, ◌+◌}
 use native.Mathlib.Omega.{arith}
 use lib.ListN.{take, drop}
-use Rattle.std.specs.declared.ops.Range.{Range}
+use Rattle.text.specs.declared.words.Word.{Word}
 use Rattle.text.specs.Words.{nth_word}
 use Rattle.text.proofs.Finding.{word_here, words_behind}
 use borrow.Author.Rules.{rules}
@@ -26,7 +26,7 @@ loop-preserved c =
       c.loop.invariant.2
           ∙ ap (λ (n : ℕ). nth_word n (drop c.loop.at a.line.now)) one
           ∙ words_behind a.line.now c.loop.at j
-          ∙ ap (λ (w : Range ℕ). nth_word j (drop w.end a.line.now)) (sym passed.ensures.3),
+          ∙ ap (λ (w : Word). nth_word j (drop w.to a.line.now)) (sym passed.ensures.3),
     )
 
 pub returns : goal.returns
@@ -39,4 +39,4 @@ returns c =
     (c.loop.invariant.2
     ∙ ap (λ (n : ℕ). nth_word n (drop c.loop.at line)) none
     ∙ word_here line c.loop.at
-    ∙ ap (λ (w : Range ℕ). take (w.end - w.start) (drop w.start line)) (sym found.ensures.3))
+    ∙ ap (λ (w : Word). take (w.to - w.from) (drop w.from line)) (sym found.ensures.3))
