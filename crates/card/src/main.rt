@@ -27,7 +27,8 @@ use resizing::resize::{NotCarried, Resized, resize};
 use size::show_resized;
 use std::io;
 use std::io::{Stderr, Stdout};
-use write::{ShownAs, text_of};
+use text::written::Text;
+use write::{Page, ShownAs, text_of};
 
 // Where the answers go, and what is told beside them.
 #[derive(Drop)]
@@ -57,10 +58,13 @@ fn mode_of(word: &[u8]) -> Option<Mode> {
     }
 }
 
-// Board to card, or to graph.
-fn show_form(to: &Streams, s: &[u8], form: ShownAs) -> io::Result<()> {
+// Board to card, or to graph, by way of the page.
+fn show_form(to: &Streams, s: &[u8], form: ShownAs, page: &mut Page) -> io::Result<()> {
     match read_board(s) {
-        Ok(board) => to.out.write_all(text_of(&board, form).as_bytes()),
+        Ok(board) => {
+            text_of(&board, form, page);
+            to.out.write_all(page.as_bytes())
+        }
         Err(refusal) => to.err.write_all(refusal_text(s, refusal).as_bytes()),
     }
 }
@@ -86,11 +90,16 @@ fn show_at(to: &Streams, s: &mut [u8], size: u32) -> io::Result<()> {
     Ok(())
 }
 
+// One board to card, or to graph, on a page of its own.
+fn show_board(to: &Streams, s: &[u8], form: ShownAs) -> io::Result<()> {
+    show_form(to, s, form, &mut Text::new())
+}
+
 // For a check: all forms of a board, and what becomes of it at one block size after another.
-fn show_all(to: &Streams, s: &mut [u8]) -> io::Result<()> {
+fn show_all(to: &Streams, s: &mut [u8], page: &mut Page) -> io::Result<()> {
     show_hex(to, s)?;
-    show_form(to, s, ShownAs::Card)?;
-    show_form(to, s, ShownAs::Graph)?;
+    show_form(to, s, ShownAs::Card, page)?;
+    show_form(to, s, ShownAs::Graph, page)?;
     for size in [1, 64, 128] {
         show_at(to, s, size)?;
     }
@@ -108,13 +117,14 @@ fn show_wrong(to: &Streams, card: &[u8], board: &[u8], wrong: Wrong) -> io::Resu
     Ok(())
 }
 
-// Each card of a text, up to a `%` or the text's end.
+// Each card of a text, up to a `%` or the text's end. One page for all.
 fn check_cards(to: &Streams, cards: &[u8]) -> io::Result<()> {
+    let mut page = Text::new();
     for card in cards.split_inclusive(|byte| *byte == b'%') {
         let card = card.strip_suffix(b"%").unwrap_or(card);
         let mut board = [0u8; 2048];
         match board_of(card, &mut board) {
-            Ok(n) => show_all(to, &mut board[..n])?,
+            Ok(n) => show_all(to, &mut board[..n], &mut page)?,
             Err(wrong) => show_wrong(to, card, &board, wrong)?,
         }
     }
@@ -176,7 +186,7 @@ fn main(rt: HostRuntime) -> io::Result<()> {
     // A match: each mode's function takes other arguments.
     match mode {
         Mode::Bytes => show_bytes(&to, input),
-        Mode::Show(form) => show_form(&to, input, form),
+        Mode::Show(form) => show_board(&to, input, form),
         // A word that says no number is refused as the size 0 is: by `resize`, and after the board.
         Mode::Size => {
             let size = size_of(word(&rt, 2, &mut [0; 8]));

@@ -17,7 +17,7 @@ pub enum ShownAs {
 
 // A board's text, in which all that is written of one board has room. Each function says how much room it
 // takes; as that differs, no type could say it for all.
-type Page = Text<24576>;
+pub type Page = Text<24576>;
 
 // A type's name, and its whole number and float.
 fn push_fields(out: &mut Page, kind: NodeKind)
@@ -196,25 +196,25 @@ fn push_wires<S: Shape>(out: &mut Page, board: &Board, shape: &S)
     }
 }
 
-// A board in a shape.
-fn drawn<S: Shape>(board: &Board, shape: &S) -> Page {
-    let mut out = Text::new();
-    shape.push_head(&mut out, board);
-    push_nodes(&mut out, board, shape);
-    push_wires(&mut out, board, shape);
-    shape.push_end(&mut out);
-    out
+// A board in a shape, in place of what the page held.
+fn draw<S: Shape>(out: &mut Page, board: &Board, shape: &S) {
+    out.clear();
+    shape.push_head(out, board);
+    push_nodes(out, board, shape);
+    push_wires(out, board, shape);
+    shape.push_end(out);
 }
 
-// The text of a board. The one match on the form.
-pub fn text_of(board: &Board, form: ShownAs) -> Text<24576>
+// The text of a board, in place of what the page held: lent, for many boards (`Text::clear`). The one match on
+// the form.
+pub fn text_of(board: &Board, form: ShownAs, out: &mut Page)
     requires { Accepted board.now }
 {
     match form {
-        ShownAs::Card => drawn(board, &Card),
+        ShownAs::Card => draw(out, board, &Card),
         ShownAs::Graph => {
             let places = visiting_list(&board.sources).places();
-            drawn(board, &Graph { places })
+            draw(out, board, &Graph { places });
         }
     }
 }

@@ -43,24 +43,43 @@ fn push_lates(out: &mut Text<2048>, order: &Order, wires: &Wires)
     }
 }
 
-// The text of a board with these wires and this visiting list.
+// The text of a board with these wires and this visiting list, in place of what `out` held: lent, for a program
+// that writes one after another (`Text::clear`).
+// Ruled out, and tried by a must-fail edit: the list's line not ended (list_not_ended).
+pub fn write_listed(out: &mut Text<2048>, order: &Order, wires: &Wires)
+    ensures { out.new ≡ order_text (take order.now.count order.now.nodes) (wires_of wires.now.list wires.now.count) }
+{
+    out.clear();
+    out.push_word(b"order");
+    push_nodes(out, order.listed());
+    out.push(b'\n');
+    push_lates(out, order, wires);
+}
+
+// The same, as a text of its own.
 pub fn listed_text(order: &Order, wires: &Wires) -> Text<2048>
     ensures { result ≡ order_text (take order.now.count order.now.nodes) (wires_of wires.now.list wires.now.count) }
 {
     let mut out = Text::new();
-    out.push_word(b"order");
-    push_nodes(&mut out, order.listed());
-    out.push(b'\n');
-    push_lates(&mut out, order, wires);
+    write_listed(&mut out, order, wires);
     out
 }
 
-// The text of a refusal.
+// The text of a refusal, in place of what `out` held.
+// Ruled out, and tried by a must-fail edit: the place before the number (place_first).
+pub fn write_refused(out: &mut Text<2048>, refused: Answer)
+    ensures { out.new ≡ line refused_word refused.number refused.place }
+{
+    out.clear();
+    out.push_pair(b"refused ", refused.number, b" ", refused.place, b"\n");
+}
+
+// The same, as a text of its own.
 pub fn refused_text(refused: Answer) -> Text<2048>
     ensures { result ≡ line refused_word refused.number refused.place }
 {
     let mut out = Text::new();
-    out.push_pair(b"refused ", refused.number, b" ", refused.place, b"\n");
+    write_refused(&mut out, refused);
     out
 }
 

@@ -72,6 +72,16 @@ impl Reply {
             check: if answer.checked().is_ok() { check } else { 0 },
         }
     }
+
+    // Of a call that writes these bytes: its check is their hash. Where it was refused none is worked out, as
+    // that takes longer than the refusal.
+    fn hashed(answer: Answer, first: &[u8], second: &[u8]) -> Self {
+        let check = match answer.checked() {
+            Ok(_) => carried(carried(START, first), second),
+            Err(_) => 0,
+        };
+        Reply::new(answer, check)
+    }
 }
 
 // The last accepted board, which the other calls work on, in the first `room` bytes of the memory:
@@ -106,7 +116,7 @@ fn run(board: &[u8], memory: &mut [u8], input: &[u8]) -> Option<Reply> {
     let out0 = out0.get_mut(..n)?;
     let out1 = out1.get_mut(..n)?;
     let answer = block(board, memory, input, out0, out1);
-    Some(Reply::new(answer, carried(carried(START, out0), out1)))
+    Some(Reply::hashed(answer, out0, out1))
 }
 
 // Packed: a block run of words of 24 bits. The body is the lengths of the outputs and the input, any of which
@@ -120,7 +130,7 @@ fn run_packed(board: &[u8], memory: &mut [u8], body: &[u8]) -> Option<Reply> {
     let out0 = out0.get_mut(..left)?;
     let out1 = out1.get_mut(..right)?;
     let answer = block24(board, memory, input, out0, out1);
-    Some(Reply::new(answer, carried(carried(START, out0), out1)))
+    Some(Reply::hashed(answer, out0, out1))
 }
 
 // The samples of the board's nodes, in order.
@@ -157,7 +167,7 @@ fn cells(board: &[u8], memory: &[u8]) -> Reply {
 fn write(n: u32, mix: f32) -> Reply {
     let mut board = [0u8; LENGTH];
     let answer = plate_board::writer::write(n, mix, &mut board);
-    Reply::new(answer, carried(START, &board))
+    Reply::hashed(answer, &board, &[])
 }
 
 // The word of a body at `at`.

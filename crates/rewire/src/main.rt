@@ -23,10 +23,18 @@ use std::io;
 use std::rt::Files;
 use step::{length_after, make, step_text};
 use text::words::Lines;
+use text::written::Text;
 
 // Makes a change on the board that the first n bytes are, shows it with what came of it, and returns
 // the board's length. `bytes, n`, as the calls take them: the spare bytes behind the board are lent with it.
-fn show_change(rt: &impl Print, bytes: &mut [u8], n: usize, request: Request) -> io::Result<usize>
+// What came of it is written into `out`, lent for all changes.
+fn show_change(
+    rt: &impl Print,
+    bytes: &mut [u8],
+    n: usize,
+    request: Request,
+    out: &mut Text<2048>,
+) -> io::Result<usize>
     requires { Plays bytes.old n }
     ensures made { bytes.new ≡ (made_of request bytes.old n).1 }
     ensures long { IfOk result (λ m. m ≡ length_after request n (made_of request bytes.old n).0) }
@@ -35,7 +43,8 @@ fn show_change(rt: &impl Print, bytes: &mut [u8], n: usize, request: Request) ->
     let answer = make(bytes, n, request).checked();
     let after = length_after(n, request, &answer);
     rt.write_all(change_text(request).as_bytes())?;
-    rt.write_all(step_text(&answer, &bytes[..after]).as_bytes())?;
+    step_text(&answer, &bytes[..after], out);
+    rt.write_all(out.as_bytes())?;
     Ok(after)
 }
 
@@ -43,11 +52,12 @@ fn show_change(rt: &impl Print, bytes: &mut [u8], n: usize, request: Request) ->
 fn show_changes(rt: &impl Print, bytes: &mut [u8], board: usize, text: &[u8]) -> io::Result<()>
     requires { Plays bytes.old board }
 {
+    let mut out = Text::new();
     let mut n = board;
     for (i, line) in Lines::new(text).enumerate() {
         match change_of(line) {
             Ok(None) => {}
-            Ok(Some(request)) => n = show_change(rt, bytes, n, request)?,
+            Ok(Some(request)) => n = show_change(rt, bytes, n, request, &mut out)?,
             Err(NoChange) => {
                 return println!(rt; "line {} is no change", i.saturating_add(1));
             }

@@ -9,7 +9,7 @@ ghost use Rattle.rewire.specs.Step.{made_of, length_after, step_text, Room};
 use crate::change::Request;
 use boards::judge::read_board;
 use graph::graph::Order;
-use listing::lines::{listed_text, refused_text};
+use listing::lines::{write_listed, write_refused};
 use records::answer::Answer;
 use text::written::Text;
 use wiring::rewire::{Wiring, add_wire, pull_wire};
@@ -39,17 +39,18 @@ pub fn length_after(n: usize, request: Request, answer: &Result<Order, Answer>) 
     }
 }
 
-// The text of an answer: the refusal, or the lines of the changed board `s` with the answer's list.
-pub fn step_text(answer: &Result<Order, Answer>, s: &[u8]) -> Text<2048>
+// The text of an answer, in place of what `out` held: the refusal, or the lines of the changed board `s` with
+// the answer's list.
+pub fn step_text(answer: &Result<Order, Answer>, s: &[u8], out: &mut Text<2048>)
     requires { IfOk answer.now (λ o. wiring 0 0 (take o.count o.nodes) ≡ wiring_by (read_board s.now)) }
-    ensures { (w : Wiring) → Checked w answer.now → result ≡ step_text w s.now }
+    ensures { (w : Wiring) → Checked w answer.now → out.new ≡ step_text w s.now }
 {
     let order = match answer {
         Ok(order) => order,
-        Err(refused) => return refused_text(*refused),
+        Err(refused) => return write_refused(out, *refused),
     };
     match read_board(s) {
-        Ok(board) => listed_text(order, &board.wires),
-        Err(refused) => refused_text(refused),
+        Ok(board) => write_listed(out, order, &board.wires),
+        Err(refused) => write_refused(out, refused),
     }
 }

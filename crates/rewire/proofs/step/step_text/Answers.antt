@@ -20,7 +20,7 @@ pub returns-in-Err : goal.returns-in-Err
 unfolding step_text
 returns-in-Err c w k =
     let same = subst (Checked w) c.in-Err.is k in
-    rw (ne_eqb w.number 0 same.0) (c.refused_text.ensures ∙ λ i. line refused_word (same.1 i) (same.2 i))
+    rw (ne_eqb w.number 0 same.0) (c.write_refused.ensures ∙ λ i. line refused_word (same.1 i) (same.2 i))
 
 pub returns-in-Ok-read_board : goal.returns-in-Ok-read_board
 unfolding step_text text_of
@@ -31,4 +31,4 @@ returns-in-Ok-read_board c w k =
     let listed : wiring 0 0 (take c.in-Ok.order.count c.in-Ok.order.nodes) ≡ wiring_by (read_board s) =
     subst (λ (r : Result Order Answer). IfOk r (λ o. wiring 0 0 (take o.count o.nodes) ≡ wiring_by (read_board s))) c.in-Ok.is c.requires in
     rw (eq-eqb w.number 0 (subst (Checked w) c.in-Ok.is k).0)
-    (c.listed_text.ensures ∙ ap (λ (x : List ℕ). order_text x (parsed_of b).wires) (list_same _ _ (listed ∙ ap wiring_by read)) ∙ sym (ap text_of read))
+    (c.write_listed.ensures ∙ ap (λ (x : List ℕ). order_text x (parsed_of b).wires) (list_same _ _ (listed ∙ ap wiring_by read)) ∙ sym (ap text_of read))
