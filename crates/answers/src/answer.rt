@@ -1,15 +1,15 @@
 // Answers in words: what is wrong with a card or a board.
-ghost use Rattle.std.specs.Prelude.{◌+◌, ◌≤◌, length};
+ghost use Rattle.std.specs.Prelude.{◌+◌, ◌≤◌, length, IfSome};
+ghost use Rattle.answers.specs.Part.{IsPart};
 
 use crate::fault::{
     Fault, board_end, ends_at, fields_at, node_count, node_fault, source_fault, wire_fault,
 };
-use crate::kind::push_kind;
+use crate::kind::push_type;
 use card_lines::labels::{bare, body_of, unmarked};
 use card_lines::names::{Name, named};
 use card_lines::reason::Reason;
 use cards::board::Wrong;
-use kinds::types::Kind;
 use records::answer::Answer;
 use text::words::{Lines, is_space, nth_word};
 use text::written::Text;
@@ -68,9 +68,9 @@ impl From<Answer> for Refused {
 // them, so no type can say it for all.
 
 // The rule that a board breaks, in words.
-fn push_fault(out: &mut Text<512>, fault: Fault)
-    requires { length out.old + 140 ≤ 512 }
-    ensures { length out.new ≤ length out.old + 140 }
+fn push_fault<const N: usize>(out: &mut Text<N>, fault: Fault)
+    requires { length out.old + 100 ≤ N }
+    ensures { length out.new ≤ length out.old + 100 }
 {
     out.push_word(fault.words());
     match fault {
@@ -119,8 +119,8 @@ fn fault_of(s: &[u8], refused: Refused) -> Fault {
 }
 
 // Node i, whose record stands at `at`, by its number and its fields.
-fn push_node(out: &mut Text<512>, s: &[u8], at: usize, i: u32)
-    requires { length out.old + 100 ≤ 512 }
+fn push_node<const N: usize>(out: &mut Text<N>, s: &[u8], at: usize, i: u32)
+    requires { length out.old + 100 ≤ N }
     ensures { length out.new ≤ length out.old + 100 }
 {
     let Some(node) = fields_at(s, at) else {
@@ -129,16 +129,18 @@ fn push_node(out: &mut Text<512>, s: &[u8], at: usize, i: u32)
     out.push_word(b"node ");
     out.push_number(i);
     out.push_word(b": ");
-    match Kind::try_from(node.t) {
-        Ok(kind) => push_kind(out, kind, node.n, of_bits(node.f)),
-        Err(_) => out.push_word(b"no type"),
-    }
+    push_type(out, usize::from(node.t), node.n, of_bits(node.f));
     out.push_word(b": ");
 }
 
 // The two numbers of a head or of a wire with a word before each, and a colon.
-fn push_ends(out: &mut Text<512>, first: &[u8], ends: Option<(u16, u16)>, between: &[u8])
-    requires { (length first.now ≤ 10) × (length between.now ≤ 10) × (length out.old + 100 ≤ 512) }
+fn push_ends<const N: usize>(
+    out: &mut Text<N>,
+    first: &[u8],
+    ends: Option<(u16, u16)>,
+    between: &[u8],
+)
+    requires { (length first.now ≤ 10) × (length between.now ≤ 10) × (length out.old + 100 ≤ N) }
     ensures { length out.new ≤ length out.old + 100 }
 {
     if let Some((a, b)) = ends {
@@ -147,8 +149,8 @@ fn push_ends(out: &mut Text<512>, first: &[u8], ends: Option<(u16, u16)>, betwee
 }
 
 // What a refusal is about: the head, a node or a wire.
-fn push_subject(out: &mut Text<512>, s: &[u8], refused: Refused)
-    requires { length out.old + 100 ≤ 512 }
+fn push_subject<const N: usize>(out: &mut Text<N>, s: &[u8], refused: Refused)
+    requires { length out.old + 100 ≤ N }
     ensures { length out.new ≤ length out.old + 100 }
 {
     match refused {
@@ -164,6 +166,17 @@ fn push_subject(out: &mut Text<512>, s: &[u8], refused: Refused)
     }
 }
 
+// What is wrong with the board s, which the judge refuses so: what it is about, and the rule. Ruled out: what
+// it is about written twice (subject_twice).
+pub fn push_why<const N: usize>(out: &mut Text<N>, s: &[u8], refusal: Answer)
+    requires { length out.old + 200 ≤ N }
+    ensures { length out.new ≤ length out.old + 200 }
+{
+    let refused = Refused::from(refusal);
+    push_subject(out, s, refused);
+    push_fault(out, fault_of(s, refused));
+}
+
 // A line of a text, and its number, from 1.
 #[derive(Clone, Copy)]
 struct Spot<'a> {
@@ -171,9 +184,11 @@ struct Spot<'a> {
     line: &'a [u8],
 }
 
-// Line k, from 0, of those whose record's name is asked for.
+// Line k, from 0, of those whose record's name is asked for. Ruled out: a line that the text does not have
+// (line_of_no_text).
 fn spot_of<'a, F: Fn(Name) -> bool>(text: &'a [u8], k: usize, asked: F) -> Option<Spot<'a>>
     requires { F.IsAlwaysCallable asked }
+    ensures { IfSome result (λ spot. IsPart text.now spot.line.now) }
 {
     let (i, line) = Lines::new(text)
         .enumerate()
@@ -186,7 +201,9 @@ fn spot_of<'a, F: Fn(Name) -> bool>(text: &'a [u8], k: usize, asked: F) -> Optio
 }
 
 // The line of a card that a refusal is about.
-fn spot_by<'a>(text: &'a [u8], board: &[u8], refused: Refused) -> Option<Spot<'a>> {
+fn spot_by<'a>(text: &'a [u8], board: &[u8], refused: Refused) -> Option<Spot<'a>>
+    ensures { IfSome result (λ spot. IsPart text.now spot.line.now) }
+{
     let is_node = |name| matches!(name, Name::Node(_));
     let count = node_count(board);
     match refused {
@@ -241,7 +258,9 @@ fn push_spot(out: &mut Text<512>, spot: Spot)
 }
 
 // A bad line: its number and what is wrong with it.
-fn bad_text(line: usize, reason: Reason) -> Text<512> {
+fn bad_text(line: usize, reason: Reason) -> Text<512>
+    ensures { length result ≤ 200 }
+{
     let mut out = Text::new();
     out.push_word(b"line ");
     push_count(&mut out, line);
@@ -252,7 +271,9 @@ fn bad_text(line: usize, reason: Reason) -> Text<512> {
 }
 
 // A refusal of a card's board.
-fn refused_text(text: &[u8], board: &[u8], refusal: Answer) -> Text<512> {
+fn refused_text(text: &[u8], board: &[u8], refusal: Answer) -> Text<512>
+    ensures { length result ≤ 300 }
+{
     let refused = Refused::from(refusal);
     let mut out = Text::new();
     if let Some(spot) = spot_by(unmarked(text), board, refused) {
@@ -274,11 +295,9 @@ pub fn answer_text(text: &[u8], board: &[u8], wrong: Wrong) -> Text<512> {
 
 // A refusal of a board's bytes.
 pub fn refusal_text(s: &[u8], refusal: Answer) -> Text<512> {
-    let refused = Refused::from(refusal);
     let mut out = Text::new();
     out.push_pair(b"refused ", refusal.number, b" ", refusal.place, b": ");
-    push_subject(&mut out, s, refused);
-    push_fault(&mut out, fault_of(s, refused));
+    push_why(&mut out, s, refusal);
     out.push(b'\n');
     out
 }

@@ -1,5 +1,6 @@
 // What is wrong with a board that the judge refuses: the rule of document 01 that its bytes break.
 ghost use Rattle.std.specs.Prelude.{◌<◌, ◌≤◌, length};
+ghost use Rattle.answers.specs.Rules.{most_words};
 
 use kinds::kind::{bounds_of, is_frequency, length_fits, rule_of};
 use kinds::types::Kind;
@@ -38,9 +39,11 @@ pub enum Fault {
 
 impl Fault {
     // The rule in words; a number follows where the fault has one. Not `Display`: a `Formatter` says nothing of
-    // how much it wrote, and what follows the words has to fit the same 512 bytes.
+    // how much it wrote, and what follows the words has to fit the same 512 bytes. Ruled out: many words where
+    // three numbers follow (sources_at_length).
     pub fn words(self) -> &'static [u8]
-        ensures { length result.now ≤ 90 }
+        ensures short { length result.now ≤ 90 }
+        ensures most { length result.now ≤ most_words self }
     {
         match self {
             Fault::Record => b"a record that is cut or of a wrong length, or bytes after the end",

@@ -1,5 +1,5 @@
 // The second pass: block by block from the input file to the output file.
-ghost use Rattle.std.specs.Prelude.{◌≡◌, ◌+◌, ◌*◌, ◌≤◌, min, length};
+ghost use Rattle.std.specs.Prelude.{◌≡◌, ◌+◌, ◌*◌, ◌≤◌, min, length, IfOk};
 ghost use Rattle.render.specs.Run.{Few};
 ghost use Rattle.render.specs.Written.{most_frames};
 
@@ -83,6 +83,8 @@ const FRAME_BYTES: usize = 1024;
 const WORD_BYTES: usize = 768;
 
 impl<'a> Run<'a> {
+    ghost use Rattle.render.specs.Step.{BlockPassed};
+
     // The same to another file.
     pub fn with_output(self, file: &'a File) -> Run<'a> {
         let mut next = self;
@@ -111,9 +113,10 @@ impl<'a> Run<'a> {
     }
 
     // Writes the first of a block's frames, those that are still to be written: what is left after the
-    // block, with what is found in their floats.
+    // block, with what is found in their floats. Ruled out: nothing left after a block (block_takes_all).
     fn write_frames(self, frames: &[u8]) -> Result<Run<'a>, PlayError>
         requires { length frames.now ≡ 8 * self.needs.size }
+        ensures { IfOk result (λ run. BlockPassed self.entry run) }
     {
         let wrote = self.next_writes();
         let part = &frames[..8 * wrote];
@@ -131,12 +134,9 @@ impl<'a> Run<'a> {
 
     // Runs the board on the frames that were read, and writes those that come of it: what is left. `memory`
     // is written while `Run`, a Copy value, goes on: lent beside it, with the board.
-    fn run_block(
-        self,
-        board: &[u8],
-        memory: &mut [u8],
-        bytes: &[u8],
-    ) -> Result<Run<'a>, PlayError> {
+    fn run_block(self, board: &[u8], memory: &mut [u8], bytes: &[u8]) -> Result<Run<'a>, PlayError>
+        ensures { IfOk result (λ run. BlockPassed self.entry run) }
+    {
         let short = 4 * self.needs.size;
         let long = 8 * self.needs.size;
         let mut input = room::<SAMPLE_BYTES>();
@@ -158,7 +158,9 @@ impl<'a> Run<'a> {
     }
 
     // One block: what is left after it.
-    fn one(self, board: &[u8], memory: &mut [u8]) -> Result<Run<'a>, PlayError> {
+    fn one(self, board: &[u8], memory: &mut [u8]) -> Result<Run<'a>, PlayError>
+        ensures { IfOk result (λ run. BlockPassed self.entry run) }
+    {
         let mut bytes = room::<FRAME_BYTES>();
         let want = self.next_reads() * frame_size(self.format);
         let mut input = self.input;

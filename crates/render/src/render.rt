@@ -36,7 +36,8 @@ pub struct Job<'a> {
     pub asked: Asked,
 }
 
-// Why nothing was written. `Told`: the line is written already, by a name that `tell` does not have.
+// Why nothing was written. `Told`: the line is written already, as it has to come before something else, or
+// has a name that `tell` does not have.
 #[derive(Drop)]
 enum Failure {
     Form,
@@ -93,6 +94,12 @@ fn tell(job: Job, failure: Failure) {
         ),
         Failure::Told => (),
     }
+}
+
+// A failure that is told at once.
+fn told(job: Job, failure: Failure) -> Failure {
+    tell(job, failure);
+    Failure::Told
 }
 
 // The frames that are given where the tail is endless.
@@ -198,7 +205,8 @@ impl<'a> Rendering<'a> {
         Ok(())
     }
 
-    // Writes what is made, and gives it the file's name.
+    // Writes what is made, and gives it the file's name. What goes wrong is told here: the line comes before
+    // what is made is removed.
     fn completed<R: Files<File = File>>(
         self,
         rt: &R,
@@ -206,7 +214,10 @@ impl<'a> Rendering<'a> {
         part: &[u8],
         file: &[u8],
     ) -> Result<Levels, Failure> {
-        let levels = self.with_output(&made).written().map_err(Failure::Play)?;
+        let levels = self
+            .with_output(&made)
+            .written()
+            .map_err(|why| told(self.job, Failure::Play(why)))?;
         if let Err(why) = named(rt, made, part, file) {
             say::failed(self.job.to, file, why, "cannot be written");
             return Err(Failure::Told);

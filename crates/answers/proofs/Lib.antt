@@ -1,0 +1,2 @@
+-- Laws that the proofs of `answers` cite.
+pub mod Lining

@@ -1,0 +1,3 @@
+-- What the contracts of `answers` cite.
+pub mod Part
+pub mod Rules
