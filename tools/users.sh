@@ -119,10 +119,14 @@ for out in copy link nowhere; do
 done
 [ -L "$work/link.wav" ] && [ -L "$work/folder/near.wav" ] && [ -L "$work/nowhere.wav" ] && [ -f "$work/new.wav" ] || fail "a link is replaced"
 ! cmp -s "$work/in.wav" "$work/copy.wav" || fail "a copy of the input is not written"
+# render opens a pipe, to see what it is, before it opens it to write, and one who reads takes each close for the end: so the pipe is held
+# open for reading all the while, and read until something came
 mkfifo "$work/pipe"
-timeout 20 cat "$work/pipe" >"$work/piped.wav" &
-"$bin/render" "$work/in.wav" "$work/pipe" plate 0.5 2>"$work/err"
+exec 8<>"$work/pipe" 9<"$work/pipe" 8>&-
+for try in $(seq 200); do cat <&9 >"$work/piped.wav"; [ ! -s "$work/piped.wav" ] || break; sleep 0.1; done &
+"$bin/render" "$work/in.wav" "$work/pipe" plate 0.5 2>"$work/err" 9<&-
 wait
+exec 9<&-
 "$bin/render" "$work/in.wav" /dev/stdout plate 0.5 2>"$work/err" | cat >"$work/passed.wav"
 "$bin/render" "$work/in.wav" >(cat >"$work/substituted.wav") plate 0.5 2>"$work/err"
 for out in piped passed substituted; do
