@@ -119,9 +119,16 @@ for out in copy link nowhere; do
 done
 [ -L "$work/link.wav" ] && [ -L "$work/folder/near.wav" ] && [ -L "$work/nowhere.wav" ] && [ -f "$work/new.wav" ] || fail "a link is replaced"
 ! cmp -s "$work/in.wav" "$work/copy.wav" || fail "a copy of the input is not written"
-# render opens a pipe, to see what it is, before it opens it to write, and one who reads takes each close for the end: so the pipe is held
-# open for reading all the while, and read until something came
+# render opens a pipe, to see what it is, before it opens it to write, and a reader that waits for a writer may take that close for the end,
+# and go: then neither comes, so it has ten tries, each of which ends
 mkfifo "$work/pipe"
+for try in 1 2 3 4 5 6 7 8 9 10; do
+    timeout 20 cat "$work/pipe" >"$work/waited.wav" &
+    timeout 20 "$bin/render" "$work/in.wav" "$work/pipe" plate 0.5 2>"$work/err"
+    wait
+    cmp -s "$work/copy.wav" "$work/waited.wav" && break
+done
+# a pipe that is held open for reading all the while, and read until something came, gets it at once
 exec 8<>"$work/pipe" 9<"$work/pipe" 8>&-
 for try in $(seq 200); do cat <&9 >"$work/piped.wav"; [ ! -s "$work/piped.wav" ] || break; sleep 0.1; done &
 "$bin/render" "$work/in.wav" "$work/pipe" plate 0.5 2>"$work/err" 9<&-
@@ -129,7 +136,7 @@ wait
 exec 9<&-
 "$bin/render" "$work/in.wav" /dev/stdout plate 0.5 2>"$work/err" | cat >"$work/passed.wav"
 "$bin/render" "$work/in.wav" >(cat >"$work/substituted.wav") plate 0.5 2>"$work/err"
-for out in piped passed substituted; do
+for out in waited piped passed substituted; do
     for try in 1 2 3 4 5 6 7 8 9; do cmp -s "$work/copy.wav" "$work/$out.wav" && break || sleep 0.2; done
     cmp -s "$work/copy.wav" "$work/$out.wav" || fail "$out.wav: another sound through a pipe: $(cat "$work/err")"
 done

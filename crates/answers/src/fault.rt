@@ -126,13 +126,14 @@ fn after_records<const N: usize>(s: &[u8], start: [u8; 4]) -> &[u8]
     rest
 }
 
-// How many node records follow the head, up to 65.
+// How many node records follow the head, up to 65: no more are looked at.
 pub fn node_count(s: &[u8]) -> usize
     ensures { result ≤ 65 }
 {
-    let Some(nodes) = s.get(8..) else {
+    let Some(behind) = s.get(8..) else {
         return 0;
     };
+    let nodes = &behind[..behind.len().min(14 * 65)];
     ((nodes.len() - after_records::<14>(nodes, NODE).len()) / 14).min(65)
 }
 
@@ -214,10 +215,10 @@ pub fn wire_fault(ends: (u16, u16), count: usize, w: usize) -> Fault {
     }
 }
 
-// How many distinct sources node i has.
+// How many distinct sources node i has, by the 128 wires that a board may have.
 fn sources_of(s: &[u8], i: usize) -> u32 {
     let mut seen = [false; 64];
-    for record in after_nodes(s).chunks_exact(8) {
+    for record in after_nodes(s).chunks_exact(8).take(128) {
         if record.starts_with(&WIRE) && usize::from(u16_at(record, 6)) == i {
             seen[usize::from(record[4] % 64)] = true;
         }
