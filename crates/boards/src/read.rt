@@ -125,9 +125,9 @@ fn node_read(s: &[u8], at: usize, i: usize, lines: usize) -> Result<Option<NodeK
 }
 
 // The nodes after a head with this block size, into room that is lent for them: each that hands them on
-// copies them. Each cell starts where those before it end. Locals count, and are stored at the end, where a
-// refusal ends the nodes too: faster, since a store into an array could change a count beside it. A `loop`: a
-// turn passes a record, and the first that is no node ends it.
+// copies them. Each cell starts where those before it end. Locals count, and are stored once, whether the next
+// part or a refusal ends the nodes: faster, since a store into an array could change a count beside it. A
+// `loop`: a turn passes a record, and the first that is no node ends it.
 // Ruled out, and tried by a must-fail edit: the nodes before a refusal told for another block size
 // (refused_nodes_miscounted).
 pub fn read_nodes(s: &[u8], size: usize, nodes: &mut Nodes) -> Result<(), Answer>
